@@ -1,0 +1,23 @@
+-- What a folder of configuration and media tells of itself.
+use Rattle.std.specs.Prelude.{ℕ, Option, List}
+
+-- a file: the folder that it lies in, its name and its bytes
+pub record MediaFile : Type 0 where
+  pub folder : List ℕ
+  pub name : List ℕ
+  pub bytes : List ℕ
+
+-- a configuration: its path and its bytes
+pub record ConfigFile : Type 0 where
+  pub path : List ℕ
+  pub bytes : List ℕ
+
+-- all that is held
+pub record Files : Type 0 where
+  pub configs : List ConfigFile
+  pub media : List MediaFile
+
+-- what is held, where it is told, and how often reading has failed
+pub record FolderState : Type 0 where
+  pub files : Option Files
+  pub faults : ℕ

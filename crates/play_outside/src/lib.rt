@@ -1,0 +1,14 @@
+//! The outside of the server as traits: what it reads, what it writes, and the folder of configuration and media.
+//!
+//! Each object counts its faults. The count never falls, a call answers `Failed` only where the count rose in that
+//! call, and after any other answer it is as before. An object may tell what it has left, took or holds, so that a
+//! contract can speak of bytes; one that tells nothing claims nothing.
+#![tactic(auto)]
+
+mod folder;
+mod sink;
+mod source;
+
+pub use folder::{FileFault, MediaDir};
+pub use sink::{Sent, Sink, WriteStep, send};
+pub use source::{ReadStep, Source};

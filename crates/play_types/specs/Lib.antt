@@ -1,0 +1,4 @@
+pub mod Place
+pub mod Transition
+pub mod Take
+pub mod Setting

@@ -1,0 +1,39 @@
+-- What contracts see of a take.
+use Rattle.std.specs.Prelude.{◌≡◌, ℕ, ◌+◌, ◌<◌, ◌≤◌, Bool, false}
+use Rattle.play_types.specs.Transition.{TransView}
+use Rattle.play_types.specs.declared.take.Spec.{Spec}
+use Rattle.play_types.specs.declared.take.Spec.TheVariants.{Clip, Colour, RouteChannel, RouteLayer}
+
+-- a producer, the frames of a clip that are played, and the transition that brings it in
+pub record TakeView : Type 0 where
+  pub spec : Spec
+  pub looped : Bool
+  pub seek : ℕ
+  pub length : ℕ
+  pub trans : TransView
+  pub auto : Bool
+
+-- the take that is kept for these words
+abbrev pub take_of : Spec → Bool → ℕ → ℕ → TransView → Bool → TakeView
+take_of (Clip id) looped seek length trans auto =
+    record { spec = Clip id; looped = looped; seek = seek; length = length; trans = trans; auto = auto }
+take_of (Colour value) looped seek length trans auto =
+    record { spec = Colour value; looped = false; seek = 0; length = 0; trans = trans; auto = auto }
+take_of (RouteChannel channel) looped seek length trans auto =
+    record { spec = RouteChannel channel; looped = false; seek = 0; length = 0; trans = trans; auto = auto }
+take_of (RouteLayer place) looped seek length trans auto =
+    record { spec = RouteLayer place; looped = false; seek = 0; length = 0; trans = trans; auto = auto }
+
+-- a clip is played from 1 frame on, and within the first 1,000,000 frames
+abbrev pub IsTake : Spec → ℕ → ℕ → Type 0
+IsTake (Clip id) seek length = (0 < length) × (seek + length ≤ 1000000)
+IsTake (Colour value) seek length = Unit {0}
+IsTake (RouteChannel channel) seek length = Unit {0}
+IsTake (RouteLayer place) seek length = Unit {0}
+
+-- the frames of a clip are in range, and of another producer none is named
+abbrev pub IsTakeValue : Spec → Bool → ℕ → ℕ → Type 0
+IsTakeValue (Clip id) looped seek length = (0 < length) × (seek + length ≤ 1000000)
+IsTakeValue (Colour value) looped seek length = (looped ≡ false) × (seek ≡ 0) × (length ≡ 0)
+IsTakeValue (RouteChannel channel) looped seek length = (looped ≡ false) × (seek ≡ 0) × (length ≡ 0)
+IsTakeValue (RouteLayer place) looped seek length = (looped ≡ false) × (seek ≡ 0) × (length ≡ 0)

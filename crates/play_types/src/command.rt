@@ -1,0 +1,101 @@
+//! Commands of the stage, and lists of them.
+ghost use Rattle.std.specs.Prelude.{◌≡◌, ◌==◌, ◌∷◌, ◌++◌, [], length, OnOk, OnErr, option_copied, slice_get};
+
+use crate::place::Place;
+use crate::setting::{Prop, Setting};
+use crate::take::Take;
+use std::alloc::{AllocError, Global};
+use std::marker::Model;
+
+/// A command of the stage. A `Load` keeps a cut and no `auto`, a `PlayTake` no `auto`.
+#[derive(Clone, Copy, Debug, PartialEq, Eq)]
+pub enum Cmd {
+    /// Shows the first picture of a take, paused.
+    Load(Place, Take),
+    /// Puts a take into the background.
+    LoadBg(Place, Take),
+    /// Starts the background, or unpauses the foreground where there is no background.
+    Play(Place),
+    /// Puts a take into the background and starts it.
+    PlayTake(Place, Take),
+    /// Pauses the foreground.
+    Pause(Place),
+    /// Unpauses the foreground.
+    Resume(Place),
+    /// Removes the foreground.
+    StopLayer(Place),
+    /// Removes the foreground and the background.
+    ClearLayer(Place),
+    /// Removes those of all layers of a channel.
+    ClearChannel(u8),
+    /// Exchanges two places, with their mixer values where the last part says so.
+    SwapLayers(Place, Place, bool),
+    /// Exchanges all layers of two channels, with their mixer values where the last part says so.
+    SwapChannels(u8, u8, bool),
+    /// Sets a mixer value.
+    Set(Setting),
+    /// Starts the waiting settings of a channel.
+    CommitMixer(u8),
+    /// Sets all mixer values of a place to their defaults.
+    ResetLayer(Place),
+    /// Sets those of all places of a channel to their defaults.
+    ResetChannel(u8),
+    /// Asks for a mixer value.
+    Value(Place, Prop),
+    /// Asks for the status of all channels.
+    Info,
+}
+
+/// Commands in order.
+#[derive(Debug, Drop)]
+pub struct CmdList {
+    cmds: Vec<Cmd>,
+}
+
+impl Model for CmdList {
+    ghost use Rattle.std.specs.Prelude.{List};
+    ghost use Rattle.play_types.specs.declared.command.Cmd.{Cmd};
+
+    ghost Value = { List Cmd };
+
+    ghost view = { λ l. l.cmds.items };
+}
+
+impl CmdList {
+    /// No commands. It takes no memory.
+    pub fn new(alloc: Global) -> CmdList
+        ensures { result ≡ [] }
+    {
+        CmdList {
+            cmds: Vec::new(alloc),
+        }
+    }
+
+    /// Adds a command at the end. At want of memory the list is as before.
+    pub fn push(&mut self, cmd: Cmd) -> Result<(), AllocError>
+        ensures ok { OnOk result (self.new ≡ self.old ++ cmd ∷ []) }
+        ensures err { OnErr result (self.new ≡ self.old) }
+    {
+        self.cmds.push(cmd)?;
+        Ok(())
+    }
+
+    pub fn len(&self) -> usize
+        ensures { result ≡ length self.now }
+    {
+        self.cmds.len()
+    }
+
+    pub fn is_empty(&self) -> bool
+        ensures { result ≡ (length self.now == 0) }
+    {
+        self.cmds.is_empty()
+    }
+
+    /// `None` exactly where `at` is not below the length.
+    pub fn get(&self, at: usize) -> Option<&Cmd>
+        ensures { option_copied result ≡ slice_get self.now at }
+    {
+        self.cmds.get(at)
+    }
+}

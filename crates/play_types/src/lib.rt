@@ -1,0 +1,25 @@
+//! The types that every part of the server speaks of: places, takes, settings, commands and events.
+//!
+//! A value that has a range is made only by its `new`, which answers `None` exactly where the range is left.
+//! Contracts see such a value as a plain record of numbers, and a list type as the list of its items.
+#![tactic(auto)]
+
+mod bytes;
+mod command;
+mod event;
+mod geometry;
+mod place;
+mod setting;
+mod take;
+mod text;
+mod transition;
+
+pub use bytes::ByteList;
+pub use command::{Cmd, CmdList};
+pub use event::{Event, Tag};
+pub use geometry::Geometry;
+pub use place::Place;
+pub use setting::{Prop, Setting};
+pub use take::{Spec, Take};
+pub use text::Text;
+pub use transition::{Curve, Kind, Trans};

@@ -10,5 +10,5 @@ mod sink;
 mod source;
 
 pub use folder::{FileFault, MediaDir};
-pub use sink::{Sent, Sink, WriteStep, send};
+pub use sink::{Sent, Sink, WriteStep, send, send_number};
 pub use source::{ReadStep, Source};

@@ -41,3 +41,21 @@ Fails-before a b first after fails =
 pub Sends-then : (result : Sent) (a b : List ℕ) (first state after : SinkState) → Sends sent.All a first state → Sends result b state after → Sends result (a ++ b) first after
 Sends-then sent.All a b first state after all rest = rest ∙ ap (λ (s : SinkState). after_taking s b) all ∙ after_taking-after_taking first a b
 Sends-then sent.Failed a b first state after all rest = Fails-after a b first after (subst (λ s. Fails b s after) all rest)
+
+-- what was sent so far, and one more piece of which all was taken
+pub taken_more : (done piece : List ℕ) (first state after : SinkState) → state ≡ after_taking first done → Sends sent.All piece state after → after ≡ after_taking first (done ++ piece)
+taken_more done piece first state after so_far all = all ∙ ap (λ (s : SinkState). after_taking s piece) so_far ∙ after_taking-after_taking first done piece
+
+-- the sink failed in a piece of the text, after what stands before it was taken
+pub Fails-within : (whole done piece rest : List ℕ) (first state after : SinkState) → whole ≡ (done ++ piece) ++ rest → state ≡ after_taking first done → Fails piece state after → Fails whole first after
+Fails-within whole done piece rest first state after parts so_far fails =
+    subst (λ text. Fails text first after) (sym parts)
+        (Fails-before (done ++ piece) rest first after
+            (Fails-after done piece first after (subst (λ s. Fails piece s after) so_far fails)))
+
+-- the last piece of the text was sent, after what stands before it was taken
+pub Sends-last : (result : Sent) (whole done piece : List ℕ) (first state after : SinkState) → whole ≡ done ++ piece → state ≡ after_taking first done → Sends result piece state after → Sends result whole first after
+Sends-last sent.All whole done piece first state after parts so_far all =
+    taken_more done piece first state after so_far all ∙ ap (after_taking first) (sym parts)
+Sends-last sent.Failed whole done piece first state after parts so_far fails =
+    subst (λ text. Fails text first after) (sym parts) (Fails-after done piece first after (subst (λ s. Fails piece s after) so_far fails))

@@ -1,16 +1,13 @@
 -- Numbers in the words of a script and of a command line.
-use Rattle.std.specs.Prelude.{ℕ, Bool, ◌&&◌, ◌==◌, nat_le, if◌then◌else◌, Option, Some, None, option_and_then, List, [], ◌∷◌}
+use Rattle.std.specs.Prelude.{ℕ, ◌&&◌, ◌==◌, nat_le, if◌then◌else◌, Option, Some, None, option_and_then, List, [], ◌∷◌}
+use Rattle.std.specs.Char.{is_ascii_digit}
 use Rattle.std.specs.List.{list_all}
 use Rattle.std.specs.Str.Parse.{digits_value}
-
--- the characters 0 to 9
-abbrev pub is_digit : ℕ → Bool
-is_digit c = nat_le 48 c && nat_le c 57
 
 -- the value of one or more digits
 abbrev pub whole_number : List ℕ → Option ℕ
 whole_number [] = None
-whole_number (c ∷ cs) = if list_all is_digit (c ∷ cs) then Some (digits_value 10 (c ∷ cs)) else None
+whole_number (c ∷ cs) = if list_all is_ascii_digit (c ∷ cs) then Some (digits_value 10 (c ∷ cs)) else None
 
 -- the number, where it lies from the one end to the other
 abbrev pub within : ℕ → ℕ → ℕ → Option ℕ

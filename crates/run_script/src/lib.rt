@@ -1,0 +1,6 @@
+//! The whole of `playrun`: a script of interleaved connections and ticks in, replies and frames out.
+#![tactic(auto)]
+
+mod line;
+mod numbers;
+mod words;

@@ -1,4 +1,10 @@
 pub mod Place
 pub mod Transition
+pub mod Columns
 pub mod Take
+pub mod Playhead
 pub mod Setting
+pub mod Curve
+pub mod History
+pub mod Geometry
+pub mod ClipFile

@@ -127,6 +127,7 @@ impl ChannelList {
         ensures ok { OnOk result (self.new ≡ self.old ++ channel ∷ []) }
         ensures err { OnErr result (self.new ≡ self.old) }
     {
+        // The list keeps that each channel is in range.
         let _ = &channel.width;
         self.channels.push(channel)?;
         Ok(())

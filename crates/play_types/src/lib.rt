@@ -12,6 +12,7 @@ mod config;
 mod drawn;
 mod event;
 mod geometry;
+mod laws;
 mod media;
 mod place;
 mod setting;

@@ -149,6 +149,7 @@ impl MediaNames {
         ensures ok { OnOk result (self.new ≡ self.old ++ name ∷ []) }
         ensures err { OnErr result (self.new ≡ self.old) }
     {
+        // The list keeps that the numbers of each name are in range.
         let _ = &name.readable;
         self.names.push(name)?;
         Ok(())

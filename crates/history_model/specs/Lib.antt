@@ -1,6 +1,6 @@
 pub mod FrameText
-pub mod History
 pub mod Numbers
 pub mod Picture
 pub mod Script
+pub mod ScriptInput
 pub mod ScriptOutput

@@ -2,7 +2,7 @@
 use Rattle.std.specs.Prelude.{ℕ, ◌+◌, Option, Some, None, List, [], ◌∷◌, ◌++◌, codes, decimal}
 use Rattle.play_types.specs.declared.event.Tag.{Tag}
 use Rattle.play_types.specs.declared.event.Event.{Event}
-use Rattle.history_model.specs.History.{ticks}
+use Rattle.play_types.specs.History.{ticks}
 use Rattle.history_model.specs.FrameText.{frame_bytes, frame_lines}
 use Rattle.history_model.specs.Picture.{frame_pixel}
 use Rattle.history_model.specs.Script.{ScriptLine, Tick, Said, NoForm, played_colour, script_events}

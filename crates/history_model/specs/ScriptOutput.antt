@@ -8,20 +8,28 @@ use Rattle.history_model.specs.Picture.{frame_pixel}
 use Rattle.history_model.specs.Script.{ScriptLine, Tick, Said, NoForm, played_colour, script_events}
 
 -- the head of each line of a reply: the tag of the connection
-abbrev pub tag_text : Tag → List ℕ
+unfoldable pub tag_text : Tag → List ℕ
 tag_text tag = decimal tag.worker ++ 46 ∷ decimal tag.session ++ 32 ∷ []
 
 -- a line of a reply
-abbrev pub reply_line : Tag → List ℕ → List ℕ
+unfoldable pub reply_line : Tag → List ℕ → List ℕ
 reply_line tag text = tag_text tag ++ text ++ 10 ∷ []
+
+-- a colour is started
+abbrev pub acknowledgement : Tag → List ℕ
+acknowledgement tag = reply_line tag (codes "202 PLAY OK")
+
+-- a text is no command: the code, and an empty line
+abbrev pub refusal : Tag → List ℕ
+refusal tag = reply_line tag (codes "400 ERROR") ++ reply_line tag []
 
 -- a colour that is started is acknowledged, and every other text is refused
 abbrev pub reply : Tag → Option ℕ → List ℕ
-reply tag (Some colour) = reply_line tag (codes "202 PLAY OK")
-reply tag None = reply_line tag (codes "400 ERROR") ++ reply_line tag []
+reply tag (Some colour) = acknowledgement tag
+reply tag None = refusal tag
 
 -- the frame of the next tick after these events, on a channel of this width and height
-abbrev pub next_frame : ℕ → ℕ → List Event → List ℕ
+unfoldable pub next_frame : ℕ → ℕ → List Event → List ℕ
 next_frame width height events =
     frame_lines 1 (ticks events + 1) width height 0 (frame_bytes width height (frame_pixel events)) []
 

@@ -1,7 +1,9 @@
 //! The whole of `playrun`: a script of interleaved connections and ticks in, replies and frames out.
 #![tactic(auto)]
 
+mod ending;
 mod frame;
 mod line;
 mod numbers;
+mod reply;
 mod words;

@@ -1,2 +1,3 @@
+mod Giving
 pub mod Sending
 pub mod Taking

@@ -1,5 +1,5 @@
 -- What a read does.
-use Rattle.std.specs.Prelude.{◌≡◌, ℕ, ◌<◌, ◌≤◌, Option, Some, None, List, [], ◌++◌, length, take}
+use Rattle.std.specs.Prelude.{◌≡◌, ℕ, ◌<◌, ◌≤◌, Option, Some, None, IfSome, List, [], ◌++◌, length, take}
 use Rattle.play_outside.specs.Faults.{Rose}
 use Rattle.play_outside.specs.SourceState.{SourceState}
 use Rattle.play_outside.specs.declared.source.ReadStep.{ReadStep}
@@ -17,7 +17,7 @@ pub record Consumes (bytes : List ℕ) (before after : SourceState) : Type 0 whe
 
 -- nothing is left, where it is told
 abbrev pub IsAtEnd : SourceState → Type 0
-IsAtEnd state = Gives [] state.left (Some [])
+IsAtEnd state = IfSome state.left (λ rest. rest ≡ [])
 
 -- a read gave the bytes at the front of the buffer, or found the end, or failed and gave nothing
 abbrev pub Reads : ReadStep → List ℕ → SourceState → SourceState → Type 0

@@ -6,9 +6,15 @@
 #![tactic(auto)]
 
 mod folder;
+mod mem_sink;
+mod mem_source;
+mod pieces;
+mod planned_faults;
 mod sink;
 mod source;
 
 pub use folder::{FileFault, MediaDir};
+pub use mem_sink::MemSink;
+pub use mem_source::MemSource;
 pub use sink::{Sent, Sink, WriteStep, send, send_number};
 pub use source::{ReadStep, Source};

@@ -1,18 +1,16 @@
 //! A source in memory.
-ghost use Rattle.std.specs.Prelude.{◌≡◌, ℕ, ◌<◌, ◌≤◌, Some, drop, vec_len};
+ghost use Rattle.std.specs.Prelude.{◌≡◌, ◌<◌, Some};
 
-use super::pieces::copy_front;
 use super::planned_faults::PlannedFaults;
+use super::unread::Unread;
 use super::{ReadStep, Source};
 
 /// Bytes in memory, given from front to end in pieces. It tells what is left.
 #[derive(Drop)]
 pub struct MemSource {
-    bytes: Vec<u8>,
-    given: usize,
+    unread: Unread,
     piece: usize,
     planned: PlannedFaults,
-    ghost within: { given ≤ vec_len bytes },
     ghost some: { 0 < piece },
 }
 
@@ -24,8 +22,7 @@ impl MemSource {
         ensures { ⟦<MemSource as Source>⟧.state result ≡ record { left = Some bytes.items; faults = 0 } }
     {
         MemSource {
-            bytes,
-            given: 0,
+            unread: Unread::new(bytes),
             piece,
             planned: PlannedFaults::new(fails),
         }
@@ -35,7 +32,7 @@ impl MemSource {
     pub fn left(&self) -> &[u8]
         ensures { (⟦<MemSource as Source>⟧.state self.now).left ≡ Some result.now }
     {
-        &self.bytes[self.given..]
+        self.unread.as_slice()
     }
 
     /// How often a read has failed.
@@ -47,19 +44,16 @@ impl MemSource {
 }
 
 impl Source for MemSource {
-    ghost state = { λ s. record { left = Some (drop s.given s.bytes.items); faults = s.planned.count } };
+    ghost state = { λ s. record { left = Some s.unread; faults = s.planned.count } };
 
     fn read(&mut self, buf: &mut [u8]) -> ReadStep {
         if self.planned.fails_now() {
             self.planned.raise();
             return ReadStep::Failed;
         }
-        let rest = &self.bytes[self.given..];
-        if rest.is_empty() {
-            return ReadStep::End;
+        match self.unread.give(buf, self.piece) {
+            0 => ReadStep::End,
+            count => ReadStep::Got(count),
         }
-        let count = copy_front(rest, buf, self.piece);
-        self.given += count;
-        ReadStep::Got(count)
     }
 }

@@ -1,26 +1,8 @@
 -- The lines of a frame in the parts in which they are sent.
-use Rattle.std.proofs.Common.{◌≡◌, ◌≢◌, ℕ, ◌*◌, ◌==◌, false, List, [], ◌∷◌, ◌++◌, refl, append_assoc, append-nil}
+use Rattle.std.proofs.Common.{◌≡◌, ◌≢◌, ℕ, ◌*◌, ◌==◌, false, List, [], ◌∷◌, ◌++◌, refl, append-nil}
 use Rattle.std.proofs.lemmas.Bool.{ne_eqb}
-use Rattle.std.specs.Prelude.{codes, decimal}
 use Rattle.hex.specs.Hex.{encode_lower}
 use Rattle.history_model.specs.FrameText.{frame_lines, head_line, row_lines, sound_line}
-
--- the head line in the parts before a word, the word, and what follows
-pub head_line-letter : (channel tick : ℕ) → head_line channel tick ≡ codes "F " ++ (decimal channel ++ 32 ∷ decimal tick ++ 10 ∷ [])
-unfolding head_line
-head_line-letter channel tick = simp append_assoc
-
-pub head_line-channel : (channel tick : ℕ) → head_line channel tick ≡ (codes "F " ++ decimal channel) ++ (32 ∷ decimal tick ++ 10 ∷ [])
-unfolding head_line
-head_line-channel channel tick = simp append_assoc
-
-pub head_line-blank : (channel tick : ℕ) → head_line channel tick ≡ ((codes "F " ++ decimal channel) ++ 32 ∷ []) ++ (decimal tick ++ 10 ∷ [])
-unfolding head_line
-head_line-blank channel tick = simp append_assoc
-
-pub head_line-tick : (channel tick : ℕ) → head_line channel tick ≡ (((codes "F " ++ decimal channel) ++ 32 ∷ []) ++ decimal tick) ++ 10 ∷ []
-unfolding head_line
-head_line-tick channel tick = simp append_assoc
 
 -- the three parts of a frame
 pub frame_lines-parts : (channel tick width height pairs : ℕ) (frame sound : List ℕ) → frame_lines channel tick width height pairs frame sound

@@ -4,7 +4,8 @@ ghost use Rattle.hex.specs.Hex.{encode_lower};
 ghost use Rattle.play_outside.specs.Sink.{Sends};
 ghost use Rattle.history_model.specs.FrameText.{frame_lines, head_line, row_lines, sound_line};
 
-use play_outside::{Sent, Sink, send, send_number};
+use crate::label::send_label;
+use play_outside::{Sent, Sink, send};
 use play_types::Geometry;
 
 /// How many bytes are turned into text at a time.
@@ -42,19 +43,7 @@ pub fn write_hex<K: Sink>(
 fn write_head<K: Sink>(channel: u8, tick: u64, to: &mut K) -> Sent
     ensures { Sends result (head_line channel tick) (K.state to.old) (K.state to.new) }
 {
-    match send(b"F ", to) {
-        Sent::All => {}
-        Sent::Failed => return Sent::Failed,
-    }
-    match send_number(u64::from(channel), to) {
-        Sent::All => {}
-        Sent::Failed => return Sent::Failed,
-    }
-    match send(b" ", to) {
-        Sent::All => {}
-        Sent::Failed => return Sent::Failed,
-    }
-    match send_number(tick, to) {
+    match send_label(b"F ", channel, tick, to) {
         Sent::All => {}
         Sent::Failed => return Sent::Failed,
     }
@@ -77,7 +66,7 @@ fn write_rows<K: Sink>(row_length: usize, rows: u16, frame: &[u8], to: &mut K) -
 }
 
 /// Writes bytes in hexadecimal, and a line feed.
-fn write_line<K: Sink>(bytes: &[u8], to: &mut K) -> Sent
+pub(crate) fn write_line<K: Sink>(bytes: &[u8], to: &mut K) -> Sent
     ensures { Sends result (encode_lower bytes.now ++ 10 ∷ []) (K.state to.old) (K.state to.new) }
 {
     match write_digits(bytes, to) {

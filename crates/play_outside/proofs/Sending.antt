@@ -1,9 +1,7 @@
 -- Texts that are sent in parts, one after another.
-use Rattle.std.proofs.Common.{◌≡◌, ◌-◌, ℕ, ◌+◌, ◌<◌, ◌≤◌, List, [], ◌∷◌, ◌++◌, take, drop, length, refl, sym, ap, ◌∙◌, append_assoc, append-nil, subst, arith, length-append}
-use Rattle.std.specs.Prelude.{Option, Some, None}
+use Rattle.std.proofs.Common.{ℕ, ◌+◌, ◌<◌, List, ◌++◌, take, length, sym, ap, ◌∙◌, subst, arith, length-append}
 use Rattle.std.proofs.Math.Seq.{take-append-add}
 use Rattle.std.proofs.lemmas.List.{take-append-le}
-use Rattle.play_outside.specs.Faults.{Rose}
 use Rattle.play_outside.specs.SinkState.{SinkState, more_taken, after_taking}
 use Rattle.play_outside.specs.Sink.{Sends, Fails}
 use Rattle.play_outside.specs.declared.sink.Sent.{Sent}

@@ -6,9 +6,20 @@
 #![tactic(auto)]
 
 mod folder;
+mod mem_media;
+mod mem_sink;
+mod mem_source;
+mod pieces;
+mod plain;
+mod planned_faults;
 mod sink;
 mod source;
+mod unread;
 
 pub use folder::{FileFault, MediaDir};
+pub use mem_media::{MemConfig, MemFile, MemMedia};
+pub use mem_sink::MemSink;
+pub use mem_source::MemSource;
+pub use plain::{PlainMedia, PlainSink, PlainSource};
 pub use sink::{Sent, Sink, WriteStep, send, send_number};
 pub use source::{ReadStep, Source};

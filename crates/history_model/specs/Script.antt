@@ -1,5 +1,5 @@
 -- Scripts: lines of connections and of ticks, in the order in which they happen.
-use Rattle.std.specs.Prelude.{ℕ, ◌+◌, ◌==◌, nat_lt, if◌then◌else◌, Option, Some, None, option_map, option_and_then, List, [], ◌∷◌, length, take, drop, position, flat_map, codes}
+use Rattle.std.specs.Prelude.{ℕ, ◌+◌, ◌==◌, nat_lt, if◌then◌else◌, Bool, true, false, Option, Some, None, option_map, option_and_then, List, [], ◌∷◌, length, take, drop, position, flat_map, codes}
 use Rattle.std.specs.Result.{result_ok}
 use Rattle.std.specs.Str.{bytes_eq}
 use Rattle.std.specs.Int.{w32, from_be_bytes}
@@ -19,6 +19,12 @@ pub data ScriptLine : Type 0 where
   Said : Tag → List ℕ → ScriptLine
   -- nothing that a script may say
   NoForm : ScriptLine
+
+-- whether a line says something that a script may say
+abbrev pub is_formed : ScriptLine → Bool
+is_formed Tick = true
+is_formed (Said tag text) = true
+is_formed NoForm = false
 
 -- what stands before the first such byte and what stands after it, where there is one
 abbrev pub parts_at : ℕ → List ℕ → Option (List ℕ × List ℕ)

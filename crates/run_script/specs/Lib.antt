@@ -1,2 +1,6 @@
-pub mod Words
+pub mod Ending
 pub mod Line
+pub mod Run
+pub mod Script
+pub mod Stage
+pub mod Words

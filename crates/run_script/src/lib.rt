@@ -6,4 +6,6 @@ mod frame;
 mod line;
 mod numbers;
 mod reply;
+mod script;
+mod stage;
 mod words;

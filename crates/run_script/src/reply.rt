@@ -41,7 +41,7 @@ fn write_line<K: Sink>(tag: Tag, text: &[u8], out: &mut K) -> Sent
 fn write_tag<K: Sink>(tag: Tag, out: &mut K) -> Sent
     ensures { Sends result (tag_text tag) (K.state out.old) (K.state out.new) }
 {
-    match send_number(u64::from(tag.worker), out) {
+    match send_number(tag.worker as u64, out) {
         Sent::All => {}
         Sent::Failed => return Sent::Failed,
     }
@@ -49,7 +49,7 @@ fn write_tag<K: Sink>(tag: Tag, out: &mut K) -> Sent
         Sent::All => {}
         Sent::Failed => return Sent::Failed,
     }
-    match send_number(u64::from(tag.session), out) {
+    match send_number(tag.session as u64, out) {
         Sent::All => send(b" ", out),
         Sent::Failed => Sent::Failed,
     }

@@ -1,0 +1,2 @@
+-- A whole run.
+use Rattle.std.specs.Prelude.{ℕ}

@@ -107,7 +107,7 @@ unfolding unended
 unended-other bytes byte other = ap last_part (parts-other bytes byte other) ∙ last_part-onto_last (parts bytes) byte
 
 -- what has not ended is a line at the end of the input, where it is not empty
-pub last_line : List ℕ → List (List ℕ)
+unfoldable pub last_line : List ℕ → List (List ℕ)
 last_line text = cond (eqb (length text) 0) [] (text ∷ [])
 
 lines_of_parts-ended : (ps : List (List ℕ)) → lines_of_parts ps ≡ ended_parts ps ++ last_line (last_part ps)

@@ -1,6 +1,6 @@
 -- Numbers read digit by digit.
-use Rattle.std.proofs.Common.{◌≡◌, ◌&&◌, ◌-◌, ℕ, ◌+◌, ◌*◌, ◌<◌, ◌≤◌, Bool, true, false, cond, leb, List, [], ◌∷◌, take, length, get_or, refl, sym, ap, ◌∙◌, subst, arith}
-use Rattle.std.specs.Prelude.{Option, Some, None, nat_le, option_and_then}
+use Rattle.std.proofs.Common.{◌≡◌, ◌-◌, ℕ, ◌+◌, ◌*◌, ◌<◌, ◌≤◌, Bool, true, false, List, [], ◌∷◌, take, length, get_or, refl, ap, ◌∙◌, arith}
+use Rattle.std.specs.Prelude.{Some, None, option_and_then}
 use Rattle.std.specs.Char.{is_ascii_digit, digit_value}
 use Rattle.std.specs.Int.{IsInRange}
 use Rattle.std.specs.List.{list_all}
@@ -47,7 +47,7 @@ by_digits least most text false digits some above = ap (option_and_then (within 
 pub number_within-large : (least most : ℕ) (text : List ℕ) (i : ℕ) → 0 < length text → most < digits_value 10 (take i text) → number_within least most text ≡ None
 number_within-large least most text i some above =
     by_digits least most text (list_all is_ascii_digit text) refl some
-        (omega (arith, digits_value-take-le 10 text i (omega arith)))
+    (omega (arith, digits_value-take-le 10 text i (omega arith)))
 
 -- a text of digits has the number, where that is within the ends
 pub number_within-digits : (least most : ℕ) (text : List ℕ) → 0 < length text → list_all is_ascii_digit text ≡ true → number_within least most text ≡ within least most (digits_value 10 text)

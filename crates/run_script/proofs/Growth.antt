@@ -1,6 +1,6 @@
 -- A script that is taken byte by byte.
-use Rattle.std.proofs.Common.{◌≡◌, ◌≢◌, ℕ, ◌+◌, ◌<◌, ◌≤◌, ◌&&◌, Bool, true, false, cond, eqb, leb, ltb, List, [], ◌∷◌, ◌++◌, map, length, refl, sym, ap, ◌∙◌, subst, arith, append-nil, append_assoc, take, get_or, length-append}
-use Rattle.std.specs.Prelude.{Result, Ok, Err, nat_le, nat_lt}
+use Rattle.std.proofs.Common.{◌≡◌, ◌≢◌, ℕ, ◌+◌, ◌<◌, ◌≤◌, ◌&&◌, Bool, true, false, eqb, List, [], ◌∷◌, ◌++◌, length, refl, sym, ap, ◌∙◌, subst, arith, append-nil, append_assoc, take, get_or, length-append}
+use Rattle.std.specs.Prelude.{Ok, Err}
 use Rattle.std.specs.List.{list_all}
 use Rattle.std.specs.Str.Lines.{strip_carriage_return}
 use Rattle.std.proofs.lemmas.Bool.Decides.{nat_tests}
@@ -20,10 +20,10 @@ use Rattle.run_script.specs.declared.ending.Halt.{Halt}
 use Rattle.run_script.specs.declared.ending.Halt.TheVariants as halt
 use Rattle.run_script.specs.declared.stage.Stage.{Stage}
 use Rattle.run_script.specs.declared.script.Script.{Script}
-use Rattle.run_script.specs.Stage.{StandsFor, Outcome, Takes}
-use Rattle.run_script.specs.Script.{meanings, all_formed, output_of, HasTaken, StopsAt, FailsAt, IsWritten, Goes}
+use Rattle.run_script.specs.Stage.{StandsFor, Takes}
+use Rattle.run_script.specs.Script.{meanings, all_formed, output_of, HasTaken, StopsAt, IsWritten, Goes}
 
-meanings-snoc : (lines : List (List ℕ)) (line : List ℕ) → meanings (lines ++ line ∷ []) ≡ meanings lines ++ meaning line ∷ []
+pub meanings-snoc : (lines : List (List ℕ)) (line : List ℕ) → meanings (lines ++ line ∷ []) ≡ meanings lines ++ meaning line ∷ []
 meanings-snoc lines line = map-append meaning lines (line ∷ [])
 
 formed_by : (a b : Bool) → a ≡ true → b ≡ true → (a && (b && true)) ≡ true
@@ -35,8 +35,8 @@ formed_by false b' a b = a
 pub all_formed-snoc : (lines : List (List ℕ)) (line : List ℕ) → all_formed lines ≡ true → is_formed (meaning line) ≡ true → all_formed (lines ++ line ∷ []) ≡ true
 all_formed-snoc lines line formed form =
     ap (list_all is_formed) (meanings-snoc lines line)
-        ∙ list_all-append is_formed (meanings lines) (meaning line ∷ [])
-        ∙ formed_by (all_formed lines) (is_formed (meaning line)) formed form
+    ∙ list_all-append is_formed (meanings lines) (meaning line ∷ [])
+    ∙ formed_by (all_formed lines) (is_formed (meaning line)) formed form
 
 -- the output of one more line
 pub output_of-snoc : (width height : ℕ) (lines : List (List ℕ)) (line : List ℕ) → output_of width height (lines ++ line ∷ []) ≡ output_of width height lines ++ line_output width height (script_events (meanings lines)) (meaning line)
@@ -50,27 +50,27 @@ events-snoc lines line = ap script_events (meanings-snoc lines line) ∙ script_
 received-feed : (bytes : List ℕ) → received (bytes ++ 10 ∷ []) false ≡ ended_lines bytes ++ strip_carriage_return (unended bytes) ∷ []
 received-feed bytes =
     ap (λ (text : List ℕ). ended_lines (bytes ++ 10 ∷ []) ++ overlong text) (unended-feed bytes)
-        ∙ append-nil (ended_lines (bytes ++ 10 ∷ []))
-        ∙ ended_lines-feed bytes
+    ∙ append-nil (ended_lines (bytes ++ 10 ∷ []))
+    ∙ ended_lines-feed bytes
 
 -- the output of a line comes after that of the lines before it
-taken_line : (width height : ℕ) (lines : List (List ℕ)) (line text : List ℕ) (first before after : SinkState) → before ≡ after_taking first (output_of width height lines) → text ≡ line_output width height (script_events (meanings lines)) (meaning line) → after ≡ after_taking before text → after ≡ after_taking first (output_of width height (lines ++ line ∷ []))
+pub taken_line : (width height : ℕ) (lines : List (List ℕ)) (line text : List ℕ) (first before after : SinkState) → before ≡ after_taking first (output_of width height lines) → text ≡ line_output width height (script_events (meanings lines)) (meaning line) → after ≡ after_taking before text → after ≡ after_taking first (output_of width height (lines ++ line ∷ []))
 taken_line width height lines line text first before after so_far is step =
     step
-        ∙ ap (λ (s : SinkState). after_taking s text) so_far
-        ∙ after_taking-after_taking first (output_of width height lines) text
-        ∙ ap (λ (t : List ℕ). after_taking first (output_of width height lines ++ t)) is
-        ∙ ap (after_taking first) (sym (output_of-snoc width height lines line))
+    ∙ ap (λ (s : SinkState). after_taking s text) so_far
+    ∙ after_taking-after_taking first (output_of width height lines) text
+    ∙ ap (λ (t : List ℕ). after_taking first (output_of width height lines ++ t)) is
+    ∙ ap (after_taking first) (sym (output_of-snoc width height lines line))
 
-failed_line : (width height : ℕ) (lines : List (List ℕ)) (line text : List ℕ) (first before after : SinkState) → before ≡ after_taking first (output_of width height lines) → text ≡ line_output width height (script_events (meanings lines)) (meaning line) → Fails text before after → Fails (output_of width height (lines ++ line ∷ [])) first after
+pub failed_line : (width height : ℕ) (lines : List (List ℕ)) (line text : List ℕ) (first before after : SinkState) → before ≡ after_taking first (output_of width height lines) → text ≡ line_output width height (script_events (meanings lines)) (meaning line) → Fails text before after → Fails (output_of width height (lines ++ line ∷ [])) first after
 failed_line width height lines line text first before after so_far is fails =
     subst (λ t. Fails t first after) (sym (output_of-snoc width height lines line))
-        (Fails-after (output_of width height lines) (line_output width height (script_events (meanings lines)) (meaning line)) first after
-            (subst (λ t. Fails t (after_taking first (output_of width height lines)) after) is
-                (subst (λ s. Fails text s after) so_far fails)))
+    (Fails-after (output_of width height lines) (line_output width height (script_events (meanings lines)) (meaning line)) first after
+    (subst (λ t. Fails t (after_taking first (output_of width height lines)) after) is
+    (subst (λ s. Fails text s after) so_far fails)))
 
 -- the same size, so the same output
-sized_output : (stage : Stage) (width height : ℕ) (events : List Event) (line : ScriptLine) → stage.width ≡ width → stage.height ≡ height → line_output stage.width stage.height events line ≡ line_output width height events line
+pub sized_output : (stage : Stage) (width height : ℕ) (events : List Event) (line : ScriptLine) → stage.width ≡ width → stage.height ≡ height → line_output stage.width stage.height events line ≡ line_output width height events line
 sized_output stage width height events line wide high = rw (wide, high) refl
 
 -- all was taken: the line that waited is done
@@ -84,21 +84,22 @@ fed_done width height old new bytes first before after taken written done takes 
     let line = strip_carriage_return (unended bytes) in
     let events = script_events (meanings lines) in
     let wide : new.stage.width ≡ width = takes.size.width ∙ taken.columns in
-    let high : new.stage.height ≡ height = takes.size.height ∙ taken.rows in
-    (record {
-      columns = wide;
-      rows = high;
-      waiting = empty ∙ sym (unended-feed bytes);
-      short = rw (unended-feed bytes) (omega arith);
-      count = count ∙ ap (λ (n : ℕ). n + 1) taken.count ∙ sym (length-append lines (line ∷ [])) ∙ ap length (sym (ended_lines-feed bytes));
-      formed = ap all_formed (ended_lines-feed bytes) ∙ all_formed-snoc lines line taken.formed takes.outcome.0;
-      stage = subst (λ es. StandsFor new.stage es)
-          (sym (events-snoc lines line) ∙ ap (λ (ls : List (List ℕ)). script_events (meanings ls)) (sym (ended_lines-feed bytes)))
-          takes.outcome.1;
-    },
-    taken_line width height lines line (line_output new.stage.width new.stage.height events (meaning line)) first before after written
-        (sized_output new.stage width height events (meaning line) wide high) takes.outcome.2
-        ∙ ap (λ (ls : List (List ℕ)). after_taking first (output_of width height ls)) (sym (ended_lines-feed bytes)))
+    let high : new.stage.height ≡ height = takes.size.height ∙ taken.rows in (
+      record {
+        columns = wide;
+        rows = high;
+        waiting = empty ∙ sym (unended-feed bytes);
+        short = rw (unended-feed bytes) (omega arith);
+        count = count ∙ ap (λ (n : ℕ). n + 1) taken.count ∙ sym (length-append lines (line ∷ [])) ∙ ap length (sym (ended_lines-feed bytes));
+        formed = ap all_formed (ended_lines-feed bytes) ∙ all_formed-snoc lines line taken.formed takes.outcome.0;
+        stage = subst (λ es. StandsFor new.stage es)
+            (sym (events-snoc lines line) ∙ ap (λ (ls : List (List ℕ)). script_events (meanings ls)) (sym (ended_lines-feed bytes)))
+            takes.outcome.1;
+      },
+      taken_line width height lines line (line_output new.stage.width new.stage.height events (meaning line)) first before after written
+          (sized_output new.stage width height events (meaning line) wide high) takes.outcome.2
+          ∙ ap (λ (ls : List (List ℕ)). after_taking first (output_of width height ls)) (sym (ended_lines-feed bytes)),
+    )
 
 -- the line that waited stopped the run
 pub fed_stops : (width height : ℕ) (old new : Script) (bytes : List ℕ) (first before after : SinkState)
@@ -123,8 +124,8 @@ fed_stops width height old new bytes first before after taken written halt.Write
       formed = ap all_formed (received-feed bytes) ∙ all_formed-snoc lines line taken.formed takes.outcome.0;
       written = subst (λ ls. Fails (output_of width height ls) first after) (sym (received-feed bytes))
           (failed_line width height lines line (line_output new.stage.width new.stage.height events (meaning line)) first before after written
-              (sized_output new.stage width height events (meaning line) (takes.size.width ∙ taken.columns) (takes.size.height ∙ taken.rows))
-              takes.outcome.1);
+          (sized_output new.stage width height events (meaning line) (takes.size.width ∙ taken.columns) (takes.size.height ∙ taken.rows))
+          takes.outcome.1);
     }
 fed_stops width height old new bytes first before after taken written halt.Memory takes count =
     (bytes, 10 ∷ [], refl, takes.outcome ∙ written)
@@ -141,23 +142,24 @@ kept width height old new bytes byte first state other taken written stage count
     let is_other = not_feed byte other in
     let lines = ended_lines-other bytes byte is_other in
     let rest : new.waiting.items ≡ unended (bytes ++ byte ∷ []) =
-        waiting ∙ ap (λ (text : List ℕ). text ++ byte ∷ []) taken.waiting ∙ sym (unended-other bytes byte is_other) in
-    (record {
-      columns = ap (λ (s : Stage). s.width) stage ∙ taken.columns;
-      rows = ap (λ (s : Stage). s.height) stage ∙ taken.rows;
-      waiting = rest;
-      short = subst (λ text. length text < 8194) rest short;
-      count = count ∙ taken.count ∙ ap length (sym lines);
-      formed = ap all_formed lines ∙ taken.formed;
-      stage = subst (λ s. StandsFor s (script_events (meanings (ended_lines (bytes ++ byte ∷ []))))) (sym stage)
-          (subst (λ ls. StandsFor old.stage (script_events (meanings ls))) (sym lines) taken.stage);
-    },
-    written ∙ ap (λ (ls : List (List ℕ)). after_taking first (output_of width height ls)) (sym lines))
+    waiting ∙ ap (λ (text : List ℕ). text ++ byte ∷ []) taken.waiting ∙ sym (unended-other bytes byte is_other) in (
+      record {
+        columns = ap (λ (s : Stage). s.width) stage ∙ taken.columns;
+        rows = ap (λ (s : Stage). s.height) stage ∙ taken.rows;
+        waiting = rest;
+        short = subst (λ text. length text < 8194) rest short;
+        count = count ∙ taken.count ∙ ap length (sym lines);
+        formed = ap all_formed lines ∙ taken.formed;
+        stage = subst (λ s. StandsFor s (script_events (meanings (ended_lines (bytes ++ byte ∷ []))))) (sym stage)
+            (subst (λ ls. StandsFor old.stage (script_events (meanings ls))) (sym lines) taken.stage);
+      },
+      written ∙ ap (λ (ls : List (List ℕ)). after_taking first (output_of width height ls)) (sym lines),
+    )
 
 overlong-is : (text : List ℕ) → 8194 ≤ length text → overlong text ≡ text ∷ []
 overlong-is text long = grind (arith, nat_tests)
 
-long-meaning : (text : List ℕ) → 8194 ≤ length text → meaning text ≡ NoForm
+pub long-meaning : (text : List ℕ) → 8193 ≤ length text → meaning text ≡ NoForm
 long-meaning text long = grind (arith, nat_tests)
 
 -- a line that has too many bytes stops the run before its end
@@ -168,7 +170,7 @@ pub too_long : (width height : ℕ) (old new : Script) (bytes : List ℕ) (byte 
 too_long width height old new bytes byte first state other taken written count waiting long =
     let is_other = not_feed byte other in
     let rest : new.waiting.items ≡ unended (bytes ++ byte ∷ []) =
-        waiting ∙ ap (λ (text : List ℕ). text ++ byte ∷ []) taken.waiting ∙ sym (unended-other bytes byte is_other) in
+    waiting ∙ ap (λ (text : List ℕ). text ++ byte ∷ []) taken.waiting ∙ sym (unended-other bytes byte is_other) in
     let many : 8194 ≤ length (unended (bytes ++ byte ∷ [])) = subst (λ text. 8194 ≤ length text) rest long in
     record {
       before = ended_lines bytes;
@@ -176,7 +178,7 @@ too_long width height old new bytes byte first state other taken written count w
       lines = ap (λ (ls : List (List ℕ)). ls ++ overlong (unended (bytes ++ byte ∷ []))) (ended_lines-other bytes byte is_other)
           ∙ ap (λ (ls : List (List ℕ)). ended_lines bytes ++ ls) (overlong-is (unended (bytes ++ byte ∷ [])) many);
       formed = taken.formed;
-      form = long-meaning (unended (bytes ++ byte ∷ [])) many;
+      form = long-meaning (unended (bytes ++ byte ∷ [])) (omega arith);
       place = ap (λ (n : ℕ). n + 1) (count ∙ taken.count);
       written = written;
     }

@@ -1,5 +1,5 @@
 -- What a line makes of the stage and of the output.
-use Rattle.std.proofs.Common.{◌≡◌, ℕ, ◌+◌, true, List, [], ◌∷◌, ◌++◌, refl, sym, ap, ◌∙◌, subst, arith}
+use Rattle.std.proofs.Common.{◌≡◌, ℕ, ◌+◌, List, [], ◌∷◌, ◌++◌, refl, sym, ap, ◌∙◌, subst, arith}
 use Rattle.std.specs.Prelude.{Option, Some, None, Result, Ok, Err}
 use Rattle.play_types.specs.History.{ticks}
 use Rattle.play_types.specs.declared.event.Tag.{Tag}
@@ -9,13 +9,13 @@ use Rattle.play_types.proofs.Histories.{ticks-append}
 use Rattle.play_outside.specs.SinkState.{SinkState, after_taking}
 use Rattle.play_outside.specs.Sink.{Fails}
 use Rattle.history_model.specs.Picture.{last_colour, later_or}
-use Rattle.history_model.specs.Script.{ScriptLine, Tick, Said, played_colour, played, line_events}
-use Rattle.history_model.specs.ScriptOutput.{next_frame, line_output, reply}
+use Rattle.history_model.specs.Script.{ScriptLine, Tick, Said, played_colour, played}
+use Rattle.history_model.specs.ScriptOutput.{next_frame, line_output}
 use Rattle.history_model.proofs.Colours.{last_colour-append}
 use Rattle.run_script.specs.declared.ending.Halt.{Halt}
 use Rattle.run_script.specs.declared.ending.Halt.TheVariants as halt
 use Rattle.run_script.specs.declared.stage.Stage.{Stage}
-use Rattle.run_script.specs.Stage.{StandsFor, SameSize, Writes, Ticks, Answers, Outcome, Takes, colour_frame}
+use Rattle.run_script.specs.Stage.{StandsFor, SameSize, Ticks, Answers, Outcome, Takes, colour_frame}
 
 -- the frame of the next tick is that of the colour that the stage has
 frame_is : (stage : Stage) (events : List Event) (width height : ℕ) → StandsFor stage events → colour_frame width height (stage.ticks + 1) stage.colour ≡ next_frame width height events
@@ -50,7 +50,7 @@ tick_outcome (Err halt.NoForm) events old new before after stands tick = absurd 
 pub tick_taken : (result : Result (Unit {0}) Halt) (line : ScriptLine) (events : List Event) (old new : Stage) (before after : SinkState) → Tick ≡ line → StandsFor old events → Ticks result old new before after → Takes result line events old new before after
 tick_taken result line events old new before after is stands tick =
     subst (λ l. Takes result l events old new before after) is
-        (record { size = tick.size; outcome = tick_outcome result events old new before after stands tick })
+    (record { size = tick.size; outcome = tick_outcome result events old new before after stands tick })
 
 -- the colour of the events of a text
 played-colour : (tag : Tag) (colour : Option ℕ) → last_colour (played tag colour) ≡ colour
@@ -81,4 +81,4 @@ said_outcome (Err halt.NoForm) tag text events old new before after stands answe
 pub said_taken : (result : Result (Unit {0}) Halt) (tag : Tag) (text : List ℕ) (line : ScriptLine) (events : List Event) (old new : Stage) (before after : SinkState) → Said tag text ≡ line → StandsFor old events → Answers result tag text old new before after → Takes result line events old new before after
 said_taken result tag text line events old new before after is stands answer =
     subst (λ l. Takes result l events old new before after) is
-        (record { size = answer.size; outcome = said_outcome result tag text events old new before after stands answer })
+    (record { size = answer.size; outcome = said_outcome result tag text events old new before after stands answer })

@@ -1,5 +1,5 @@
 -- Rows and columns that are added one after another.
-use Rattle.std.proofs.Common.{◌≡◌, ℕ, zero, suc, ◌+◌, ◌*◌, List, [], ◌∷◌, ◌++◌, length, length-append, refl, sym, ap, ◌∙◌, add-one, append_assoc, append-nil, arith}
+use Rattle.std.proofs.Common.{◌≡◌, ℕ, zero, suc, ◌+◌, ◌*◌, List, [], ◌∷◌, ◌++◌, length, length-append, refl, ap, ◌∙◌, add-one, append_assoc, append-nil, arith}
 use Rattle.std.specs.Prelude.{flat_map}
 use Rattle.std.specs.List.{range_with_len}
 use Rattle.std.proofs.lemmas.Grind.{flat_map-append}
@@ -16,10 +16,10 @@ range_with_len-suc a (suc n) =
 pub flat_map-range_more : {A : Type 0} (f : ℕ → List A) (n : ℕ) → flat_map f (range_with_len 0 (n + 1)) ≡ flat_map f (range_with_len 0 n) ++ f n
 flat_map-range_more {A = A} f n =
     ap (λ (k : ℕ). flat_map f (range_with_len 0 k)) (add-one n)
-        ∙ ap (flat_map f) (range_with_len-suc 0 n)
-        ∙ flat_map-append f (range_with_len 0 n) ((0 + n) ∷ [])
-        ∙ ap (λ (l : List A). flat_map f (range_with_len 0 n) ++ l) (append-nil (f (0 + n)))
-        ∙ ap (λ (k : ℕ). flat_map f (range_with_len 0 n) ++ f k) (omega arith)
+    ∙ ap (flat_map f) (range_with_len-suc 0 n)
+    ∙ flat_map-append f (range_with_len 0 n) ((0 + n) ∷ [])
+    ∙ ap (λ (l : List A). flat_map f (range_with_len 0 n) ++ l) (append-nil (f (0 + n)))
+    ∙ ap (λ (k : ℕ). flat_map f (range_with_len 0 n) ++ f k) (omega arith)
 
 -- one more piece at the end of a list that has the pieces of the numbers before
 pub pieces_more : {A : Type 0} (f : ℕ → List A) (n : ℕ) (first before after piece : List A) → before ≡ first ++ flat_map f (range_with_len 0 n) → after ≡ before ++ piece → piece ≡ f n → after ≡ first ++ flat_map f (range_with_len 0 (n + 1))
@@ -31,10 +31,10 @@ length-pieces : (f : ℕ → List ℕ) (size first count : ℕ) → ((k : ℕ) �
 length-pieces f size first zero each = omega arith
 length-pieces f size first (suc count) each =
     length-append (f first) (flat_map f (range_with_len (first + 1) count))
-        ∙ rw (each first, length-pieces f size (first + 1) count each) (omega arith)
+    ∙ rw (each first, length-pieces f size (first + 1) count each) (omega arith)
 
 -- a frame has four bytes a pixel
 pub length-frame_bytes : (width height : ℕ) (pixel : ℕ → ℕ → PixelView) → length (frame_bytes width height pixel) ≡ 4 * width * height
 length-frame_bytes width height pixel =
     length-pieces (λ y. flat_map (λ x. pixel_bytes (pixel x y)) (range_with_len 0 width)) (4 * width) 0 height
-        (λ y. length-pieces (λ x. pixel_bytes (pixel x y)) 4 0 width (λ x. refl))
+    (λ y. length-pieces (λ x. pixel_bytes (pixel x y)) 4 0 width (λ x. refl))

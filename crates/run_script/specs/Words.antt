@@ -1,5 +1,5 @@
 -- The words of the command line.
-use Rattle.std.specs.Prelude.{ℕ, if◌then◌else◌, Option, Some, None, option_map, option_and_then, List, [], ◌∷◌, codes}
+use Rattle.std.specs.Prelude.{ℕ, if◌then◌else◌, Option, None, option_map, option_and_then, List, [], ◌∷◌, codes}
 use Rattle.std.specs.Str.{bytes_eq}
 use Rattle.play_types.specs.declared.geometry.Geometry.{Geometry}
 use Rattle.history_model.specs.Numbers.{number_within}

@@ -1,6 +1,7 @@
 //! How a run goes on or ends.
-ghost use Rattle.std.specs.Prelude.{◌≡◌};
+ghost use Rattle.std.specs.Prelude.{◌≡◌, ◌<◌, ◌^◌};
 ghost use Rattle.play_outside.specs.Sink.{Sends};
+ghost use Rattle.run_script.specs.Run.{ending_of};
 ghost use Rattle.run_script.specs.Ending.{status_of, bad_line, fault_line};
 
 use play_outside::{Sent, Sink, send, send_number};
@@ -27,6 +28,20 @@ pub enum Ending {
     ReadFault,
     WriteFault,
     Memory,
+}
+
+impl Halt {
+    /// How a run ends that stops after so many lines.
+    pub fn ending(self, lines: u64) -> Ending
+        requires { lines < 2 ^ 63 }
+        ensures { result ≡ ending_of self lines }
+    {
+        match self {
+            Halt::NoForm => Ending::BadLine(lines + 1),
+            Halt::Write => Ending::WriteFault,
+            Halt::Memory => Ending::Memory,
+        }
+    }
 }
 
 impl Ending {

@@ -8,12 +8,7 @@ use pixel_math::Pixel;
 use std::alloc::AllocError;
 
 /// Makes the frame one of this size that shows the pixel everywhere.
-pub fn paint(
-    frame: &mut Vec<u8>,
-    width: u16,
-    height: u16,
-    pixel: Pixel,
-) -> Result<(), AllocError>
+pub fn paint(frame: &mut Vec<u8>, width: u16, height: u16, pixel: Pixel) -> Result<(), AllocError>
     ensures { IfOk result (λ _. frame.new.items ≡ frame_bytes width height (λ x y. pixel)) }
 {
     frame.clear();

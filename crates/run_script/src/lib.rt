@@ -6,6 +6,9 @@ mod frame;
 mod line;
 mod numbers;
 mod reply;
+mod run;
 mod script;
 mod stage;
 mod words;
+
+pub use run::run_main;

@@ -19,7 +19,11 @@ pub fn number_within(least: u32, most: u32, text: &[u8]) -> Option<u32>
             return None;
         }
     }
-    if value < u64::from(least) { None } else { Some(value as u32) }
+    if value < u64::from(least) {
+        None
+    } else {
+        Some(value as u32)
+    }
 }
 
 /// The same, of digits without a leading zero.

@@ -1,12 +1,14 @@
 //! The lines of a script, byte by byte.
-ghost use Rattle.std.specs.Prelude.{◌≡◌, ◌≢◌, ◌+◌, ◌<◌, ◌≤◌, ◌^◌, ◌∷◌, ◌++◌, ℕ, List, [], length};
+ghost use Rattle.std.specs.Prelude.{◌≡◌, ◌≢◌, ◌+◌, ◌<◌, ◌≤◌, ◌^◌, ◌∷◌, ◌++◌, ℕ, List, [], length, true};
 ghost use Rattle.std.specs.Str.Lines.{strip_carriage_return};
 ghost use Rattle.play_outside.specs.SinkState.{SinkState};
+ghost use Rattle.run_script.specs.Run.{Ends, limit};
 ghost use Rattle.run_script.specs.Script.{HasTaken, IsWritten, Goes, GoesOver};
 
-use crate::ending::Halt;
+use crate::ending::{Ending, Halt};
 use crate::stage::Stage;
 use play_outside::Sink;
+use std::alloc::Global;
 
 /// So many bytes without an end are no line that a script may have: the longest line and its end are shorter.
 const TOO_MANY: usize = 8194;
@@ -31,11 +33,48 @@ fn without_return(line: &[u8]) -> &[u8]
 }
 
 impl Script {
+    /// Nothing was taken yet, on a channel of this width and height.
+    pub fn new(alloc: Global, width: u16, height: u16) -> Script
+        ensures small { (result.stage.ticks ≡ 0) × (result.lines ≡ 0) }
+        ensures taken { HasTaken width height result [] }
+    {
+        Script {
+            waiting: Vec::new(alloc),
+            lines: 0,
+            stage: Stage {
+                width,
+                height,
+                colour: None,
+                ticks: 0,
+                frame: Vec::new(alloc),
+            },
+        }
+    }
+
+    /// Does what the last line says where the input ends without a line feed.
+    pub fn finish<K: Sink>(&mut self, out: &mut K) -> Ending
+        requires ticks { self.old.stage.ticks < 2 ^ 63 }
+        requires lines { self.old.lines < 2 ^ 63 }
+        ensures { (width height : ℕ) (bytes : List ℕ) (first : SinkState)
+            → HasTaken width height self.old bytes → IsWritten width height bytes first (K.state out.old) → length bytes ≤ limit
+            → Ends width height result bytes true first (K.state out.new) }
+    {
+        if self.waiting.is_empty() {
+            return Ending::Finished;
+        }
+        match self.stage.take_line(self.waiting.as_slice(), out) {
+            Ok(()) => Ending::Finished,
+            Err(halt) => halt.ending(self.lines),
+        }
+    }
+
     /// Takes the next bytes, and does what their lines say. It stops at the first line that cannot be done.
     pub fn take<K: Sink>(&mut self, piece: &[u8], out: &mut K) -> Result<(), Halt>
         requires ticks { self.old.stage.ticks + length piece.now < 2 ^ 63 }
         requires lines { self.old.lines + length piece.now < 2 ^ 63 }
-        ensures { (width height : ℕ) (bytes : List ℕ) (first : SinkState)
+        ensures ticks { self.new.stage.ticks ≤ self.old.stage.ticks + length piece.now }
+        ensures lines { self.new.lines ≤ self.old.lines + length piece.now }
+        ensures taken { (width height : ℕ) (bytes : List ℕ) (first : SinkState)
             → HasTaken width height self.old bytes → IsWritten width height bytes first (K.state out.old)
             → GoesOver width height result self.new bytes piece.now first (K.state out.new) }
     {

@@ -19,5 +19,5 @@ pub returns-in-All-send_number : goal.returns-in-All-send_number
 unfolding bad_line
 returns-in-All-send_number g c =
     Sends-last _ _ (codes "E line " ++ decimal c.args.number) (10 ∷ []) _ _ _ (simp append_assoc)
-        (taken_more (codes "E line ") (decimal c.args.number) _ _ _ c.in-All.ensures c.in-All-send_number.ensures)
-        c.send-in-All-send_number.ensures
+    (taken_more (codes "E line ") (decimal c.args.number) _ _ _ c.in-All.ensures c.in-All-send_number.ensures)
+    c.send-in-All-send_number.ensures

@@ -1,6 +1,4 @@
-use Rattle.std.proofs.Common.{◌<◌, ◌≡◌, ◌∙◌, ◌+◌, ◌*◌, ap, sym, length, true, get_or, take, arith}
-use Rattle.std.specs.Char.{is_ascii_digit}
-use Rattle.std.specs.Str.Parse.{digits_value}
+use Rattle.std.proofs.Common.{◌<◌, ◌∙◌, ◌+◌, ◌*◌, ap, sym, length, arith}
 use Rattle.run_script.proofs.Digits.{number_within-large, value_more, digits_more}
 use Rattle.run_script.proofs.numbers.number_within.Goals as goal
 
@@ -11,7 +9,7 @@ returns-then-value-from c =
     let inside : i < length text = omega arith in
     let value = value_more text i c.loop-digit.value inside (sym c.is_ascii_digit.ensures.value ∙ c.if-not-is_ascii_digit.false) c.loop-digit.invariant.value in
     sym (number_within-large c.args.least c.args.most text (i + 1) c.loop-digit.invariant.some
-        (omega (arith, value, c.from.ensures, c.from-in-loop-digit.ensures, c.if-value-from.true)))
+    (omega (arith, value, c.from.ensures, c.from-in-loop-digit.ensures, c.if-value-from.true)))
 
 pub loop-digit-preserved : goal.loop-digit-preserved
 loop-digit-preserved c =

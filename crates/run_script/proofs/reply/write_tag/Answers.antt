@@ -20,13 +20,13 @@ unfolding tag_text
 returns-in-Failed-send_number g c =
     let tag = c.args.tag in
     Fails-within _ (decimal tag.worker ++ 46 ∷ []) (decimal tag.session) (32 ∷ []) _ _ _ (simp append_assoc)
-        (taken_more (decimal tag.worker) (46 ∷ []) _ _ _ c.in-All.ensures c.in-All-send.ensures) c.in-Failed-send_number.ensures
+    (taken_more (decimal tag.worker) (46 ∷ []) _ _ _ c.in-All.ensures c.in-All-send.ensures) c.in-Failed-send_number.ensures
 
 pub returns-in-All-send_number : goal.returns-in-All-send_number
 unfolding tag_text
 returns-in-All-send_number g c =
     let tag = c.args.tag in
     Sends-last _ _ ((decimal tag.worker ++ 46 ∷ []) ++ decimal tag.session) (32 ∷ []) _ _ _ (simp append_assoc)
-        (taken_more (decimal tag.worker ++ 46 ∷ []) (decimal tag.session) _ _ _
-            (taken_more (decimal tag.worker) (46 ∷ []) _ _ _ c.in-All.ensures c.in-All-send.ensures) c.in-All-send_number.ensures)
-        c.send-in-All-send_number.ensures
+    (taken_more (decimal tag.worker ++ 46 ∷ []) (decimal tag.session) _ _ _
+    (taken_more (decimal tag.worker) (46 ∷ []) _ _ _ c.in-All.ensures c.in-All-send.ensures) c.in-All-send_number.ensures)
+    c.send-in-All-send_number.ensures

@@ -1,9 +1,12 @@
 //! Laws of the definitions in `specs/`, each the contract of a function that does nothing.
-ghost use Rattle.std.specs.Prelude.{◌≡◌, ◌<◌, ◌≤◌};
+ghost use Rattle.std.specs.Prelude.{◌≡◌, ◌+◌, ◌<◌, ◌≤◌, false};
 ghost use Rattle.play_types.specs.Columns.{IsInRaster, pick};
 ghost use Rattle.play_types.specs.Curve.{IsBetween, along};
+ghost use Rattle.play_types.specs.Playhead.{head};
+ghost use Rattle.play_types.specs.Take.{take_of};
 
-use crate::transition::Kind;
+use crate::transition::{Kind, Trans};
+use crate::take::Spec;
 
 /// A tween has its first value before its first tick.
 pub fn tween_at_first(from: i64, to: i64, duration: u32)
@@ -30,5 +33,14 @@ pub fn column_in_raster(kind: Kind, leftward: bool, step: u32, duration: u32, wi
     requires running { step < duration }
     requires raster { x < width }
     ensures { IsInRaster width (pick kind leftward step duration width x) }
+{
+}
+
+/// A clip shows frames of the part that is played alone.
+pub fn playhead_in_part(id: u32, looped: bool, seek: u32, length: u32, trans: Trans, shown: u64)
+    requires { 0 < length }
+    ensures from { seek ≤ head (take_of (Spec.Clip id) looped seek length trans false) shown }
+    ensures below { head (take_of (Spec.Clip id) looped seek length trans false) shown
+        < seek + length }
 {
 }

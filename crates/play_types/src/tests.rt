@@ -2,7 +2,6 @@
 
 use crate::*;
 use std::alloc::{AllocError, Global};
-use std::process::Abort;
 use std::test::Fail;
 
 fn set(prop: Prop, values: [i64; 4], duration: u32) -> Option<Setting> {
@@ -30,27 +29,95 @@ fn bounds(rt: HostRuntime) {
         (Place::new(16, 0).is_some(), true, "channel 16"),
         (Place::new(17, 0).is_some(), false, "channel 17"),
         (Place::new(1, 10_000).is_some(), false, "layer 10,000"),
-        (Trans::new(Kind::Mix, 1_000_000, Curve::Linear, true).is_some(), true, "a long mix"),
-        (Trans::new(Kind::Cut, 1_000_001, Curve::Linear, true).is_some(), false, "too long a cut"),
+        (
+            Trans::new(Kind::Mix, 1_000_000, Curve::Linear, true).is_some(),
+            true,
+            "a long mix",
+        ),
+        (
+            Trans::new(Kind::Cut, 1_000_001, Curve::Linear, true).is_some(),
+            false,
+            "too long a cut",
+        ),
         (clip_take(0, 0).is_some(), false, "no frame"),
         (clip_take(999_999, 1).is_some(), true, "the last frame"),
         (clip_take(1_000_000, 1).is_some(), false, "a frame too far"),
-        (set(Prop::Opacity, [1_000_000, 9, 9, 9], 0).is_some(), true, "opacity 1"),
-        (set(Prop::Opacity, [1_000_001, 0, 0, 0], 0).is_some(), false, "opacity above 1"),
-        (set(Prop::Opacity, [-1, 0, 0, 0], 0).is_some(), false, "opacity below 0"),
-        (set(Prop::Volume, [1_000_000_000, 0, 0, 0], 0).is_some(), true, "volume 1000"),
-        (set(Prop::Volume, [1_000_000_001, 0, 0, 0], 0).is_some(), false, "volume above 1000"),
-        (set(Prop::Fill, [0, 0, 0, -1_000_000_000], 0).is_some(), true, "fill -1000"),
-        (set(Prop::Fill, [0, 0, 0, -1_000_000_001], 0).is_some(), false, "fill below -1000"),
-        (set(Prop::Clip, [0, 1_000_000_001, 0, 0], 0).is_some(), false, "clip above 1000"),
-        (set(Prop::Keyer, [1_000_000, 0, 0, 0], 1_000_000).is_some(), true, "keyer 1"),
-        (set(Prop::Keyer, [1, 0, 0, 0], 0).is_some(), false, "keyer one millionth"),
-        (set(Prop::Opacity, [0; 4], 1_000_001).is_some(), false, "too long a tween"),
-        (Micros::new([1_000_000_000, 0, 0, 2_000_000_000], 3).is_some(), true, "three numbers"),
-        (Micros::new([0, 0, 0, -1_000_000_001], 4).is_some(), false, "a number below -1000"),
+        (
+            set(Prop::Opacity, [1_000_000, 9, 9, 9], 0).is_some(),
+            true,
+            "opacity 1",
+        ),
+        (
+            set(Prop::Opacity, [1_000_001, 0, 0, 0], 0).is_some(),
+            false,
+            "opacity above 1",
+        ),
+        (
+            set(Prop::Opacity, [-1, 0, 0, 0], 0).is_some(),
+            false,
+            "opacity below 0",
+        ),
+        (
+            set(Prop::Volume, [1_000_000_000, 0, 0, 0], 0).is_some(),
+            true,
+            "volume 1000",
+        ),
+        (
+            set(Prop::Volume, [1_000_000_001, 0, 0, 0], 0).is_some(),
+            false,
+            "volume above 1000",
+        ),
+        (
+            set(Prop::Fill, [0, 0, 0, -1_000_000_000], 0).is_some(),
+            true,
+            "fill -1000",
+        ),
+        (
+            set(Prop::Fill, [0, 0, 0, -1_000_000_001], 0).is_some(),
+            false,
+            "fill below -1000",
+        ),
+        (
+            set(Prop::Clip, [0, 1_000_000_001, 0, 0], 0).is_some(),
+            false,
+            "clip above 1000",
+        ),
+        (
+            set(Prop::Keyer, [1_000_000, 0, 0, 0], 1_000_000).is_some(),
+            true,
+            "keyer 1",
+        ),
+        (
+            set(Prop::Keyer, [1, 0, 0, 0], 0).is_some(),
+            false,
+            "keyer one millionth",
+        ),
+        (
+            set(Prop::Opacity, [0; 4], 1_000_001).is_some(),
+            false,
+            "too long a tween",
+        ),
+        (
+            Micros::new([1_000_000_000, 0, 0, 2_000_000_000], 3).is_some(),
+            true,
+            "three numbers",
+        ),
+        (
+            Micros::new([0, 0, 0, -1_000_000_001], 4).is_some(),
+            false,
+            "a number below -1000",
+        ),
         (Micros::new([0; 4], 5).is_some(), false, "five numbers"),
-        (StatusList::new([Status::Playing; 16], 16).is_some(), true, "sixteen channels"),
-        (StatusList::new([Status::Playing; 16], 17).is_some(), false, "seventeen channels"),
+        (
+            StatusList::new([Status::Playing; 16], 16).is_some(),
+            true,
+            "sixteen channels",
+        ),
+        (
+            StatusList::new([Status::Playing; 16], 17).is_some(),
+            false,
+            "seventeen channels",
+        ),
     ] {
         assert_eq!(rt; made, wanted, "{what}");
     }
@@ -69,11 +136,15 @@ fn what_is_kept(rt: HostRuntime) -> Result<(), Fail> {
     let played = Take::new(Spec::Colour(1), false, 0, 0, mix, false).ok_or("played")?;
     assert_eq!(rt; Cmd::play_take(place, take), Cmd::PlayTake(place, played));
     let keyer = set(Prop::Keyer, [1_000_000, 7, 8, 9], 25).ok_or("keyer")?;
-    assert_eq!(rt; (keyer.values(), keyer.duration()), ([1_000_000, 0, 0, 0], 0));
+    assert_eq!(rt;
+        (keyer.values(), keyer.duration()),
+        ([1_000_000, 0, 0, 0], 0)
+    );
     let micros = Micros::new([1, 2, 3, 4], 1).ok_or("micros")?;
     assert_eq!(rt; micros.values(), [1, 0, 0, 0]);
     let statuses = StatusList::new([Status::Playing; 16], 2).ok_or("statuses")?;
-    assert_eq!(rt; statuses.channels()[1..3], [Status::Playing, Status::Empty].as_slice());
+    let [_, second, third, ..] = statuses.channels();
+    assert_eq!(rt; (second, third), (Status::Playing, Status::Empty));
     Ok(())
 }
 
@@ -93,7 +164,11 @@ fn clips(rt: HostRuntime) -> Result<(), Fail> {
         (size(1, 4097, 0), 1, 16_388, false),
     ] {
         let bytes = ByteList::new(vec![in rt.alloc(); 0; bytes]?);
-        assert_eq!(rt; Clip::new(size, frames, bytes).is_some(), wanted, "{size:?}, {frames}");
+        assert_eq!(rt;
+            Clip::new(size, frames, bytes).is_some(),
+            wanted,
+            "{size:?}, {frames}"
+        );
     }
     Ok(())
 }
@@ -108,7 +183,14 @@ fn config(alloc: Global, listen: &str, rate: u32, channels: u8) -> Result<Option
         list.push(channel(alloc, 1, "out")?.ok_or("channel")?)?;
     }
     let media = Text::copy(alloc, "media")?;
-    Ok(Config::new(Text::copy(alloc, listen)?, media, rate, 64, 16_777_216, list))
+    Ok(Config::new(
+        Text::copy(alloc, listen)?,
+        media,
+        rate,
+        64,
+        16_777_216,
+        list,
+    ))
 }
 
 #[test]

@@ -2,6 +2,9 @@
 //!
 //! A value that has a range is made only by its `new`, which answers `None` exactly where the range is left.
 //! Contracts see such a value as a plain record of numbers, and a list type as the list of its items.
+//!
+//! The definitions over these types stand in `specs/`: histories, playheads, tweens, the columns of transitions and clip
+//! files. The modules `examples` and `laws` show what they say.
 #![tactic(auto)]
 
 mod answer;
@@ -11,6 +14,7 @@ mod command;
 mod config;
 mod drawn;
 mod event;
+mod examples;
 mod geometry;
 mod laws;
 mod media;
@@ -34,3 +38,6 @@ pub use setting::{Prop, Setting};
 pub use take::{Spec, Take};
 pub use text::Text;
 pub use transition::{Curve, Kind, Trans};
+
+#[cfg(test)]
+mod tests;

@@ -4,6 +4,8 @@
 mod folder_media;
 mod std_sink;
 mod std_source;
+#[cfg(test)]
+mod tests;
 
 use folder_media::FolderMedia;
 use std::alloc::AllocError;

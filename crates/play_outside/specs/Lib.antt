@@ -6,3 +6,4 @@ pub mod Sink
 pub mod FolderState
 pub mod Folder
 pub mod Held
+pub mod MemSink

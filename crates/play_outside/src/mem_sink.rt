@@ -17,6 +17,8 @@ pub struct MemSink {
 }
 
 impl MemSink {
+    ghost use Rattle.play_outside.specs.MemSink.{room_left};
+
     /// Has room for `room` bytes, and takes at most `piece` of them a write. The writes whose numbers, counted from 1,
     /// are in `fails` answer `Failed`, and so does each write that finds the room full.
     pub fn new(
@@ -27,7 +29,8 @@ impl MemSink {
         fails: Vec<u64>,
     ) -> Result<MemSink, AllocError>
         requires { 0 < piece }
-        ensures { IfOk result (λ sink. ⟦<MemSink as Sink>⟧.state sink ≡ record { taken = Some []; faults = 0; mark = mark }) }
+        ensures fresh { IfOk result (λ sink. ⟦<MemSink as Sink>⟧.state sink ≡ record { taken = Some []; faults = 0; mark = mark }) }
+        ensures room { IfOk result (λ sink. room_left sink ≡ room) }
     {
         let taken = Vec::with_capacity(alloc, room)?;
         Ok(MemSink {
@@ -45,6 +48,13 @@ impl MemSink {
         self.taken.as_slice()
     }
 
+    /// For how many more bytes there is room.
+    pub fn room(&self) -> usize
+        ensures { result ≡ room_left self.now }
+    {
+        self.taken.capacity() - self.taken.len()
+    }
+
     /// How often a write has failed.
     pub fn faults(&self) -> u64
         ensures { result ≡ (⟦<MemSink as Sink>⟧.state self.now).faults }
@@ -57,7 +67,7 @@ impl Sink for MemSink {
     ghost state = { λ s. record { taken = Some s.taken.items; faults = s.planned.count; mark = s.mark } };
 
     fn write(&mut self, piece: &[u8]) -> WriteStep {
-        let room = self.taken.capacity() - self.taken.len();
+        let room = self.room();
         if self.planned.fails_now() || room == 0 {
             self.planned.raise();
             return WriteStep::Failed;

@@ -69,6 +69,7 @@ fn writes(rt: HostRuntime) -> Result<(), Fail> {
         assert_eq!(rt; sink.write(piece.as_bytes()), step);
     }
     assert_eq!(rt; sink.taken(), b"abcdef".as_slice());
+    assert_eq!(rt; sink.room(), 0);
     assert_eq!(rt; sink.faults(), 2);
     let mut plain = PlainSink::new(0);
     assert_eq!(rt; plain.write(b"abcd"), WriteStep::Took(4));

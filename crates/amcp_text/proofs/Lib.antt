@@ -1,0 +1,3 @@
+pub mod FirstEnd
+pub mod LineLaws
+pub mod ReaderLaws

@@ -3,7 +3,7 @@ use Rattle.std.proofs.Common.{◌≡◌, ℕ, ◌+◌, ◌-◌, ◌<◌, ◌≤�
 use Rattle.std.specs.List.{list_any, slice_split}
 use Rattle.std.specs.Str.{chars, is_utf8, IsUtf8}
 use Rattle.std.proofs.lemmas.Bool.{or_parts, or_from, cases_Bool, le-ltb, false_from_ne_true}
-use Rattle.std.proofs.lemmas.List.{map-append}
+use Rattle.std.proofs.lemmas.List.{map-append, length-append, get_or_push, take_at}
 use Rattle.std.proofs.lemmas.List.Folds.{list_any-append}
 use Rattle.std.proofs.lemmas.List.Splits.{length-slice_split}
 use Rattle.std.proofs.lemmas.Str.{IsUtf8-from_is_utf8, is_utf8-from_IsUtf8}
@@ -53,6 +53,20 @@ lines_of_none bytes h = ap (map line_of) (ended_parts_none bytes h)
 -- the first line of a stream, and those after it
 pub lines_of_at : (part rest : List ℕ) → list_any is_line_end part ≡ false → lines_of (part ++ 10 ∷ rest) ≡ line_of part ∷ lines_of rest
 lines_of_at part rest h = ap (map line_of) (ended_parts_at part 10 rest h refl)
+
+-- a CR before the line end belongs to it
+pub line_of_return : (text : List ℕ) → line_of (text ++ 13 ∷ []) ≡ line_of_text text
+line_of_return text =
+    let before : length (text ++ 13 ∷ []) - 1 ≡ length text = omega (arith, length-append text (13 ∷ [])) in
+    rw (before, get_or_push text 13 0 (length text) refl, take_at text (13 ∷ []) (length text) refl) refl
+
+-- a text with CR LF after it is one line
+pub lines_of_return : (text rest : List ℕ) → list_any is_line_end text ≡ false
+    → lines_of (text ++ 13 ∷ 10 ∷ rest) ≡ line_of_text text ∷ lines_of rest
+lines_of_return text rest h =
+    let part = list_any-append is_line_end text (13 ∷ []) ∙ or_from _ _ h refl in
+    ap lines_of (sym (append_assoc text (13 ∷ []) (10 ∷ rest))) ∙ lines_of_at (text ++ 13 ∷ []) rest part
+    ∙ ap (λ (l : Line). l ∷ lines_of rest) (line_of_return text)
 
 -- the bytes after the part are taken one by one
 parts_append : (part bytes rest : List ℕ) → list_any is_line_end part ≡ false

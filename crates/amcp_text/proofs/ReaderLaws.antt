@@ -126,16 +126,19 @@ lines_unheld r bytes s unheld = lines_of_none bytes (sym s.held ∙ unheld)
 -- where a line is held, the bytes are that line
 pub record HoldsLine (r : ReaderState) (bytes : List ℕ) : Type 0 where
   pub ended : IsEnded bytes
-  pub line : lines_of bytes ≡ line_kept r ∷ []
+  pub first : (rest : List ℕ) → lines_of (bytes ++ rest) ≡ line_kept r ∷ lines_of rest
 
 pub lines_held : (r : ReaderState) (bytes : List ℕ) → StandsFor r bytes → r.held ≡ true → HoldsLine r bytes
 lines_held r bytes s held =
     let cut = cut_at_first is_line_end bytes (sym s.held ∙ held) in
     let part = before_first is_line_end bytes in
     let whole : bytes ≡ part ++ 10 ∷ [] =
-    cut.whole ∙ ap (λ (y : ℕ). part ++ y ∷ after_first is_line_end bytes) (eqb-true cut.at 10 cut.passes) ∙ ap (λ (t : List ℕ). part ++ 10 ∷ t) s.one_line in
+      cut.whole ∙ ap (λ (y : ℕ). part ++ y ∷ after_first is_line_end bytes) (eqb-true cut.at 10 cut.passes)
+      ∙ ap (λ (t : List ℕ). part ++ 10 ∷ t) s.one_line in
     let kept : line_kept r ≡ line_of part = rw (s.over, s.kept) (line_of_kept part) in
     record {
       ended = inr (part, whole);
-      line = ap lines_of whole ∙ lines_of_at part [] (list_any-before_first is_line_end bytes) ∙ ap (λ (l : Line). l ∷ []) (sym kept);
+      first = λ rest.
+        ap (λ (bs : List ℕ). lines_of (bs ++ rest)) whole ∙ ap lines_of (append_assoc part (10 ∷ []) rest)
+        ∙ lines_of_at part rest (list_any-before_first is_line_end bytes) ∙ ap (λ (l : Line). l ∷ lines_of rest) (sym kept);
     }

@@ -1,8 +1,8 @@
 -- The bytes that a line reader stands for.
-use Rattle.std.specs.Prelude.{◌≡◌, ℕ, ◌+◌, nat_lt, min, Bool, ◌||◌, if◌then◌else◌, List, [], ◌++◌, length, take}
+use Rattle.std.specs.Prelude.{◌≡◌, ℕ, ◌+◌, nat_lt, min, Bool, ◌||◌, if◌then◌else◌, Option, Some, None, List, [], ◌∷◌, ◌++◌, length, take}
 use Rattle.std.specs.List.{before_first, after_first, position_or_len, list_any}
 use Rattle.std.specs.Str.{chars}
-use Rattle.amcp_text.specs.Lines.{Line, Text, TooLong, NotUtf8, is_line_end, line_of}
+use Rattle.amcp_text.specs.Lines.{Line, Text, TooLong, NotUtf8, is_line_end, line_of, lines_of}
 use Rattle.amcp_text.specs.ReaderState.{ReaderState}
 use Rattle.amcp_text.specs.declared.line_reader.LineEvent.{LineEvent}
 use Rattle.amcp_text.specs.declared.line_reader.LineEvent.TheVariants as event
@@ -24,6 +24,11 @@ abbrev pub line_seen : LineEvent → Line
 line_seen (event.Line text) = Text (chars text.now)
 line_seen event.TooLong = TooLong
 line_seen event.NotUtf8 = NotUtf8
+
+-- what a reader tells of the bytes that it stands for: no line, or their line, which stands first whatever follows them
+abbrev pub Tells : Option LineEvent → List ℕ → Type 0
+Tells None bytes = lines_of bytes ≡ []
+Tells (Some event) bytes = (rest : List ℕ) → lines_of (bytes ++ rest) ≡ line_seen event ∷ lines_of rest
 
 -- the reader after more of a line's text came: as much is kept as there is room for
 abbrev pub with_text : ReaderState → List ℕ → ReaderState

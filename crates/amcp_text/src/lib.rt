@@ -8,3 +8,6 @@
 mod line_reader;
 
 pub use line_reader::{LineEvent, LineReader};
+
+#[cfg(test)]
+mod tests;

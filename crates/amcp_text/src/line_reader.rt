@@ -1,9 +1,9 @@
 //! Lines of a stream that comes in pieces.
-ghost use Rattle.std.specs.Prelude.{◌≡◌, ℕ, List, [], ◌++◌, take, option_map, slice_get, IfOk, IsTrue, IsSome, ◌↔◌};
+ghost use Rattle.std.specs.Prelude.{◌≡◌, ℕ, List, [], ◌++◌, take, IfOk, IsTrue, IsSome, ◌↔◌};
 ghost use Rattle.std.specs.List.{position};
 ghost use Rattle.std.specs.Str.Lines.{strip_carriage_return};
-ghost use Rattle.amcp_text.specs.Lines.{lines_of, line_of_text, is_line_end};
-ghost use Rattle.amcp_text.specs.Reader.{StandsFor, taken_len, with_text, line_seen, line_kept};
+ghost use Rattle.amcp_text.specs.Lines.{line_of_text, is_line_end};
+ghost use Rattle.amcp_text.specs.Reader.{StandsFor, Tells, taken_len, with_text, line_seen, line_kept};
 
 use std::alloc::{AllocError, Global};
 use std::marker::Model;
@@ -87,7 +87,7 @@ impl LineReader {
     /// The line that is held: `None` exactly where no whole line is held.
     pub fn line(&self) -> Option<LineEvent<'_>>
         ensures held { IsSome result ↔ IsTrue self.now.held }
-        ensures line { (bytes : List ℕ) → StandsFor self.now bytes → option_map line_seen result ≡ slice_get (lines_of bytes) 0 }
+        ensures line { (bytes : List ℕ) → StandsFor self.now bytes → Tells result bytes }
     {
         if !self.held {
             return None;

@@ -6,8 +6,10 @@
 #![tactic(auto)]
 
 mod line_reader;
+mod word_list;
 
 pub use line_reader::{LineEvent, LineReader};
+pub use word_list::WordList;
 
 #[cfg(test)]
 mod tests;

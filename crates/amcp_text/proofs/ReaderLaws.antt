@@ -133,12 +133,12 @@ lines_held r bytes s held =
     let cut = cut_at_first is_line_end bytes (sym s.held ∙ held) in
     let part = before_first is_line_end bytes in
     let whole : bytes ≡ part ++ 10 ∷ [] =
-      cut.whole ∙ ap (λ (y : ℕ). part ++ y ∷ after_first is_line_end bytes) (eqb-true cut.at 10 cut.passes)
-      ∙ ap (λ (t : List ℕ). part ++ 10 ∷ t) s.one_line in
+    cut.whole ∙ ap (λ (y : ℕ). part ++ y ∷ after_first is_line_end bytes) (eqb-true cut.at 10 cut.passes)
+    ∙ ap (λ (t : List ℕ). part ++ 10 ∷ t) s.one_line in
     let kept : line_kept r ≡ line_of part = rw (s.over, s.kept) (line_of_kept part) in
     record {
       ended = inr (part, whole);
       first = λ rest.
-        ap (λ (bs : List ℕ). lines_of (bs ++ rest)) whole ∙ ap lines_of (append_assoc part (10 ∷ []) rest)
-        ∙ lines_of_at part rest (list_any-before_first is_line_end bytes) ∙ ap (λ (l : Line). l ∷ lines_of rest) (sym kept);
+          ap (λ (bs : List ℕ). lines_of (bs ++ rest)) whole ∙ ap lines_of (append_assoc part (10 ∷ []) rest)
+          ∙ lines_of_at part rest (list_any-before_first is_line_end bytes) ∙ ap (λ (l : Line). l ∷ lines_of rest) (sym kept);
     }

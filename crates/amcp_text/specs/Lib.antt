@@ -1,3 +1,5 @@
 pub mod Lines
 pub mod ReaderState
 pub mod Reader
+pub mod Words
+pub mod Tokens

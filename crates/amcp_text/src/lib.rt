@@ -6,9 +6,11 @@
 #![tactic(auto)]
 
 mod line_reader;
+mod token;
 mod word_list;
 
 pub use line_reader::{LineEvent, LineReader};
+pub use token::{TokenFault, tokens};
 pub use word_list::WordList;
 
 #[cfg(test)]

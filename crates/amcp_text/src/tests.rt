@@ -41,12 +41,19 @@ fn lines_are_the_same_however_the_stream_is_cut(rt: HostRuntime) -> Result<(), F
         (b"a\rb\n", "[a\rb]"),
         (b"a\r\r\n", "[a\r]"),
         (b"\n\r\n\r", "[][]"),
-        (b"\xc3\xa9\n\xc3\r\n\xe2\x82\xac\n", "[\u{e9}]bytes[\u{20ac}]"),
+        (
+            b"\xc3\xa9\n\xc3\r\n\xe2\x82\xac\n",
+            "[\u{e9}]bytes[\u{20ac}]",
+        ),
         (b"\xff\n", "bytes"),
     ];
     for (stream, expected) in rows {
         for size in [1, 3, 4096] {
-            assert_eq!(rt; told(rt.alloc(), stream, size)?.as_str(), expected, "in pieces of {size}");
+            assert_eq!(rt;
+                told(rt.alloc(), stream, size)?.as_str(),
+                expected,
+                "in pieces of {size}"
+            );
         }
     }
     Ok(())
@@ -67,7 +74,11 @@ fn a_line_of_4096_bytes_is_the_longest(rt: HostRuntime) -> Result<(), Fail> {
         stream.extend_from_slice(end.as_bytes())?;
         for size in [1, 3, 10000] {
             let told = told(rt.alloc(), stream.as_slice(), size)?;
-            assert_eq!(rt; told.as_str() == "long", long, "{count} in pieces of {size}");
+            assert_eq!(rt;
+                told.as_str() == "long",
+                long,
+                "{count} in pieces of {size}"
+            );
             assert!(rt; long || told.len() == 4098);
         }
     }

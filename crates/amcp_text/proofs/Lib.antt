@@ -5,3 +5,4 @@ pub mod LastMark
 pub mod Roles
 pub mod Reading
 pub mod ReadingText
+pub mod TextLaws

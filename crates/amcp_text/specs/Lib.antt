@@ -3,3 +3,4 @@ pub mod ReaderState
 pub mod Reader
 pub mod Words
 pub mod Tokens
+pub mod Numbers

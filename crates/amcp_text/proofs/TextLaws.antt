@@ -2,14 +2,14 @@
 use Rattle.std.proofs.Common.{◌≡◌, ℕ, ◌+◌, ◌<◌, ◌≤◌, Bool, true, false, cond, ◌&&◌, List, [], ◌∷◌, ◌++◌, drop, length, ℤ, refl, sym, ap, ◌∙◌, subst, arith, inl, inr, lit<}
 use Rattle.std.specs.Prelude.{Option, Some, None, ◌==◌, nat_lt, encode_utf8_all}
 use Rattle.std.specs.List.{before_first, after_first, list_any}
-use Rattle.std.specs.Str.{IsUtf8, IsAscii, chars, all_ascii_digits}
+use Rattle.std.specs.Str.{IsUtf8, IsAscii, chars}
 use Rattle.std.specs.Str.Parse.{digits_value, starts_with_minus, without_leading_sign}
 use Rattle.std.specs.Char.{is_ascii_digit}
 use Rattle.std.proofs.lemmas.Bool.{cases_Bool, and_parts, eqb-true, leb-true}
 use Rattle.std.proofs.lemmas.Option.{cond_some}
 use Rattle.std.proofs.lemmas.Str.{encodes-chars, encodes-IsAscii, chars-IsAscii, IsAscii-append}
 use Rattle.std.proofs.lemmas.Str.Ascii.{IsAscii-nil, IsAscii-cons}
-use Rattle.amcp_text.specs.Numbers.{whole_number, is_point, is_unsigned_decimal, decimal_micro}
+use Rattle.amcp_text.specs.Numbers.{are_digits, whole_number, is_point, is_unsigned_decimal, decimal_micro}
 use Rattle.amcp_text.proofs.FirstEnd.{cut_at_first, before_first_none}
 
 -- the bytes of a text whose characters are known
@@ -23,15 +23,15 @@ ascii_of_chars bytes cs utf8 e ascii = bytes_of_chars bytes cs utf8 e ∙ encode
 digit_is_ascii : (c : ℕ) → is_ascii_digit c ≡ true → c < 128
 digit_is_ascii c h = omega (arith, leb-true c 57 (and_parts _ _ h).1)
 
-pub digits_are_ascii : (text : List ℕ) → all_ascii_digits text ≡ true → IsAscii text
+pub digits_are_ascii : (text : List ℕ) → are_digits text ≡ true → IsAscii text
 digits_are_ascii [] h = IsAscii-nil
 digits_are_ascii (c ∷ cs) h =
-    let parts = and_parts (is_ascii_digit c) (all_ascii_digits cs) h in
+    let parts = and_parts (is_ascii_digit c) (are_digits cs) h in
     IsAscii-cons c cs (digit_is_ascii c parts.0) (digits_are_ascii cs parts.1)
 
 whole_number_is_ascii : (text : List ℕ) (n : ℕ) → whole_number text ≡ Some n → IsAscii text
 whole_number_is_ascii text n h =
-    digits_are_ascii text ((and_parts _ _ (cond_some (nat_lt 0 (length text) && all_ascii_digits text) (digits_value 10 text) n h).0).1)
+    digits_are_ascii text ((and_parts _ _ (cond_some (nat_lt 0 (length text) && are_digits text) (digits_value 10 text) n h).0).1)
 
 unsigned_decimal_is_ascii : (text : List ℕ) → is_unsigned_decimal text ≡ true → IsAscii text
 unsigned_decimal_is_ascii text h =

@@ -4,3 +4,4 @@ pub mod Reader
 pub mod Words
 pub mod Tokens
 pub mod Numbers
+pub mod Micros

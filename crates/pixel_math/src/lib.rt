@@ -1,0 +1,11 @@
+//! The arithmetic of pixels: laying one over another, fading, keying and mixing.
+//!
+//! A pixel has one byte each of blue, green, red and alpha, its colours multiplied by the alpha and never above it.
+//! Contracts see it as a plain record of four numbers, and each call gives exactly its formula on whole numbers.
+//! No call takes memory, and none refuses anything.
+#![tactic(auto)]
+
+mod byte;
+mod pixel;
+
+pub use pixel::Pixel;

@@ -1,0 +1,16 @@
+pub mod Act
+pub mod Trail
+pub mod Resolved
+pub mod Life
+pub mod Live
+pub mod Acts
+pub mod Value
+pub mod Still
+pub mod Source
+pub mod Scene
+pub mod Media
+pub mod Raster
+pub mod Placing
+pub mod Frame
+pub mod Sound
+pub mod Try

@@ -8,3 +8,4 @@ pub mod Curve
 pub mod History
 pub mod Geometry
 pub mod ClipFile
+pub mod Answer

@@ -4,6 +4,7 @@
 //! Contracts see such a value as a plain record of numbers, and a list type as the list of its items.
 #![tactic(auto)]
 
+mod answer;
 mod bytes;
 mod command;
 mod event;
@@ -14,6 +15,7 @@ mod take;
 mod text;
 mod transition;
 
+pub use answer::{Answer, Micros, Status, StatusList};
 pub use bytes::ByteList;
 pub use command::{Cmd, CmdList};
 pub use event::{Event, Tag};

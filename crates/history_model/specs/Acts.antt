@@ -55,9 +55,9 @@ acts_back (event ∷ before) =
     let earlier = acts_back before in unwrap_or (with_event earlier (ticks before) event) earlier
 
 -- the acts of a history
-abbrev pub acts : List Event → List Act
+unfoldable pub acts : List Event → List Act
 acts history = acts_back (reverse history)
 
 -- whether an event after a history is refused
-abbrev pub is_refused : List Event → Event → Bool
+unfoldable pub is_refused : List Event → Event → Bool
 is_refused history event = is_none (with_event (acts history) (ticks history) event)

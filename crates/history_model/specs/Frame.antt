@@ -1,5 +1,5 @@
 -- The frame of a channel.
-use Rattle.std.specs.Prelude.{ℕ, Bool, true, false, List, [], ◌∷◌, reverse, if◌then◌else◌}
+use Rattle.std.specs.Prelude.{ℕ, List, [], ◌∷◌, reverse, if◌then◌else◌}
 use Rattle.play_types.specs.declared.geometry.Geometry.{Geometry}
 use Rattle.play_types.specs.declared.event.Event.{Event}
 use Rattle.play_types.specs.declared.event.Event.TheVariants.{Do, Batch, Tick, Stop}
@@ -42,5 +42,5 @@ frames_back setup (Tick ∷ before) =
     λ channel x y. scene_pixel setup (frames_back setup before) (size setup channel) (scene_back before channel) x y
 
 -- pixel (x, y) of a channel at the tick after a history
-abbrev pub frame_pixel : Setup → List Event → ℕ → ℕ → ℕ → PixelView
+unfoldable pub frame_pixel : Setup → List Event → ℕ → ℕ → ℕ → PixelView
 frame_pixel setup history channel x y = frames_back setup (Tick ∷ reverse history) channel x y

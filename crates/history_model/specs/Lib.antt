@@ -13,4 +13,4 @@ pub mod Raster
 pub mod Placing
 pub mod Frame
 pub mod Sound
-pub mod Try
+pub mod Answer

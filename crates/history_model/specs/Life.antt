@@ -1,7 +1,7 @@
 -- What stands at a place: its foreground and its background.
 use Rattle.std.specs.Prelude.{ℕ, zero, suc, ◌+◌, ◌-◌, Bool, true, false, not, ◌&&◌, List, [], ◌∷◌, nat_lt, Option, Some, None, option_map, if◌then◌else◌}
 use Rattle.play_types.specs.Take.{TakeView}
-use Rattle.play_types.specs.Transition.{TransView, cut}
+use Rattle.play_types.specs.Transition.{cut}
 use Rattle.play_types.specs.declared.transition.Kind.{Kind}
 use Rattle.play_types.specs.declared.transition.Kind.TheVariants.{Cut}
 use Rattle.play_types.specs.declared.take.Spec.{Spec}

@@ -1,5 +1,5 @@
 -- Which places hold something.
-use Rattle.std.specs.Prelude.{ℕ, ◌==◌, ◌<◌, Bool, ◌||◌, List, [], ◌∷◌, nat_lt, is_some, filter, if◌then◌else◌, Option}
+use Rattle.std.specs.Prelude.{ℕ, ◌==◌, Bool, ◌||◌, List, [], ◌∷◌, nat_lt, is_some, filter, if◌then◌else◌, Option}
 use Rattle.play_types.specs.Place.{PlaceView}
 use Rattle.play_types.specs.declared.command.Cmd.{Cmd}
 use Rattle.play_types.specs.declared.command.Cmd.TheVariants.{Load, LoadBg, SwapLayers}

@@ -1,5 +1,5 @@
 -- The channels and clips that a history plays on, and what the clips show.
-use Rattle.std.specs.Prelude.{ℕ, ◌+◌, ◌-◌, ◌*◌, ◌&&◌, List, Option, Some, None, ℤ, pos, slice_get, slice_index, nat_lt, unwrap_or, if◌then◌else◌}
+use Rattle.std.specs.Prelude.{ℕ, ◌+◌, ◌-◌, ◌*◌, ◌&&◌, List, Option, None, ℤ, pos, slice_get, slice_index, nat_lt, unwrap_or, if◌then◌else◌}
 use Rattle.std.specs.Int.{w16, cast_signed}
 use Rattle.play_types.specs.Geometry.{frame_bytes}
 use Rattle.play_types.specs.ClipFile.{ClipView}

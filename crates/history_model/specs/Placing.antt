@@ -1,5 +1,5 @@
 -- Where a layer's picture lies in the frame.
-use Rattle.std.specs.Prelude.{ℕ, zero, suc, ◌+◌, ◌*◌, Bool, true, false, ◌&&◌, Option, Some, None, List, ℤ, pos, negsuc, ◌+ℤ◌, ◌-ℤ◌, ◌*ℤ◌, neg_ℤ, nat_abs, int_lt, int_le, nat_lt, if◌then◌else◌}
+use Rattle.std.specs.Prelude.{ℕ, zero, suc, ◌+◌, ◌*◌, Bool, ◌&&◌, Option, Some, None, List, ℤ, pos, negsuc, ◌+ℤ◌, ◌-ℤ◌, ◌*ℤ◌, neg_ℤ, nat_abs, int_lt, int_le, nat_lt, if◌then◌else◌}
 use Rattle.std.specs.Int.{int_div_euclid}
 use Rattle.play_types.specs.Setting.{number_at}
 use Rattle.play_types.specs.declared.geometry.Geometry.{Geometry}
@@ -34,9 +34,9 @@ abbrev pub is_kept : ℕ → ℤ → ℤ → ℕ → Bool
 is_kept width edge extent x =
     int_le (doubled width edge) (middle x) && int_lt (middle x) (doubled width (edge +ℤ extent))
 
--- the raster column or row that is shown, none where it is not kept
-abbrev pub shown : ℕ → List ℤ → List ℤ → ℕ → ℕ → Option ℕ
-shown width fill clip at x =
+-- the raster column that frame column x shows, none where it is not kept; rows alike, with the numbers at 1
+abbrev pub visible : ℕ → List ℤ → List ℤ → ℕ → ℕ → Option ℕ
+visible width fill clip at x =
     if is_kept width (number_at clip at) (number_at clip (at + 2)) x
     then filled width (number_at fill at) (number_at fill (at + 2)) x else None
 
@@ -49,4 +49,4 @@ faded_at (Some column) (Some row) raster opacity = fade (raster column row) opac
 -- pixel (x, y) of the frame that shows the raster by a fill, a clip and an opacity in millionths
 abbrev pub placed_pixel : Geometry → List ℤ → List ℤ → ℤ → (ℕ → ℕ → PixelView) → ℕ → ℕ → PixelView
 placed_pixel frame fill clip opacity raster x y =
-    faded_at (shown frame.width fill clip 0 x) (shown frame.height fill clip 1 y) raster (nat_abs opacity)
+    faded_at (visible frame.width fill clip 0 x) (visible frame.height fill clip 1 y) raster (nat_abs opacity)

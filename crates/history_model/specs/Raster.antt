@@ -1,5 +1,5 @@
 -- Pictures brought to the raster of a channel, and the transition between them.
-use Rattle.std.specs.Prelude.{ℕ, ◌+◌, ◌*◌, ◌/◌, Bool, true, false, Option, Some, None, nat_lt}
+use Rattle.std.specs.Prelude.{ℕ, ◌+◌, ◌*◌, ◌/◌, true, false, Option, Some, None, nat_lt}
 use Rattle.play_types.specs.Columns.{Column, Old, New, Both, pick}
 use Rattle.play_types.specs.ClipFile.{ClipView}
 use Rattle.play_types.specs.declared.geometry.Geometry.{Geometry}

@@ -1,10 +1,9 @@
 -- What a channel shows at a tick: its drawn layers. Each history here is read backward, its last event first.
-use Rattle.std.specs.Prelude.{ℕ, ◌+◌, ◌==◌, min, Bool, false, List, [], ◌∷◌, ℤ, pos, negsuc, Option, Some, None, option_map, filter_map, if◌then◌else◌}
+use Rattle.std.specs.Prelude.{ℕ, ◌+◌, ◌==◌, min, Bool, false, List, ℤ, pos, negsuc, Option, Some, None, option_map, filter_map, if◌then◌else◌}
 use Rattle.play_types.specs.Place.{PlaceView}
 use Rattle.play_types.specs.Setting.{number_at}
 use Rattle.play_types.specs.History.{ticks}
 use Rattle.play_types.specs.Playhead.{head}
-use Rattle.play_types.specs.declared.setting.Prop.{Prop}
 use Rattle.play_types.specs.declared.setting.Prop.TheVariants.{Opacity, Fill, Clip, Volume, Keyer}
 use Rattle.play_types.specs.declared.event.Event.{Event}
 use Rattle.history_model.specs.Still.{Still, Nothing, Drawn}
@@ -14,7 +13,7 @@ use Rattle.history_model.specs.Acts.{acts_back}
 use Rattle.history_model.specs.Value.{value_at}
 use Rattle.history_model.specs.Source.{source, shown_at}
 
--- what a producer shows after so many shown ticks of its take
+-- the ticks that an outgoing content was shown, once the one that replaced it was shown for so many
 abbrev pub outgoing_shown : Outgoing → ℕ → ℕ
 outgoing_shown old shown = if old.paused then old.shown else old.shown + shown
 

@@ -1,5 +1,5 @@
 -- The sound of a channel.
-use Rattle.std.specs.Prelude.{ℕ, ◌-◌, Bool, true, false, List, [], ◌∷◌, Option, Some, None, ℤ, pos, negsuc, ◌+ℤ◌, ◌*ℤ◌, int_div, nat_lt, reverse, if◌then◌else◌}
+use Rattle.std.specs.Prelude.{ℕ, ◌-◌, true, false, List, [], ◌∷◌, Option, Some, None, ℤ, pos, negsuc, ◌+ℤ◌, ◌*ℤ◌, int_div, nat_lt, reverse}
 use Rattle.std.specs.Int.{int_min, int_max}
 use Rattle.play_types.specs.ClipFile.{ClipView}
 use Rattle.play_types.specs.declared.event.Event.{Event}
@@ -61,5 +61,5 @@ sounds_back setup (Tick ∷ before) =
     λ channel pair side. scene_sample setup (sounds_back setup before) (scene_back before channel) pair side
 
 -- the sample of a channel at the tick after a history, at a pair, side 0 left and 1 right
-abbrev pub frame_sample : Setup → List Event → ℕ → ℕ → ℕ → ℤ
+unfoldable pub frame_sample : Setup → List Event → ℕ → ℕ → ℕ → ℤ
 frame_sample setup history channel pair side = sounds_back setup (Tick ∷ reverse history) channel pair side

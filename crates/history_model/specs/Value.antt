@@ -1,7 +1,6 @@
 -- Mixer values.
 use Rattle.std.specs.Prelude.{ℕ, ◌-◌, Bool, true, false, List, [], ◌∷◌, ℤ, pos, reverse, Option, Some, None, if◌then◌else◌}
 use Rattle.play_types.specs.Place.{PlaceView}
-use Rattle.play_types.specs.Setting.{SettingView}
 use Rattle.play_types.specs.Curve.{along}
 use Rattle.play_types.specs.declared.setting.Prop.{Prop}
 use Rattle.play_types.specs.declared.setting.Prop.TheVariants.{Opacity, Fill, Clip, Volume, Keyer}
@@ -66,5 +65,5 @@ abbrev pub value_at : List Act → PlaceView → Prop → ℕ → List ℤ
 value_at acts place prop ticks = tuned_value (tuning (resolved acts) place) prop ticks
 
 -- the same after a history
-abbrev pub value : List Event → PlaceView → Prop → ℕ → List ℤ
+unfoldable pub value : List Event → PlaceView → Prop → ℕ → List ℤ
 value history place prop ticks = value_at (acts_back (reverse history)) place prop ticks

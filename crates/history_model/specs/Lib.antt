@@ -14,3 +14,4 @@ pub mod Placing
 pub mod Frame
 pub mod Sound
 pub mod Answer
+pub mod Worked

@@ -1,5 +1,5 @@
 -- Which column of which picture a transition shows.
-use Rattle.std.specs.Prelude.{ℕ, ◌+◌, ◌-◌, ◌*◌, ◌/◌, Bool, true, false, nat_lt, nat_le, if◌then◌else◌}
+use Rattle.std.specs.Prelude.{ℕ, ◌+◌, ◌-◌, ◌*◌, ◌/◌, ◌<◌, Bool, true, false, nat_lt, nat_le, if◌then◌else◌}
 use Rattle.play_types.specs.declared.transition.Kind.{Kind}
 use Rattle.play_types.specs.declared.transition.Kind.TheVariants.{Cut, Mix, Push, Slide, Wipe}
 
@@ -35,3 +35,9 @@ pick Mix leftward j d width x = Both x
 pick Push leftward j d width x = pushed leftward (taken j d width) width x
 pick Slide leftward j d width x = slid leftward (taken j d width) width x
 pick Wipe leftward j d width x = wiped leftward (taken j d width) width x
+
+-- the column is one of the raster's
+abbrev pub IsInRaster : ℕ → Column → Type 0
+IsInRaster width (Old x) = x < width
+IsInRaster width (New x) = x < width
+IsInRaster width (Both x) = x < width

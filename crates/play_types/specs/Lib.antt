@@ -5,7 +5,9 @@ pub mod Take
 pub mod Playhead
 pub mod Setting
 pub mod Curve
+pub mod Answer
 pub mod History
 pub mod Geometry
 pub mod ClipFile
-pub mod Answer
+pub mod Media
+pub mod Config

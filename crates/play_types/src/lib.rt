@@ -6,9 +6,14 @@
 
 mod answer;
 mod bytes;
+mod clip;
 mod command;
+mod config;
+mod drawn;
 mod event;
 mod geometry;
+mod laws;
+mod media;
 mod place;
 mod setting;
 mod take;
@@ -17,9 +22,13 @@ mod transition;
 
 pub use answer::{Answer, Micros, Status, StatusList};
 pub use bytes::ByteList;
+pub use clip::Clip;
 pub use command::{Cmd, CmdList};
+pub use config::{Channel, ChannelList, Config};
+pub use drawn::{Drawn, Still};
 pub use event::{Event, Tag};
 pub use geometry::Geometry;
+pub use media::{MediaName, MediaNames};
 pub use place::Place;
 pub use setting::{Prop, Setting};
 pub use take::{Spec, Take};

@@ -1,0 +1,34 @@
+//! Laws of the definitions in `specs/`, each the contract of a function that does nothing.
+ghost use Rattle.std.specs.Prelude.{◌≡◌, ◌<◌, ◌≤◌};
+ghost use Rattle.play_types.specs.Columns.{IsInRaster, pick};
+ghost use Rattle.play_types.specs.Curve.{IsBetween, along};
+
+use crate::transition::Kind;
+
+/// A tween has its first value before its first tick.
+pub fn tween_at_first(from: i64, to: i64, duration: u32)
+    requires { 0 < duration }
+    ensures { along from to 0 duration ≡ from }
+{
+}
+
+/// A tween has its last value from its last tick on.
+pub fn tween_at_last(from: i64, to: i64, tick: u64, duration: u32)
+    requires { duration ≤ tick }
+    ensures { along from to tick duration ≡ to }
+{
+}
+
+/// A tween is between its two ends at every tick.
+pub fn tween_between(from: i64, to: i64, tick: u64, duration: u32)
+    ensures { IsBetween from to (along from to tick duration) }
+{
+}
+
+/// A transition shows columns of the raster alone.
+pub fn column_in_raster(kind: Kind, leftward: bool, step: u32, duration: u32, width: u16, x: u16)
+    requires running { step < duration }
+    requires raster { x < width }
+    ensures { IsInRaster width (pick kind leftward step duration width x) }
+{
+}

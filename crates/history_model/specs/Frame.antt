@@ -5,7 +5,7 @@ use Rattle.play_types.specs.declared.event.Event.{Event}
 use Rattle.play_types.specs.declared.event.Event.TheVariants.{Do, Batch, Tick, Stop}
 use Rattle.pixel_math.specs.Pixel.{PixelView, transparent}
 use Rattle.pixel_math.specs.Arithmetic.{over, key}
-use Rattle.history_model.specs.Still.{Drawn}
+use Rattle.play_types.specs.declared.drawn.Drawn.{Drawn}
 use Rattle.history_model.specs.Media.{Setup, size}
 use Rattle.history_model.specs.Raster.{raster_pixel}
 use Rattle.history_model.specs.Placing.{placed_pixel}

@@ -5,7 +5,6 @@ pub mod Life
 pub mod Live
 pub mod Acts
 pub mod Value
-pub mod Still
 pub mod Source
 pub mod Scene
 pub mod Media

@@ -5,7 +5,9 @@ use Rattle.play_types.specs.ClipFile.{ClipView}
 use Rattle.play_types.specs.declared.geometry.Geometry.{Geometry}
 use Rattle.pixel_math.specs.Pixel.{PixelView, transparent, colour_pixel}
 use Rattle.pixel_math.specs.Arithmetic.{mix}
-use Rattle.history_model.specs.Still.{Still, Nothing, Colour, Frame, Channel, Drawn}
+use Rattle.play_types.specs.declared.drawn.Still.{Still}
+use Rattle.play_types.specs.declared.drawn.Still.TheVariants.{Nothing, Colour, Frame, Channel}
+use Rattle.play_types.specs.declared.drawn.Drawn.{Drawn}
 use Rattle.history_model.specs.Media.{Setup, size, clip_at, clip_pixel}
 
 -- the column of a picture of pw columns that column x of a raster of `width` columns shows; rows alike

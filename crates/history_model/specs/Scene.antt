@@ -6,7 +6,9 @@ use Rattle.play_types.specs.History.{ticks}
 use Rattle.play_types.specs.Playhead.{head}
 use Rattle.play_types.specs.declared.setting.Prop.TheVariants.{Opacity, Fill, Clip, Volume, Keyer}
 use Rattle.play_types.specs.declared.event.Event.{Event}
-use Rattle.history_model.specs.Still.{Still, Nothing, Drawn}
+use Rattle.play_types.specs.declared.drawn.Still.{Still}
+use Rattle.play_types.specs.declared.drawn.Still.TheVariants.{Nothing}
+use Rattle.play_types.specs.declared.drawn.Drawn.{Drawn}
 use Rattle.history_model.specs.Life.{Foreground, Outgoing}
 use Rattle.history_model.specs.Live.{layers}
 use Rattle.history_model.specs.Acts.{acts_back}

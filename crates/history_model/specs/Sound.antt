@@ -4,7 +4,9 @@ use Rattle.std.specs.Int.{int_min, int_max}
 use Rattle.play_types.specs.ClipFile.{ClipView}
 use Rattle.play_types.specs.declared.event.Event.{Event}
 use Rattle.play_types.specs.declared.event.Event.TheVariants.{Do, Batch, Tick, Stop}
-use Rattle.history_model.specs.Still.{Still, Nothing, Colour, Frame, Channel, Drawn}
+use Rattle.play_types.specs.declared.drawn.Still.{Still}
+use Rattle.play_types.specs.declared.drawn.Still.TheVariants.{Nothing, Colour, Frame, Channel}
+use Rattle.play_types.specs.declared.drawn.Drawn.{Drawn}
 use Rattle.history_model.specs.Media.{Setup, size, clip_at, clip_sample}
 use Rattle.history_model.specs.Scene.{scene_back}
 

@@ -7,7 +7,8 @@ use Rattle.play_types.specs.declared.take.Spec.{Spec}
 use Rattle.play_types.specs.declared.take.Spec.TheVariants.{Clip, Colour as OfColour, RouteChannel, RouteLayer}
 use Rattle.play_types.specs.declared.event.Event.{Event}
 use Rattle.play_types.specs.declared.event.Event.TheVariants.{Do, Batch, Tick, Stop}
-use Rattle.history_model.specs.Still.{Still, Nothing, Colour, Frame, Channel}
+use Rattle.play_types.specs.declared.drawn.Still.{Still}
+use Rattle.play_types.specs.declared.drawn.Still.TheVariants.{Nothing, Colour, Frame, Channel}
 use Rattle.history_model.specs.Life.{Foreground}
 use Rattle.history_model.specs.Live.{front_at}
 use Rattle.history_model.specs.Acts.{acts_back}

@@ -1,16 +1,17 @@
 -- Words for the worked examples: places, takes, events and media that are short to write.
-use Rattle.std.specs.Prelude.{ℕ, zero, suc, ◌+◌, ◌/◌, ◌%◌, replicate, Bool, true, false, List, [], ◌∷◌, ℤ, pos, nat_lt, Option, Some, flat_map, if◌then◌else◌}
+use Rattle.std.specs.Prelude.{ℕ, zero, suc, ◌+◌, ◌/◌, ◌%◌, replicate, Bool, true, false, List, [], ◌∷◌, ℤ, pos, nat_lt, Option, Some, None, flat_map, if◌then◌else◌}
 use Rattle.play_types.specs.Place.{PlaceView}
 use Rattle.play_types.specs.Take.{TakeView}
 use Rattle.play_types.specs.Setting.{SettingView}
 use Rattle.play_types.specs.Transition.{TransView, cut}
 use Rattle.play_types.specs.ClipFile.{ClipView}
+use Rattle.play_types.specs.History.{ticks}
 use Rattle.play_types.specs.declared.transition.Kind.{Kind}
 use Rattle.play_types.specs.declared.transition.Curve.TheVariants.{Linear}
 use Rattle.play_types.specs.declared.setting.Prop.{Prop}
 use Rattle.play_types.specs.declared.setting.Prop.TheVariants.{Opacity}
 use Rattle.play_types.specs.declared.take.Spec.{Spec}
-use Rattle.play_types.specs.declared.take.Spec.TheVariants.{Clip, Colour}
+use Rattle.play_types.specs.declared.take.Spec.TheVariants.{Clip, Colour, RouteChannel, RouteLayer}
 use Rattle.play_types.specs.declared.command.Cmd.{Cmd}
 use Rattle.play_types.specs.declared.command.Cmd.TheVariants.{LoadBg, PlayTake, Set}
 use Rattle.play_types.specs.declared.geometry.Geometry.{Geometry}
@@ -20,7 +21,10 @@ use Rattle.play_types.specs.declared.event.Event.TheVariants.{Do, Batch, Tick}
 use Rattle.pixel_math.specs.Pixel.{pixel_bytes}
 use Rattle.history_model.specs.Act.{Act}
 use Rattle.history_model.specs.Media.{Setup}
-use Rattle.history_model.specs.Answer.{row_pixels}
+use Rattle.history_model.specs.Life.{Life}
+use Rattle.history_model.specs.Live.{state}
+use Rattle.history_model.specs.Acts.{acts}
+use Rattle.history_model.specs.Answer.{row_pixels, channel_frame}
 
 -- layer l of channel c
 abbrev pub at : ℕ → ℕ → PlaceView
@@ -51,9 +55,20 @@ red = plain (Colour 0xFFFF0000)
 abbrev pub blue : TakeView
 blue = plain (Colour 0xFF0000FF)
 
+-- a route to a channel, and one to a layer of it
+abbrev pub route : ℕ → TakeView
+route c = plain (RouteChannel c)
+
+abbrev pub layer_route : ℕ → ℕ → TakeView
+layer_route c l = plain (RouteLayer (at c l))
+
 -- so many frames of a clip, from the first on, with a cut
 abbrev pub clip : ℕ → ℕ → TakeView
 clip id length = record { spec = Clip id; looped = false; seek = 0; length = length; trans = cut; auto = false }
+
+-- a take that is looped
+abbrev pub looped : TakeView → TakeView
+looped take = record take { looped = true }
 
 -- a take with a transition, and one that starts by itself
 abbrev pub by : TakeView → TransView → TakeView
@@ -108,12 +123,12 @@ media =
     ∷ film 1 2 1 (0 ∷ 0 ∷ 0 ∷ 255 ∷ 0xe8 ∷ 3 ∷ 0x18 ∷ 0xfc ∷ 0xff ∷ 0x7f ∷ 0 ∷ 0x80 ∷ [])
     ∷ []
 
--- one channel of one row with so many columns, and two channels of one pixel
+-- one channel of one row with so many columns and no sound, and three channels of one pixel and three pairs
 abbrev pub one : ℕ → Setup
 one width = record { channels = strip width 0 ∷ []; clips = media }
 
-abbrev pub two : Setup
-two = record { channels = strip 1 0 ∷ strip 1 0 ∷ []; clips = media }
+abbrev pub three : Setup
+three = record { channels = strip 1 3 ∷ strip 1 3 ∷ strip 1 3 ∷ []; clips = media }
 
 -- the letter of a hexadecimal digit
 abbrev pub hex_digit : ℕ → ℕ
@@ -144,3 +159,24 @@ deferred_acts (suc n) = act 0 (Set (deferred (at 1 0) Opacity (number (pos 0))))
 -- so many ticks
 abbrev pub ticking : ℕ → List Event
 ticking n = replicate n Tick
+
+-- the samples of a channel at the tick after a history
+abbrev pub samples_of : Setup → ℕ → List Event → List ℤ
+samples_of setup channel history = (channel_frame setup history channel).samples
+
+-- what stands at a place after a history
+abbrev pub place_after : List Event → PlaceView → Life
+place_after history place = state (acts history) (ticks history) place
+
+-- a place with nothing but a foreground without an outgoing content: shown for so many ticks, and running or paused
+abbrev pub running : TakeView → ℕ → Life
+running take shown =
+    record { front = Some (record { take = take; shown = shown; paused = false; old = None }); back = None }
+
+abbrev pub paused : TakeView → ℕ → Life
+paused take shown =
+    record { front = Some (record { take = take; shown = shown; paused = true; old = None }); back = None }
+
+-- the same with a background
+abbrev pub with_back : Life → TakeView → Life
+with_back s take = record s { back = Some take }

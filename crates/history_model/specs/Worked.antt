@@ -18,13 +18,13 @@ use Rattle.play_types.specs.declared.geometry.Geometry.{Geometry}
 use Rattle.play_types.specs.declared.event.Tag.{Tag}
 use Rattle.play_types.specs.declared.event.Event.{Event}
 use Rattle.play_types.specs.declared.event.Event.TheVariants.{Do, Batch, Tick}
-use Rattle.pixel_math.specs.Pixel.{pixel_bytes}
+use Rattle.pixel_math.specs.Pixel.{PixelView, pixel_bytes}
 use Rattle.history_model.specs.Act.{Act}
 use Rattle.history_model.specs.Media.{Setup}
-use Rattle.history_model.specs.Life.{Life}
+use Rattle.history_model.specs.Life.{Life, Outgoing}
 use Rattle.history_model.specs.Live.{state}
 use Rattle.history_model.specs.Acts.{acts}
-use Rattle.history_model.specs.Answer.{row_pixels, channel_frame}
+use Rattle.history_model.specs.Answer.{ChannelFrame, row_pixels, channel_frame}
 
 -- layer l of channel c
 abbrev pub at : ℕ → ℕ → PlaceView
@@ -180,3 +180,19 @@ paused take shown =
 -- the same with a background
 abbrev pub with_back : Life → TakeView → Life
 with_back s take = record s { back = Some take }
+
+-- a foreground that runs and takes an old content away
+abbrev pub over_old : TakeView → ℕ → Outgoing → Life
+over_old take shown old =
+    record { front = Some (record { take = take; shown = shown; paused = false; old = Some old }); back = None }
+
+abbrev pub old_of : TakeView → ℕ → Bool → Outgoing
+old_of take shown paused = record { take = take; shown = shown; paused = paused }
+
+-- what a channel shows
+abbrev pub frame_of : List PixelView → List ℤ → ChannelFrame
+frame_of pixels samples = record { pixels = pixels; samples = samples }
+
+-- blue, green, red and alpha
+abbrev pub pixel : ℕ → ℕ → ℕ → ℕ → PixelView
+pixel b g r a = record { b = b; g = g; r = r; a = a }

@@ -32,7 +32,7 @@ layer_pixel setup frames frame x y layer =
 abbrev pub scene_pixel : Setup → (ℕ → ℕ → ℕ → PixelView) → Geometry → List Drawn → ℕ → ℕ → PixelView
 scene_pixel setup frames frame layers x y = composed (layer_pixel setup frames frame x y) (reverse layers)
 
--- pixel (x, y) of each channel at the last tick of a history that is read backward, transparent before the first tick
+-- pixel (x, y) of each channel at the last tick of a history that is read backward, its last event first: transparent without a tick
 abbrev pub frames_back : Setup → List Event → ℕ → ℕ → ℕ → PixelView
 frames_back setup [] = λ channel x y. transparent
 frames_back setup (Do tag cmd ∷ before) = frames_back setup before

@@ -53,7 +53,7 @@ held_to_sample sum = int_min (int_max sum (negsuc 32767)) (pos 32767)
 abbrev pub scene_sample : Setup → (ℕ → ℕ → ℕ → ℤ) → List Drawn → ℕ → ℕ → ℤ
 scene_sample setup sounds layers pair side = held_to_sample (sample_sum (still_sample setup sounds pair side) layers)
 
--- the samples of each channel at the last tick of a history that is read backward, silent before the first tick
+-- the samples of each channel at the last tick of a history that is read backward, its last event first: silent without a tick
 abbrev pub sounds_back : Setup → List Event → ℕ → ℕ → ℕ → ℤ
 sounds_back setup [] = λ channel pair side. pos 0
 sounds_back setup (Do tag cmd ∷ before) = sounds_back setup before

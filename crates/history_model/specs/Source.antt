@@ -1,4 +1,4 @@
--- What a producer shows. Each history here is read backward, its last event first.
+-- What a producer shows. A history that is called `back` is read backward, its last event first.
 use Rattle.std.specs.Prelude.{ℕ, List, [], ◌∷◌, Option, Some, None}
 use Rattle.play_types.specs.Place.{PlaceView}
 use Rattle.play_types.specs.History.{ticks}
@@ -13,42 +13,38 @@ use Rattle.history_model.specs.Life.{Foreground}
 use Rattle.history_model.specs.Live.{front_at}
 use Rattle.history_model.specs.Acts.{acts_back}
 
--- the history before its last tick, none where it has no tick
-abbrev pub past : List Event → Option (List Event)
-past [] = None
-past (Do tag cmd ∷ before) = past before
-past (Batch tag cmds ∷ before) = past before
-past (Tick ∷ before) = Some before
-past (Stop tag ∷ before) = past before
+-- the foreground that each place showed at the last tick of a history, none where it has no tick
+abbrev pub last_fronts : List Event → Option (PlaceView → Option Foreground)
+last_fronts [] = None
+last_fronts (Do tag cmd ∷ before) = last_fronts before
+last_fronts (Batch tag cmds ∷ before) = last_fronts before
+last_fronts (Tick ∷ before) = Some (front_at (acts_back before) (ticks before))
+last_fronts (Stop tag ∷ before) = last_fronts before
 
--- the foreground that a tick after the history shows at a place
-abbrev pub shown_at : List Event → PlaceView → Option Foreground
-shown_at back place = front_at (acts_back back) (ticks back) place
-
--- the clip or colour of a producer, at a frame
+-- a clip or a colour, at a frame
 abbrev pub own_still : Spec → ℕ → Still
 own_still (Clip id) frame = Frame id frame
 own_still (OfColour value) frame = Colour value
 own_still (RouteChannel channel) frame = Nothing
 own_still (RouteLayer place) frame = Nothing
 
--- the clip or colour that a foreground shows
+-- the clip or colour that a foreground shows, at its playhead
 abbrev pub front_still : Option Foreground → Still
 front_still None = Nothing
 front_still (Some front) = own_still front.take.spec (head front.take front.shown)
 
--- what a route to a channel shows, and what a route to a place shows: that of the tick before, and nothing before the first
-abbrev pub channel_still : Option (List Event) → ℕ → Still
+-- what a route to a channel, and one to a place, shows, by the foregrounds at the tick before: nothing where there was no tick
+abbrev pub channel_still : Option (PlaceView → Option Foreground) → ℕ → Still
 channel_still None channel = Nothing
-channel_still (Some before) channel = Channel channel
+channel_still (Some fronts) channel = Channel channel
 
-abbrev pub layer_still : Option (List Event) → PlaceView → Still
+abbrev pub layer_still : Option (PlaceView → Option Foreground) → PlaceView → Still
 layer_still None place = Nothing
-layer_still (Some before) place = front_still (shown_at before place)
+layer_still (Some fronts) place = front_still (fronts place)
 
--- what a producer shows at a frame, at the tick after the history
-abbrev pub source : List Event → Spec → ℕ → Still
-source back (Clip id) frame = Frame id frame
-source back (OfColour value) frame = Colour value
-source back (RouteChannel channel) frame = channel_still (past back) channel
-source back (RouteLayer place) frame = layer_still (past back) place
+-- what a producer shows at a frame, by the foregrounds at the tick before
+abbrev pub source : Option (PlaceView → Option Foreground) → Spec → ℕ → Still
+source fronts (Clip id) frame = Frame id frame
+source fronts (OfColour value) frame = Colour value
+source fronts (RouteChannel channel) frame = channel_still fronts channel
+source fronts (RouteLayer place) frame = layer_still fronts place

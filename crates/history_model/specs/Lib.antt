@@ -13,4 +13,5 @@ pub mod Placing
 pub mod Frame
 pub mod Sound
 pub mod Answer
+pub mod Steps
 pub mod Worked

@@ -14,4 +14,5 @@ pub mod Frame
 pub mod Sound
 pub mod Answer
 pub mod Steps
+pub mod Touched
 pub mod Worked

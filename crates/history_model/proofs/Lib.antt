@@ -1,2 +1,3 @@
 pub mod Lives
 pub mod Trails
+pub mod Events

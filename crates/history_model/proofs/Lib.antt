@@ -1,3 +1,5 @@
 pub mod Lives
 pub mod Trails
 pub mod Events
+pub mod Later
+pub mod Liveness

@@ -3,3 +3,4 @@ pub mod Trails
 pub mod Events
 pub mod Later
 pub mod Liveness
+pub mod Placing

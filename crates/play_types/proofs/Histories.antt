@@ -1,8 +1,8 @@
 -- Histories made of two parts.
-use Rattle.std.proofs.Common.{◌≡◌, ℕ, ◌+◌, Bool, true, false, ltb, List, [], ◌∷◌, ◌++◌, length, Option, Some, None, refl, arith}
+use Rattle.std.proofs.Common.{◌≡◌, ◌+◌, List, [], ◌∷◌, ◌++◌, arith}
 use Rattle.play_types.specs.declared.event.Event.{Event}
 use Rattle.play_types.specs.declared.event.Event.TheVariants.{Do, Batch, Tick, Stop}
-use Rattle.play_types.specs.History.{ticks, held, held_by, stop_at, IsHistory}
+use Rattle.play_types.specs.History.{ticks, held}
 
 -- the ticks of two parts, one after the other
 pub ticks-append : (xs ys : List Event) → ticks (xs ++ ys) ≡ ticks xs + ticks ys

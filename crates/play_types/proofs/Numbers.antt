@@ -9,7 +9,8 @@ All-four [] e = absurd (omega arith)
 All-four (a ∷ []) e = absurd (omega arith)
 All-four (a ∷ b ∷ []) e = absurd (omega arith)
 All-four (a ∷ b ∷ c ∷ []) e = absurd (omega arith)
-All-four (a ∷ b ∷ c ∷ d ∷ []) e =
-    (λ h. (h 0 a (omega arith), h 1 a (omega arith), h 2 a (omega arith), h 3 a (omega arith)),
-     λ h. All-cons IsWide a (b ∷ c ∷ d ∷ []) h.0 (All-cons IsWide b (c ∷ d ∷ []) h.1 (All-cons IsWide c (d ∷ []) h.2 (All-cons IsWide d [] h.3 (All-nil IsWide)))))
+All-four (a ∷ b ∷ c ∷ d ∷ []) e = (
+  λ h. (h 0 a (omega arith), h 1 a (omega arith), h 2 a (omega arith), h 3 a (omega arith)),
+  λ h. All-cons IsWide a (b ∷ c ∷ d ∷ []) h.0 (All-cons IsWide b (c ∷ d ∷ []) h.1 (All-cons IsWide c (d ∷ []) h.2 (All-cons IsWide d [] h.3 (All-nil IsWide)))),
+)
 All-four (a ∷ b ∷ c ∷ d ∷ x ∷ xs) e = absurd (omega arith)

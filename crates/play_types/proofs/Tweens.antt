@@ -1,5 +1,5 @@
 -- The course of a tween.
-use Rattle.std.proofs.Common.{◌≡◌, ℕ, zero, suc, ◌*◌, ◌/◌, ◌<◌, ◌≤◌, inl, inr, true, false, ℤ, pos, negsuc, ◌+ℤ◌, ◌-ℤ◌, ◌*ℤ◌, neg_ℤ, int_div, cond, refl, arith}
+use Rattle.std.proofs.Common.{◌≡◌, ℕ, zero, suc, ◌*◌, ◌/◌, ◌<◌, ◌≤◌, inl, inr, ℤ, pos, negsuc, ◌+ℤ◌, ◌-ℤ◌, ◌*ℤ◌, neg_ℤ, int_div, refl, arith}
 use Rattle.std.proofs.Math.Nat.{zero-div, div-le_of_le-mul, mul_comm}
 use Rattle.std.proofs.lemmas.Bool.{le-leb}
 use Rattle.std.proofs.lemmas.Bool.Decides.{leb_tells}
@@ -48,6 +48,6 @@ IsBetween-end from to = (omega (arith, ints, clamps), omega (arith, ints, clamps
 pub IsBetween-along : (from to : ℤ) (j d : ℕ) → IsBetween from to (along from to j d)
 IsBetween-along from to j d =
     elim (leb_tells d j) [
-      inl w ↦ rw (along-end from to j d w.1) (IsBetween-end from to)
-    | inr w ↦ rw (along-part from to j d w.1) (rw (whole_way from to) at (IsBetween-part from (to -ℤ from) j d w.1))
+      | inl w ↦ rw (along-end from to j d w.1) (IsBetween-end from to)
+      | inr w ↦ rw (along-part from to j d w.1) (rw (whole_way from to) at (IsBetween-part from (to -ℤ from) j d w.1))
     ]

@@ -1,5 +1,5 @@
 -- Clips, and the raw clip file.
-use Rattle.std.specs.Prelude.{◌≡◌, ℕ, ◌+◌, ◌*◌, ◌≤◌, List, ◌++◌, length, codes}
+use Rattle.std.specs.Prelude.{◌≡◌, ℕ, ◌*◌, ◌≤◌, List, ◌++◌, length, codes}
 use Rattle.std.specs.Int.{w16, w32, to_be_bytes}
 use Rattle.play_types.specs.declared.geometry.Geometry.{Geometry}
 use Rattle.play_types.specs.Geometry.{IsSize, frame_bytes}

@@ -15,9 +15,7 @@ impl Geometry {
     pub fn is_in_range(self) -> bool
         ensures { IsTrue result ↔ IsSize self.width self.height self.pairs }
     {
-        (1..=4096).contains(&self.width)
-            && (1..=4096).contains(&self.height)
-            && self.pairs <= 4096
+        (1..=4096).contains(&self.width) && (1..=4096).contains(&self.height) && self.pairs <= 4096
     }
 
     /// The bytes of one frame: four a pixel, then four a pair.

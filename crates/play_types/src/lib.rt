@@ -11,6 +11,7 @@ mod command;
 mod config;
 mod drawn;
 mod event;
+mod examples;
 mod geometry;
 mod laws;
 mod media;
@@ -34,3 +35,6 @@ pub use setting::{Prop, Setting};
 pub use take::{Spec, Take};
 pub use text::Text;
 pub use transition::{Curve, Kind, Trans};
+
+#[cfg(test)]
+mod tests;

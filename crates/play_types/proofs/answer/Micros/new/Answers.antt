@@ -1,4 +1,4 @@
-use Rattle.std.proofs.Common.{◌≡◌, ◌-◌, ◌∙◌, ℤ, pos, length, take, drop, replicate, All, ap, sym, rules, arith}
+use Rattle.std.proofs.Common.{◌≡◌, ◌-◌, ◌∙◌, pos, length, take, drop, replicate, All, ap, rules, arith}
 use Rattle.std.proofs.lemmas.List.Elements.{All-same, All-append, All-replicate}
 use Rattle.play_types.specs.Setting.{IsWide}
 use Rattle.play_types.proofs.Kept.{kept_is, rest_is}
@@ -13,7 +13,7 @@ invariant_of-result c =
     record {
       few = omega arith;
       in_range = All-same IsWide _ _ kept (All-append IsWide _ _ wide (All-replicate IsWide (4 - n) (pos 0) (search rules)));
-      unused = ap (drop n) kept ∙ rest_is c.args.values (replicate (4 - n) (pos 0)) n (omega arith)
+      unused = ap (drop n) kept ∙ rest_is c.args.values (replicate (4 - n) (pos 0)) n (omega arith);
     }
 
 pub returns-clause-value : goal.returns-clause-value

@@ -1,5 +1,4 @@
 use Rattle.std.proofs.Common.{◌≡◌, ◌-◌, ◌∙◌, length, drop, replicate, ap, rules, arith}
-use Rattle.play_types.specs.declared.answer.Status.{Status}
 use Rattle.play_types.specs.declared.answer.Status.TheVariants.{Empty}
 use Rattle.play_types.proofs.Kept.{kept_is, rest_is}
 use Rattle.play_types.proofs.answer.StatusList.new.Goals as goal
@@ -11,7 +10,7 @@ invariant_of-result c =
     let kept = kept_is _ c.args.channels n 16 c.from-2.result c.from.result Empty c.copy_from_slice.ensures.after c.from-2.ensures c.from.ensures in
     record {
       few = omega arith;
-      unused = ap (drop n) kept ∙ rest_is c.args.channels (replicate (16 - n) Empty) n (omega arith)
+      unused = ap (drop n) kept ∙ rest_is c.args.channels (replicate (16 - n) Empty) n (omega arith);
     }
 
 pub returns-clause-value : goal.returns-clause-value

@@ -8,7 +8,8 @@ pub returns : goal.returns
 returns c =
     let mine = c.as_str.result.now in
     let theirs = c.args.other.now in
-    let same = bytes_eq-Decides mine theirs in
-    (λ h. sym c.as_str.ensures ∙ ap chars (same.0 (search rules)),
-     λ h. let e : mine ≡ theirs = chars_same mine theirs c.as_str.utf8 c.utf8.other (c.as_str.ensures ∙ h) in
-          let equal = same.1 e in search rules)
+    let same = bytes_eq-Decides mine theirs in (
+      λ h. sym c.as_str.ensures ∙ ap chars (same.0 (search rules)),
+      λ h. let e : mine ≡ theirs = chars_same mine theirs c.as_str.utf8 c.utf8.other (c.as_str.ensures ∙ h) in
+          let equal = same.1 e in search rules,
+    )

@@ -8,6 +8,10 @@ pub record PixelView : Type 0 where
   pub r : ℕ
   pub a : ℕ
 
+-- the pixel of these bytes
+abbrev pub pixel_of : ℕ → ℕ → ℕ → ℕ → PixelView
+pixel_of b g r a = record { b = b; g = g; r = r; a = a }
+
 -- each colour is at or below the alpha, and the alpha is one byte
 pub record IsPixel (p : PixelView) : Type 0 where
   pub blue : p.b ≤ p.a
@@ -17,37 +21,40 @@ pub record IsPixel (p : PixelView) : Type 0 where
 
 -- the pixel of nothing
 abbrev pub transparent : PixelView
-transparent = record { b = 0; g = 0; r = 0; a = 0 }
+transparent = pixel_of 0 0 0 0
 
 -- these bytes, each colour above the alpha cut to the alpha
 abbrev pub lowered : ℕ → ℕ → ℕ → ℕ → PixelView
-lowered b g r a = record { b = min b a; g = min g a; r = min r a; a = a }
+lowered b g r a = pixel_of (min b a) (min g a) (min r a) a
 
 -- a byte times a number of 255ths, rounded to the nearest byte
 abbrev pub scaled : ℕ → ℕ → ℕ
 scaled value by = (value * by + 127) / 255
 
--- the bytes of a colour 0xAARRGGBB
+-- the colour 0xAARRGGBB of its four bytes
+abbrev pub colour_value : ℕ → ℕ → ℕ → ℕ → ℕ
+colour_value alpha red green blue = ((alpha * 0x100 + red) * 0x100 + green) * 0x100 + blue
+
+-- the alpha byte of a colour 0xAARRGGBB
 abbrev pub alpha_of : ℕ → ℕ
 alpha_of value = value / 0x1000000 % 0x100
 
+-- its red byte
 abbrev pub red_of : ℕ → ℕ
 red_of value = value / 0x10000 % 0x100
 
+-- its green byte
 abbrev pub green_of : ℕ → ℕ
 green_of value = value / 0x100 % 0x100
 
+-- its blue byte
 abbrev pub blue_of : ℕ → ℕ
 blue_of value = value % 0x100
 
 -- the pixel of a colour 0xAARRGGBB, whose colours are not yet multiplied by its alpha
 abbrev pub colour_pixel : ℕ → PixelView
-colour_pixel value = record {
-  b = scaled (blue_of value) (alpha_of value);
-  g = scaled (green_of value) (alpha_of value);
-  r = scaled (red_of value) (alpha_of value);
-  a = alpha_of value;
-}
+colour_pixel value =
+    pixel_of (scaled (blue_of value) (alpha_of value)) (scaled (green_of value) (alpha_of value)) (scaled (red_of value) (alpha_of value)) (alpha_of value)
 
 -- the four bytes as they stand in a frame
 abbrev pub pixel_bytes : PixelView → List ℕ

@@ -1,6 +1,6 @@
 //! What a pixel is.
 ghost use Rattle.std.specs.Prelude.{◌≡◌};
-ghost use Rattle.pixel_math.specs.Pixel.{IsPixel, colour_pixel, lowered, pixel_bytes, transparent};
+ghost use Rattle.pixel_math.specs.Pixel.{IsPixel, colour_pixel, lowered, pixel_bytes, pixel_of, transparent};
 
 use crate::byte::scaled;
 use std::marker::Model;
@@ -15,13 +15,13 @@ pub struct Pixel {
 }
 
 impl Model for Pixel {
-    ghost use Rattle.pixel_math.specs.Pixel.{PixelView, IsPixel};
+    ghost use Rattle.pixel_math.specs.Pixel.{PixelView, IsPixel, pixel_of};
 
     ghost Value = { PixelView };
 
-    ghost view = { λ p. record { b = p.b; g = p.g; r = p.r; a = p.a } };
+    ghost view = { λ p. pixel_of p.b p.g p.r p.a };
 
-    ghost invariant = { λ p. IsPixel (record { b = p.b; g = p.g; r = p.r; a = p.a }) };
+    ghost invariant = { λ p. IsPixel (pixel_of p.b p.g p.r p.a) };
 
     ghost inverse = { λ v. record { b = v.b; g = v.g; r = v.r; a = v.a } };
 }
@@ -37,6 +37,14 @@ impl Pixel {
             r: 0,
             a: 0,
         }
+    }
+
+    /// These bytes, of which no colour is above the alpha.
+    pub(crate) fn new(b: u8, g: u8, r: u8, a: u8) -> Pixel
+        requires { IsPixel (pixel_of b g r a) }
+        ensures { result ≡ pixel_of b g r a }
+    {
+        Pixel { b, g, r, a }
     }
 
     /// These bytes, with each colour above the alpha cut to the alpha.

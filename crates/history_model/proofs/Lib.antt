@@ -4,3 +4,4 @@ pub mod Events
 pub mod Later
 pub mod Liveness
 pub mod Placing
+pub mod Colours

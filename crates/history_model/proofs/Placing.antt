@@ -1,10 +1,11 @@
 -- Placing by the default values: every column and row shows itself, and a pixel is the raster's.
-use Rattle.std.proofs.Common.{◌≡◌, ℕ, zero, suc, ◌+◌, ◌-◌, ◌*◌, ◌/◌, ◌<◌, ◌≤◌, Bool, true, false, ◌&&◌, ltb, List, [], ◌∷◌, ℤ, pos, negsuc, ◌+ℤ◌, ◌-ℤ◌, ◌*ℤ◌, neg_ℤ, refl, sym, ap, ap₂, ◌∙◌, arith, add-zero, mul-zero, lt-ltb, if◌then◌else◌}
+use Rattle.std.proofs.Common.{◌≡◌, ℕ, zero, suc, ◌+◌, ◌-◌, ◌*◌, ◌/◌, ◌<◌, ◌≤◌, Bool, true, false, ◌&&◌, ltb, List, [], ◌∷◌, ℤ, pos, negsuc, ◌+ℤ◌, ◌-ℤ◌, ◌*ℤ◌, neg_ℤ, refl, sym, ap, ap₂, ◌∙◌, arith, add-zero, mul-zero, lt-ltb, le-leb, if◌then◌else◌}
 use Rattle.std.specs.Prelude.{Option, Some, None, int_le, int_lt}
 use Rattle.play_types.specs.declared.geometry.Geometry.{Geometry}
 use Rattle.play_types.specs.declared.setting.Prop.TheVariants.{Fill, Clip}
 use Rattle.pixel_math.specs.Pixel.{PixelView}
-use Rattle.pixel_math.specs.Arithmetic.{fade, fade_byte}
+use Rattle.pixel_math.specs.Arithmetic.{fade}
+use Rattle.pixel_math.proofs.Pixels.{fade_whole}
 use Rattle.history_model.specs.Value.{default_of}
 use Rattle.history_model.specs.Placing.{floor_div, inside, middle, doubled, filled, is_kept, visible, faded_at, placed_pixel}
 
@@ -24,10 +25,6 @@ filled-default width x h =
     ∙ ap (λ n. inside width (pos n)) (middle_column x)
     ∙ ap (λ (t : Bool). if t then Some x else None) (lt-ltb x width h)
 
--- 0 is no more than any whole number
-int_le-zero : (n : ℕ) → int_le (pos 0) (pos n) ≡ true
-int_le-zero n = refl
-
 -- and is kept
 pub is_kept-default : (width x : ℕ) → x < width → is_kept width (pos 0) (pos 1000000) x ≡ true
 is_kept-default width x h =
@@ -35,7 +32,7 @@ is_kept-default width x h =
     ∙ ap (λ t. int_le (pos 0) (middle x) && t)
         (let below : (2 * x + 1) * 1000000 < 2 * width * 1000000 = omega arith in
          lt-ltb ((2 * x + 1) * 1000000) (2 * width * 1000000) below)
-    ∙ ap (λ t. t && true) (let above : 0 ≤ (2 * x + 1) * 1000000 = omega arith in int_le-zero ((2 * x + 1) * 1000000))
+    ∙ ap (λ t. t && true) (let above : 0 ≤ (2 * x + 1) * 1000000 = omega arith in le-leb 0 ((2 * x + 1) * 1000000) above)
 
 -- every raster column and row shows itself by the default fill and clip
 pub visible-default_columns : (width x : ℕ) → x < width → visible width (default_of Fill) (default_of Clip) 0 x ≡ Some x
@@ -48,18 +45,10 @@ visible-default_rows height y h =
     ap (λ (t : Bool). if t then filled height (pos 0) (pos 1000000) y else None) (is_kept-default height y h)
     ∙ filled-default height y h
 
--- opacity 1 leaves a pixel
-fade_byte-full : (value : ℕ) → fade_byte value 1000000 ≡ value
-fade_byte-full value = omega arith
-
-pub fade-full : (p : PixelView) → fade p 1000000 ≡ p
-fade-full p =
-    λ i. record { b = fade_byte-full p.b i; g = fade_byte-full p.g i; r = fade_byte-full p.r i; a = fade_byte-full p.a i }
-
 -- by the default fill and clip a placed pixel is the raster's pixel there at the opacity, and at opacity 1 it is that pixel
 pub placed_pixel-default : (frame : Geometry) (raster : ℕ → ℕ → PixelView) (x y : ℕ) → x < frame.width → y < frame.height →
   placed_pixel frame (default_of Fill) (default_of Clip) (pos 1000000) raster x y ≡ raster x y
 placed_pixel-default frame raster x y h k =
     ap₂ (λ column row. faded_at column row raster 1000000)
       (visible-default_columns frame.width x h) (visible-default_rows frame.height y k)
-    ∙ fade-full (raster x y)
+    ∙ fade_whole (raster x y)

@@ -1,6 +1,6 @@
 -- Acts: the accepted commands of a history. In each list of acts the last act stands first.
-use Rattle.std.specs.Prelude.{ℕ, false, List, [], ◌∷◌}
-use Rattle.play_types.specs.Take.{TakeView}
+use Rattle.std.specs.Prelude.{ℕ, List, [], ◌∷◌}
+use Rattle.play_types.specs.Take.{played}
 use Rattle.play_types.specs.declared.command.Cmd.{Cmd}
 use Rattle.play_types.specs.declared.command.Cmd.TheVariants.{LoadBg, Play, PlayTake, Value, Info}
 
@@ -9,14 +9,10 @@ pub record Act : Type 0 where
   pub cmd : Cmd
   pub ticks : ℕ
 
--- a take that does not start by itself
-abbrev pub without_auto : TakeView → TakeView
-without_auto take = record take { auto = false }
-
 -- the acts of a command that comes after so many ticks: queries give none, a play of a take gives a load and a play
 abbrev pub acts_of : ℕ → Cmd → List Act
 acts_of ticks (PlayTake place take) =
-    record { cmd = Play place; ticks = ticks } ∷ record { cmd = LoadBg place (without_auto take); ticks = ticks } ∷ []
+    record { cmd = Play place; ticks = ticks } ∷ record { cmd = LoadBg place (played take); ticks = ticks } ∷ []
 acts_of ticks (Value place prop) = []
 acts_of ticks Info = []
 acts_of ticks cmd = record { cmd = cmd; ticks = ticks } ∷ []

@@ -14,5 +14,6 @@ pub mod Frame
 pub mod Sound
 pub mod Answer
 pub mod Steps
+pub mod ColourHistory
 pub mod Touched
 pub mod Worked

@@ -1,7 +1,6 @@
 -- What stands at a place: its foreground and its background.
 use Rattle.std.specs.Prelude.{ℕ, zero, suc, ◌+◌, ◌-◌, Bool, true, false, not, ◌&&◌, List, [], ◌∷◌, nat_lt, Option, Some, None, option_map, if◌then◌else◌}
-use Rattle.play_types.specs.Take.{TakeView}
-use Rattle.play_types.specs.Transition.{cut}
+use Rattle.play_types.specs.Take.{TakeView, loaded}
 use Rattle.play_types.specs.declared.transition.Kind.{Kind}
 use Rattle.play_types.specs.declared.transition.Kind.TheVariants.{Cut}
 use Rattle.play_types.specs.declared.take.Spec.{Spec}
@@ -105,19 +104,19 @@ abbrev pub with_pause : Bool → Life → Life
 with_pause paused s = record s { front = option_map (marked paused) s.front }
 
 -- a play starts the background, or without one unpauses the foreground
-abbrev pub played : Option TakeView → Life → Life
-played None s = with_pause false s
-played (Some take) s = start s
+abbrev pub after_play : Option TakeView → Life → Life
+after_play None s = with_pause false s
+after_play (Some take) s = start s
 
--- the first picture of a take, paused: its transition is a cut, and it does not start by itself
-abbrev pub loaded : TakeView → Foreground
-loaded take = record { take = record take { trans = cut; auto = false }; shown = 0; paused = true; old = None }
+-- the first picture of a take as a load keeps it, paused
+abbrev pub cued : TakeView → Foreground
+cued take = record { take = loaded take; shown = 0; paused = true; old = None }
 
 -- what a command on the place makes of it
 abbrev pub effect : Cmd → Life → Life
-effect (Load at take) s = record { front = Some (loaded take); back = None }
+effect (Load at take) s = record { front = Some (cued take); back = None }
 effect (LoadBg at take) s = record s { back = Some take }
-effect (Play at) s = played s.back s
+effect (Play at) s = after_play s.back s
 effect (Pause at) s = with_pause true s
 effect (Resume at) s = with_pause false s
 effect (StopLayer at) s = record s { front = None }

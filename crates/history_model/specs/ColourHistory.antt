@@ -54,6 +54,6 @@ last_colour [] = None
 last_colour (event ∷ later) = option_or (last_colour later) (event_colour event)
 
 -- the pixel of a colour, transparent without one
-abbrev pub pixel_of : Option ℕ → PixelView
-pixel_of None = transparent
-pixel_of (Some value) = colour_pixel value
+abbrev pub pixel_of_colour : Option ℕ → PixelView
+pixel_of_colour None = transparent
+pixel_of_colour (Some value) = colour_pixel value

@@ -48,6 +48,14 @@ pub frame_sample-same : (setup : Setup) (g h : List Event) → SameHistory setup
 unfolding frame_sample
 frame_sample-same setup g h s = (IsSame-cons setup Tick (reverse g) (reverse h) s).sounds
 
+pub pixel-same : (setup : Setup) (g h : List Event) → SameHistory setup g h →
+  (channel x y : ℕ) → frame_pixel setup g channel x y ≡ frame_pixel setup h channel x y
+pixel-same setup g h s channel x y = λ i. frame_pixel-same setup g h s i channel x y
+
+pub sample-same : (setup : Setup) (g h : List Event) → SameHistory setup g h →
+  (channel pair side : ℕ) → frame_sample setup g channel pair side ≡ frame_sample setup h channel pair side
+sample-same setup g h s channel pair side = λ i. frame_sample-same setup g h s i channel pair side
+
 pub value-same : (setup : Setup) (g h : List Event) → SameHistory setup g h →
   (place : PlaceView) (prop : Prop) (now : ℕ) → value g place prop now ≡ value h place prop now
 unfolding value

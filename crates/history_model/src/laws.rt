@@ -1,0 +1,7 @@
+//! Laws of the definitions. Each is a function that does nothing, and its contract is the law.
+
+pub mod colours;
+pub mod histories;
+pub mod lives;
+pub mod placing;
+pub mod trails;

@@ -1,10 +1,10 @@
 -- Events that change nothing later: queries and refused events. What is the same of two histories stays the same.
-use Rattle.std.proofs.Common.{◌≡◌, ℕ, ◌+◌, Bool, true, false, not, ltb, List, [], ◌∷◌, ◌++◌, reverse, length, map, ℤ, pos, refl, sym, ap, ap₂, ◌∙◌, arith, if◌then◌else◌, unwrap_or, is_none, append_assoc, add_comm}
+use Rattle.std.proofs.Common.{◌≡◌, ◌+◌, Bool, true, false, List, [], ◌∷◌, ◌++◌, reverse, refl, sym, ap, ap₂, ◌∙◌, if◌then◌else◌, unwrap_or, is_none, append_assoc, add_comm}
 use Rattle.std.proofs.lemmas.List.{reverse-append}
-use Rattle.std.specs.Prelude.{Option, Some, None, flat_map, filter_map}
-use Rattle.std.specs.List.{list_any, range_with_len}
+use Rattle.std.specs.Prelude.{Option, Some, None}
+use Rattle.std.specs.List.{list_any}
 use Rattle.play_types.specs.Place.{PlaceView}
-use Rattle.play_types.specs.History.{ticks, is_stop}
+use Rattle.play_types.specs.History.{ticks}
 use Rattle.play_types.specs.declared.setting.Prop.{Prop}
 use Rattle.play_types.specs.declared.command.Cmd.{Cmd}
 use Rattle.play_types.specs.declared.command.Cmd.TheVariants.{Value, Info}
@@ -12,11 +12,9 @@ use Rattle.play_types.specs.declared.event.Tag.{Tag}
 use Rattle.play_types.specs.declared.event.Event.{Event}
 use Rattle.play_types.specs.declared.event.Event.TheVariants.{Do, Batch, Tick, Stop}
 use Rattle.play_types.proofs.Histories.{ticks-append}
-use Rattle.pixel_math.specs.Pixel.{PixelView}
 use Rattle.history_model.specs.Act.{Act}
-use Rattle.history_model.specs.Life.{Foreground}
 use Rattle.history_model.specs.Live.{front_at}
-use Rattle.history_model.specs.Acts.{acts, acts_back, is_over, channels, with_event, is_refused}
+use Rattle.history_model.specs.Acts.{acts, acts_back, is_over, channels, with_event}
 use Rattle.history_model.specs.Media.{Setup, size}
 use Rattle.history_model.specs.Source.{last_fronts}
 use Rattle.history_model.specs.Scene.{scene_of}
@@ -33,23 +31,23 @@ pub record IsSame (setup : Setup) (a b : List Event) : Type 0 where
 
 -- it is the same after one event more
 entered : (event : Event) (a b : List Event) → acts_back a ≡ acts_back b → ticks a ≡ ticks b →
-  acts_back (event ∷ a) ≡ acts_back (event ∷ b)
+    acts_back (event ∷ a) ≡ acts_back (event ∷ b)
 entered event a b p q = ap₂ (λ acts now. unwrap_or (with_event acts now event) acts) p q
 
 shown_frames : (setup : Setup) (a b : List Event) → IsSame setup a b →
-  frames_back setup (Tick ∷ a) ≡ frames_back setup (Tick ∷ b)
+    frames_back setup (Tick ∷ a) ≡ frames_back setup (Tick ∷ b)
 shown_frames setup a b h =
     λ i. λ channel x y.
-      scene_pixel setup (h.frames i) (size setup channel) (scene_of (h.acts i) (h.ticks i) (h.fronts i) channel) x y
+    scene_pixel setup (h.frames i) (size setup channel) (scene_of (h.acts i) (h.ticks i) (h.fronts i) channel) x y
 
 shown_sounds : (setup : Setup) (a b : List Event) → IsSame setup a b →
-  sounds_back setup (Tick ∷ a) ≡ sounds_back setup (Tick ∷ b)
+    sounds_back setup (Tick ∷ a) ≡ sounds_back setup (Tick ∷ b)
 shown_sounds setup a b h =
     λ i. λ channel pair side.
-      scene_sample setup (h.sounds i) (scene_of (h.acts i) (h.ticks i) (h.fronts i) channel) pair side
+    scene_sample setup (h.sounds i) (scene_of (h.acts i) (h.ticks i) (h.fronts i) channel) pair side
 
 pub IsSame-cons : (setup : Setup) (event : Event) (a b : List Event) → IsSame setup a b →
-  IsSame setup (event ∷ a) (event ∷ b)
+    IsSame setup (event ∷ a) (event ∷ b)
 IsSame-cons setup (Do tag cmd) a b h = record {
   acts = entered (Do tag cmd) a b h.acts h.ticks;
   ticks = h.ticks;
@@ -81,17 +79,17 @@ IsSame-cons setup (Stop tag) a b h = record {
 
 -- and after any events more
 pub IsSame-append : (setup : Setup) (later a b : List Event) → IsSame setup a b →
-  IsSame setup (later ++ a) (later ++ b)
+    IsSame setup (later ++ a) (later ++ b)
 IsSame-append setup [] a b h = h
 IsSame-append setup (event ∷ later) a b h = IsSame-cons setup event (later ++ a) (later ++ b) (IsSame-append setup later a b h)
 
 -- a command or a batch that leaves the acts leaves all
 pub IsSame-do : (setup : Setup) (tag : Tag) (cmd : Cmd) (back : List Event) →
-  acts_back (Do tag cmd ∷ back) ≡ acts_back back → IsSame setup (Do tag cmd ∷ back) back
+    acts_back (Do tag cmd ∷ back) ≡ acts_back back → IsSame setup (Do tag cmd ∷ back) back
 IsSame-do setup tag cmd back e = record { acts = e; ticks = refl; fronts = refl; frames = refl; sounds = refl }
 
 pub IsSame-batch : (setup : Setup) (tag : Tag) (cmds : List Cmd) (back : List Event) →
-  acts_back (Batch tag cmds ∷ back) ≡ acts_back back → IsSame setup (Batch tag cmds ∷ back) back
+    acts_back (Batch tag cmds ∷ back) ≡ acts_back back → IsSame setup (Batch tag cmds ∷ back) back
 IsSame-batch setup tag cmds back e = record { acts = e; ticks = refl; fronts = refl; frames = refl; sounds = refl }
 
 -- a query leaves the acts, whether a channel is over a limit or not
@@ -100,7 +98,7 @@ kept true acts = refl
 kept false acts = refl
 
 pub acts_back-value : (tag : Tag) (place : PlaceView) (prop : Prop) (back : List Event) →
-  acts_back (Do tag (Value place prop) ∷ back) ≡ acts_back back
+    acts_back (Do tag (Value place prop) ∷ back) ≡ acts_back back
 acts_back-value tag place prop back =
     kept (list_any (is_over (acts_back back) (ticks back)) (channels (acts_back back))) (acts_back back)
 
@@ -118,7 +116,7 @@ none_kept None acts e = refl
 none_kept (Some more) acts e = cc
 
 pub acts_back-refused : (event : Event) (back : List Event) → is_none (with_event (acts_back back) (ticks back) event) ≡ true →
-  acts_back (event ∷ back) ≡ acts_back back
+    acts_back (event ∷ back) ≡ acts_back back
 acts_back-refused event back e = none_kept (with_event (acts_back back) (ticks back) event) (acts_back back) e
 
 -- a history read backward has as many ticks
@@ -131,7 +129,7 @@ ticks-reverse (event ∷ history) =
 
 -- an event in the middle of a history, read backward
 pub reverse-middle : (before : List Event) (event : Event) (later : List Event) →
-  reverse (before ++ event ∷ later) ≡ reverse later ++ (event ∷ reverse before)
+    reverse (before ++ event ∷ later) ≡ reverse later ++ (event ∷ reverse before)
 reverse-middle before event later =
     reverse-append before (event ∷ later)
     ∙ ap (λ xs. xs ++ reverse before) (reverse-append (event ∷ []) later)

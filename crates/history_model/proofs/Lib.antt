@@ -5,3 +5,4 @@ pub mod Later
 pub mod Liveness
 pub mod Placing
 pub mod Colours
+pub mod Frames

@@ -1,5 +1,5 @@
 -- Ticks change neither which places are live nor where their contents came from.
-use Rattle.std.proofs.Common.{◌≡◌, ℕ, ◌-◌, ◌<◌, ◌≤◌, Bool, true, false, ◌||◌, List, [], ◌∷◌, ◌++◌, reverse, refl, sym, ap, ◌∙◌, ◌⊎◌, inl, inr, arith, is_some}
+use Rattle.std.proofs.Common.{◌≡◌, ℕ, ◌-◌, ◌<◌, ◌≤◌, Bool, true, false, ◌||◌, List, [], ◌∷◌, ◌++◌, refl, sym, ap, ◌∙◌, ◌⊎◌, inl, inr, arith, is_some}
 use Rattle.std.proofs.lemmas.List.{reverse-append}
 use Rattle.std.specs.Prelude.{Option, Some, None, option_map, filter}
 use Rattle.play_types.specs.Place.{PlaceView}
@@ -8,8 +8,8 @@ use Rattle.play_types.specs.declared.event.Event.{Event}
 use Rattle.play_types.specs.declared.event.Event.TheVariants.{Tick}
 use Rattle.history_model.specs.Act.{Act}
 use Rattle.history_model.specs.Trail.{trail}
-use Rattle.history_model.specs.Life.{Foreground, Life, empty, shown_for, run_for, start, start_of, delay, delay_of, after, effect, life}
-use Rattle.history_model.specs.Live.{state, is_live, live_layers, layers}
+use Rattle.history_model.specs.Life.{Foreground, Life, shown_for, run_for, start_of, delay, delay_of, after, effect, life}
+use Rattle.history_model.specs.Live.{is_live, live_layers, layers}
 use Rattle.history_model.specs.Acts.{acts, acts_back}
 use Rattle.history_model.proofs.Lives.{after-none, after-early, after-late}
 
@@ -27,7 +27,7 @@ or_true false = refl
 
 -- a place with a delay has a background, and a foreground once that has started
 is_live-start_of : (back : Option TakeView) (front ran : Option Foreground) (a k : ℕ) → delay_of back front ≡ Some a →
-  is_live (run_for k (start_of back (record { front = ran; back = back }))) ≡ is_live (record { front = front; back = back })
+    is_live (run_for k (start_of back (record { front = ran; back = back }))) ≡ is_live (record { front = front; back = back })
 is_live-start_of None front ran a k e = cc
 is_live-start_of (Some take) front ran a k e = or_true (is_some front)
 

@@ -1,4 +1,4 @@
--- Acts: the accepted commands of a history. In each list of acts the last act stands first.
+-- Acts: what the accepted commands of a history do. In each list of acts the last act stands first.
 use Rattle.std.specs.Prelude.{ℕ, List, [], ◌∷◌}
 use Rattle.play_types.specs.Take.{played}
 use Rattle.play_types.specs.declared.command.Cmd.{Cmd}
@@ -9,7 +9,7 @@ pub record Act : Type 0 where
   pub cmd : Cmd
   pub ticks : ℕ
 
--- the acts of a command that comes after so many ticks: queries give none, a play of a take gives a load and a play
+-- the acts of a command after so many ticks: a play of a take gives a background and a play, and queries give none
 abbrev pub acts_of : ℕ → Cmd → List Act
 acts_of ticks (PlayTake place take) =
     record { cmd = Play place; ticks = ticks } ∷ record { cmd = LoadBg place (played take); ticks = ticks } ∷ []

@@ -7,10 +7,10 @@ use Rattle.play_types.specs.declared.command.Cmd.TheVariants.{Load, LoadBg, Swap
 use Rattle.play_types.specs.declared.event.Event.{Event}
 use Rattle.play_types.specs.declared.event.Event.TheVariants.{Do, Batch, Tick, Stop}
 use Rattle.history_model.specs.Act.{Act, acts_of}
-use Rattle.history_model.specs.Resolved.{waiting}
+use Rattle.history_model.specs.Resolved.{waiting_settings}
 use Rattle.history_model.specs.Live.{with_number, live_layers}
 
--- the channels to which a command can bring a content or a waiting setting
+-- the channels with those to which a command can bring a content or a waiting setting
 abbrev pub with_channels_of : Cmd → List ℕ → List ℕ
 with_channels_of (Load place take) channels = with_number place.channel channels
 with_channels_of (LoadBg place take) channels = with_number place.channel channels
@@ -27,9 +27,9 @@ channels (act ∷ before) = with_channels_of act.cmd (channels before)
 -- whether a channel has more than 64 live places or more than 1,024 waiting settings
 abbrev pub is_over : List Act → ℕ → ℕ → Bool
 is_over acts ticks channel =
-    nat_lt 64 (length (live_layers acts ticks channel)) || nat_lt 1024 (length (waiting acts channel))
+    nat_lt 64 (length (live_layers acts ticks channel)) || nat_lt 1024 (length (waiting_settings acts channel))
 
--- the acts with those of a command after so many ticks, none where it is refused: some channel is then over a limit
+-- the acts with those of a command after so many ticks, none where it is refused since a channel is then over a limit
 abbrev pub with_command : List Act → ℕ → Cmd → Option (List Act)
 with_command acts ticks cmd =
     let more = acts_of ticks cmd ++ acts in
@@ -54,7 +54,7 @@ acts_back [] = []
 acts_back (event ∷ before) =
     let earlier = acts_back before in unwrap_or (with_event earlier (ticks before) event) earlier
 
--- the acts of a history
+-- the acts of a history, the last one first
 unfoldable pub acts : List Event → List Act
 acts history = acts_back (reverse history)
 

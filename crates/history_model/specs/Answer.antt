@@ -23,12 +23,12 @@ use Rattle.history_model.specs.Media.{Setup, size}
 use Rattle.history_model.specs.Frame.{frame_pixel}
 use Rattle.history_model.specs.Sound.{frame_sample}
 
--- what a channel shows at a tick: its pixels row by row from the top, each row from the left, and its samples pair by pair, left then right
+-- a channel at a tick: its pixels row by row from the top left, and its samples pair by pair, left then right
 pub record ChannelFrame : Type 0 where
   pub pixels : List PixelView
   pub samples : List ℤ
 
--- the answer to an event: to a tick the frames of all channels, channel 1 first, to a stop its position, to others that of the stage
+-- to a tick every channel's frame, channel 1 first, to a command or a batch the stage's answer, to a stop its position
 pub data StageAnswer : Type 0 where
   Frames : List ChannelFrame → StageAnswer
   Answered : Answer → StageAnswer
@@ -67,13 +67,13 @@ number_count Clip = 4
 number_count Volume = 1
 number_count Keyer = 1
 
--- the foreground of a layer of a channel after the acts, once so many ticks have passed in all
-abbrev pub standing : List Act → ℕ → ℕ → ℕ → Option Foreground
-standing acts ticks channel layer = (state acts ticks (record { channel = channel; layer = layer })).front
+-- the foreground of a layer of a channel after the acts and so many ticks
+abbrev pub standing_front : List Act → ℕ → ℕ → ℕ → Option Foreground
+standing_front acts ticks channel layer = (state acts ticks (record { channel = channel; layer = layer })).front
 
--- the foregrounds of a channel, in rising layer
-abbrev pub fronts : List Act → ℕ → ℕ → List Foreground
-fronts acts ticks channel = filter_map (standing acts ticks channel) (layers acts)
+-- the foregrounds of a channel after the acts and so many ticks, in rising layer
+abbrev pub channel_fronts : List Act → ℕ → ℕ → List Foreground
+channel_fronts acts ticks channel = filter_map (standing_front acts ticks channel) (layers acts)
 
 -- playing where some foreground is not paused, else paused where there is one, else empty
 abbrev pub status_of : List Foreground → Status
@@ -84,12 +84,12 @@ status_of (front ∷ more) =
 -- the status of each channel after a history
 abbrev pub statuses : Setup → List Event → List Status
 statuses setup history =
-    map (λ channel. status_of (fronts (acts history) (ticks history) channel)) (channel_numbers setup)
+    map (λ channel. status_of (channel_fronts (acts history) (ticks history) channel)) (channel_numbers setup)
 
 -- refused, or done
-abbrev pub outcome : Bool → Answer
-outcome true = Refused
-outcome false = Done
+abbrev pub outcome_of : Bool → Answer
+outcome_of true = Refused
+outcome_of false = Done
 
 -- the answer to a command after a history, by whether it is refused
 abbrev pub command_answer : Setup → List Event → Bool → Cmd → Answer
@@ -97,11 +97,11 @@ command_answer setup history refused (ValueOf place prop) =
     Value (micros_of (value history place prop (ticks history)) (number_count prop))
 command_answer setup history refused InfoOf =
     Info (status_list_of (statuses setup history) (length setup.channels))
-command_answer setup history refused cmd = outcome refused
+command_answer setup history refused cmd = outcome_of refused
 
 -- the answer to an event after a history
 unfoldable pub answer : Setup → List Event → Event → StageAnswer
 answer setup history (Do tag cmd) = Answered (command_answer setup history (is_refused history (Do tag cmd)) cmd)
-answer setup history (Batch tag cmds) = Answered (outcome (is_refused history (Batch tag cmds)))
+answer setup history (Batch tag cmds) = Answered (outcome_of (is_refused history (Batch tag cmds)))
 answer setup history Tick = Frames (map (channel_frame setup history) (channel_numbers setup))
 answer setup history (Stop tag) = Stopped (length history)

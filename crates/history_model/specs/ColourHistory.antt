@@ -1,5 +1,5 @@
 -- Histories that play colours on layer 0 of channel 1 with cuts, and ticks.
-use Rattle.std.specs.Prelude.{◌≡◌, ℕ, Bool, false, List, [], ◌∷◌, Option, Some, None}
+use Rattle.std.specs.Prelude.{◌≡◌, ℕ, false, List, [], ◌∷◌, Option, Some, None}
 use Rattle.std.specs.Option.{option_or}
 use Rattle.play_types.specs.Place.{PlaceView}
 use Rattle.play_types.specs.Take.{TakeView}

@@ -12,16 +12,16 @@ use Rattle.history_model.specs.Placing.{placed_pixel}
 use Rattle.history_model.specs.Scene.{scene_back}
 
 -- the pixel keyed by the nearest layer below, where that is a keyer
-abbrev pub keyed : (Drawn → PixelView) → List Drawn → PixelView → PixelView
-keyed placed [] s = s
-keyed placed (next ∷ below) s = if next.keyer then key s (placed next).r else s
+abbrev pub keyed_pixel : (Drawn → PixelView) → List Drawn → PixelView → PixelView
+keyed_pixel placed [] s = s
+keyed_pixel placed (next ∷ below) s = if next.keyer then key s (placed next).r else s
 
--- the pixel of layers that lie over one another, the uppermost first, by each layer's placed pixel: a keyer is not shown
-abbrev pub composed : (Drawn → PixelView) → List Drawn → PixelView
-composed placed [] = transparent
-composed placed (layer ∷ below) =
-    let under = composed placed below in
-    if layer.keyer then under else over (keyed placed below (placed layer)) under
+-- the pixel of layers over one another, the uppermost first, by each layer's placed pixel: a keyer is not shown
+abbrev pub composed_pixel : (Drawn → PixelView) → List Drawn → PixelView
+composed_pixel placed [] = transparent
+composed_pixel placed (layer ∷ below) =
+    let under = composed_pixel placed below in
+    if layer.keyer then under else over (keyed_pixel placed below (placed layer)) under
 
 -- a layer's placed pixel, given each channel's frame of the tick before
 abbrev pub layer_pixel : Setup → (ℕ → ℕ → ℕ → PixelView) → Geometry → ℕ → ℕ → Drawn → PixelView
@@ -30,9 +30,9 @@ layer_pixel setup frames frame x y layer =
 
 -- pixel (x, y) of a frame that shows these layers, the lowest first, given each channel's frame of the tick before
 abbrev pub scene_pixel : Setup → (ℕ → ℕ → ℕ → PixelView) → Geometry → List Drawn → ℕ → ℕ → PixelView
-scene_pixel setup frames frame layers x y = composed (layer_pixel setup frames frame x y) (reverse layers)
+scene_pixel setup frames frame layers x y = composed_pixel (layer_pixel setup frames frame x y) (reverse layers)
 
--- pixel (x, y) of each channel at the last tick of a history that is read backward, its last event first: transparent without a tick
+-- pixel (x, y) of each channel at the last tick of a history read backward, transparent where it has no tick
 abbrev pub frames_back : Setup → List Event → ℕ → ℕ → ℕ → PixelView
 frames_back setup [] = λ channel x y. transparent
 frames_back setup (Do tag cmd ∷ before) = frames_back setup before
@@ -44,3 +44,7 @@ frames_back setup (Tick ∷ before) =
 -- pixel (x, y) of a channel at the tick after a history
 unfoldable pub frame_pixel : Setup → List Event → ℕ → ℕ → ℕ → PixelView
 frame_pixel setup history channel x y = frames_back setup (Tick ∷ reverse history) channel x y
+
+-- pixel (x, y) of a channel at the last tick of a history, transparent where it has no tick
+unfoldable pub last_pixel : Setup → List Event → ℕ → ℕ → ℕ → PixelView
+last_pixel setup history channel x y = frames_back setup (reverse history) channel x y

@@ -1,4 +1,4 @@
--- Which places hold something.
+-- Which places are live, and which are drawn. In lists of acts the last act stands first.
 use Rattle.std.specs.Prelude.{ℕ, ◌==◌, Bool, ◌||◌, List, [], ◌∷◌, nat_lt, is_some, filter, if◌then◌else◌, Option}
 use Rattle.play_types.specs.Place.{PlaceView}
 use Rattle.play_types.specs.declared.command.Cmd.{Cmd}
@@ -14,19 +14,19 @@ with_number n (m ∷ more) =
     let rest = with_number n more in
     if n == m then m ∷ more else (if nat_lt n m then n ∷ m ∷ more else m ∷ rest)
 
--- the layers to which a command can bring a content, on any channel. A swap of channels keeps each content on its layer
+-- the layers with those to which a command can bring a content: a swap of channels keeps each content on its layer
 abbrev pub with_layers_of : Cmd → List ℕ → List ℕ
 with_layers_of (Load place take) layers = with_number place.layer layers
 with_layers_of (LoadBg place take) layers = with_number place.layer layers
 with_layers_of (SwapLayers a b transforms) layers = with_number a.layer (with_number b.layer layers)
 with_layers_of cmd layers = layers
 
--- the layers that can hold a content after the acts, on any channel, in rising number: no other was loaded or swapped
+-- the layers that acts loaded or swapped, on any channel, in rising number: no other layer can hold a content
 abbrev pub layers : List Act → List ℕ
 layers [] = []
 layers (act ∷ before) = with_layers_of act.cmd (layers before)
 
--- what stands at a place after the acts, once so many ticks have passed in all
+-- what stands at a place after the acts, when so many ticks have passed since the history began
 abbrev pub state : List Act → ℕ → PlaceView → Life
 state acts ticks place = life (trail acts place) ticks
 

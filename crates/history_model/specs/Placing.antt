@@ -12,35 +12,35 @@ floor_div number (pos divisor) = int_div_euclid number (pos divisor)
 floor_div number (negsuc divisor) = int_div_euclid (neg_ℤ number) (pos (suc divisor))
 
 -- a column of `width` columns, none where the number lies outside
-abbrev pub inside : ℕ → ℤ → Option ℕ
-inside width (pos column) = if nat_lt column width then Some column else None
-inside width (negsuc column) = None
+abbrev pub column_in : ℕ → ℤ → Option ℕ
+column_in width (pos column) = if nat_lt column width then Some column else None
+column_in width (negsuc column) = None
 
 -- twice the middle of column x, in millionths of a column
-abbrev pub middle : ℕ → ℤ
-middle x = pos ((2 * x + 1) * 1000000)
+abbrev pub twice_middle : ℕ → ℤ
+twice_middle x = pos ((2 * x + 1) * 1000000)
 
 -- twice so many millionths of `width` columns
-abbrev pub doubled : ℕ → ℤ → ℤ
-doubled width millionths = pos (2 * width) *ℤ millionths
+abbrev pub twice_part : ℕ → ℤ → ℤ
+twice_part width millionths = pos (2 * width) *ℤ millionths
 
--- the raster column that frame column x shows where the picture's left edge and width are these, in millionths; rows alike
-abbrev pub filled : ℕ → ℤ → ℤ → ℕ → Option ℕ
-filled width edge (pos zero) x = None
-filled width edge scale x = inside width (floor_div (middle x -ℤ doubled width edge) (pos 2 *ℤ scale))
+-- the raster column that frame column x shows by the left edge and width of a fill, in millionths; rows alike
+abbrev pub filled_column : ℕ → ℤ → ℤ → ℕ → Option ℕ
+filled_column width edge (pos zero) x = None
+filled_column width edge scale x = column_in width (floor_div (twice_middle x -ℤ twice_part width edge) (pos 2 *ℤ scale))
 
--- whether frame column x is kept where the kept part's left edge and width are these, in millionths; rows alike
+-- whether frame column x is kept by the left edge and width of a clip, in millionths; rows alike
 abbrev pub is_kept : ℕ → ℤ → ℤ → ℕ → Bool
 is_kept width edge extent x =
-    int_le (doubled width edge) (middle x) && int_lt (middle x) (doubled width (edge +ℤ extent))
+    int_le (twice_part width edge) (twice_middle x) && int_lt (twice_middle x) (twice_part width (edge +ℤ extent))
 
 -- the raster column that frame column x shows, none where it is not kept; rows alike, with the numbers at 1
-abbrev pub visible : ℕ → List ℤ → List ℤ → ℕ → ℕ → Option ℕ
-visible width fill clip at x =
+abbrev pub visible_column : ℕ → List ℤ → List ℤ → ℕ → ℕ → Option ℕ
+visible_column width fill clip at x =
     if is_kept width (number_at clip at) (number_at clip (at + 2)) x
-    then filled width (number_at fill at) (number_at fill (at + 2)) x else None
+    then filled_column width (number_at fill at) (number_at fill (at + 2)) x else None
 
--- a raster's pixel at a column and a row, transparent where either is not shown, at an opacity in millionths
+-- the raster's pixel at a column and a row at an opacity in millionths, transparent where either is not shown
 abbrev pub faded_at : Option ℕ → Option ℕ → (ℕ → ℕ → PixelView) → ℕ → PixelView
 faded_at None row raster opacity = transparent
 faded_at (Some column) None raster opacity = transparent
@@ -49,4 +49,4 @@ faded_at (Some column) (Some row) raster opacity = fade (raster column row) opac
 -- pixel (x, y) of the frame that shows the raster by a fill, a clip and an opacity in millionths
 abbrev pub placed_pixel : Geometry → List ℤ → List ℤ → ℤ → (ℕ → ℕ → PixelView) → ℕ → ℕ → PixelView
 placed_pixel frame fill clip opacity raster x y =
-    faded_at (visible frame.width fill clip 0 x) (visible frame.height fill clip 1 y) raster (nat_abs opacity)
+    faded_at (visible_column frame.width fill clip 0 x) (visible_column frame.height fill clip 1 y) raster (nat_abs opacity)

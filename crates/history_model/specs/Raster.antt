@@ -41,9 +41,9 @@ raster_pixel setup frames raster layer x y =
     let new = λ (column : ℕ). still_pixel setup frames raster layer.still column y in
     let old = λ (column : ℕ). still_pixel setup frames raster layer.old column y in
     elim (nat_lt layer.step layer.trans.duration) [
-      true ↦
-        column_pixel
+      | true ↦
+          column_pixel
           (pick layer.trans.kind layer.trans.leftward layer.step layer.trans.duration raster.width x)
           old new layer.step layer.trans.duration
-    | false ↦ new x
+      | false ↦ new x
     ]

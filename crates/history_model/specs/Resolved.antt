@@ -1,4 +1,4 @@
--- Deferred settings: which of them wait, and when the others take place.
+-- Deferred settings: which of them wait, and when the others take place. In lists of acts the last act stands first.
 use Rattle.std.specs.Prelude.{ℕ, ◌==◌, false, ◌&&◌, List, [], ◌∷◌, ◌++◌, map, if◌then◌else◌}
 use Rattle.play_types.specs.Setting.{SettingView}
 use Rattle.play_types.specs.declared.command.Cmd.{Cmd}
@@ -13,21 +13,21 @@ waiting_after (Set setting) channel earlier =
 waiting_after cmd channel earlier = earlier
 
 -- the deferred settings of a channel that no commit of the channel follows, the last one first
-abbrev pub waiting : List Act → ℕ → List SettingView
-waiting [] channel = []
-waiting (act ∷ before) channel = waiting_after act.cmd channel (waiting before channel)
+abbrev pub waiting_settings : List Act → ℕ → List SettingView
+waiting_settings [] channel = []
+waiting_settings (act ∷ before) channel = waiting_after act.cmd channel (waiting_settings before channel)
 
 -- a setting that takes place after so many ticks
-abbrev pub set_at : ℕ → SettingView → Act
-set_at ticks setting = record { cmd = Set (record setting { deferred = false }); ticks = ticks }
+abbrev pub settled_act : ℕ → SettingView → Act
+settled_act ticks setting = record { cmd = Set (record setting { deferred = false }); ticks = ticks }
 
--- what stands for a command that comes after so many ticks and these acts: for a commit the settings that waited for it
-abbrev pub resolved_of : Cmd → ℕ → List Act → List Act
-resolved_of (CommitMixer channel) ticks before = map (set_at ticks) (waiting before channel)
-resolved_of (Set setting) ticks before = if setting.deferred then [] else set_at ticks setting ∷ []
-resolved_of cmd ticks before = record { cmd = cmd; ticks = ticks } ∷ []
+-- the acts that stand for a command after so many ticks: for a commit the settings that waited for it
+abbrev pub resolved_act : Cmd → ℕ → List Act → List Act
+resolved_act (CommitMixer channel) ticks before = map (settled_act ticks) (waiting_settings before channel)
+resolved_act (Set setting) ticks before = if setting.deferred then [] else settled_act ticks setting ∷ []
+resolved_act cmd ticks before = record { cmd = cmd; ticks = ticks } ∷ []
 
--- the acts with each deferred setting in the place of the first commit of its channel after it, and without those that wait
-abbrev pub resolved : List Act → List Act
-resolved [] = []
-resolved (act ∷ before) = resolved_of act.cmd act.ticks before ++ resolved before
+-- the acts with each deferred setting moved to the first commit of its channel after it, and without those that wait
+abbrev pub resolved_acts : List Act → List Act
+resolved_acts [] = []
+resolved_acts (act ∷ before) = resolved_act act.cmd act.ticks before ++ resolved_acts before

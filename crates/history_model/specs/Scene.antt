@@ -1,5 +1,5 @@
 -- What a channel shows at a tick: its drawn layers.
-use Rattle.std.specs.Prelude.{ℕ, ◌+◌, ◌==◌, min, Bool, false, List, [], ◌∷◌, ℤ, pos, negsuc, Option, Some, None, option_map, filter_map, if◌then◌else◌}
+use Rattle.std.specs.Prelude.{ℕ, ◌+◌, ◌==◌, min, Bool, false, List, ℤ, pos, negsuc, Option, Some, None, option_map, filter_map, reverse, if◌then◌else◌}
 use Rattle.play_types.specs.Place.{PlaceView}
 use Rattle.play_types.specs.Setting.{number_at}
 use Rattle.play_types.specs.History.{ticks}
@@ -30,9 +30,9 @@ abbrev pub is_one : ℤ → Bool
 is_one (pos millionths) = millionths == 1000000
 is_one (negsuc millionths) = false
 
--- a place with this foreground at the tick after the acts and so many ticks: the two pictures and the step of its transition, and its mixer values once that tick has passed
-abbrev pub drawn : List Act → ℕ → Option (PlaceView → Option Foreground) → PlaceView → Foreground → Drawn
-drawn acts ticks fronts place front = record {
+-- a place with this foreground at the tick after so many: both pictures, the transition and its step, and the mixer values
+abbrev pub drawn_place : List Act → ℕ → Option (PlaceView → Option Foreground) → PlaceView → Foreground → Drawn
+drawn_place acts ticks fronts place front = record {
   still = source fronts front.take.spec (head front.take front.shown);
   old = outgoing_still fronts front.old front.shown;
   trans = front.take.trans;
@@ -48,7 +48,7 @@ drawn acts ticks fronts place front = record {
 abbrev pub drawn_layer : List Act → ℕ → Option (PlaceView → Option Foreground) → ℕ → ℕ → Option Drawn
 drawn_layer acts ticks fronts channel layer =
     let place : PlaceView = record { channel = channel; layer = layer } in
-    option_map (drawn acts ticks fronts place) (front_at acts ticks place)
+    option_map (drawn_place acts ticks fronts place) (front_at acts ticks place)
 
 -- the drawn layers of a channel at that tick, in rising number
 abbrev pub scene_of : List Act → ℕ → Option (PlaceView → Option Foreground) → ℕ → List Drawn
@@ -57,3 +57,7 @@ scene_of acts ticks fronts channel = filter_map (drawn_layer acts ticks fronts c
 -- the same at the tick after a history that is read backward, its last event first
 abbrev pub scene_back : List Event → ℕ → List Drawn
 scene_back back channel = scene_of (acts_back back) (ticks back) (last_fronts back) channel
+
+-- the drawn layers of a channel at the tick after a history, in rising number
+unfoldable pub scene : List Event → ℕ → List Drawn
+scene history channel = scene_back (reverse history) channel

@@ -33,11 +33,12 @@ abbrev pub front_still : Option Foreground → Still
 front_still None = Nothing
 front_still (Some front) = own_still front.take.spec (head front.take front.shown)
 
--- what a route to a channel, and one to a place, shows, by the foregrounds at the tick before: nothing where there was no tick
+-- what a route to a channel shows: the frame of the tick before, and nothing where there was none
 abbrev pub channel_still : Option (PlaceView → Option Foreground) → ℕ → Still
 channel_still None channel = Nothing
 channel_still (Some fronts) channel = Channel channel
 
+-- what a route to a place shows: its clip or colour at the tick before, and nothing where there was none
 abbrev pub layer_still : Option (PlaceView → Option Foreground) → PlaceView → Still
 layer_still None place = Nothing
 layer_still (Some fronts) place = front_still (fronts place)

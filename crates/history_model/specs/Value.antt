@@ -9,7 +9,7 @@ use Rattle.play_types.specs.declared.command.Cmd.TheVariants.{Set, ResetLayer, R
 use Rattle.play_types.specs.declared.event.Event.{Event}
 use Rattle.history_model.specs.Act.{Act}
 use Rattle.history_model.specs.Trail.{tuning}
-use Rattle.history_model.specs.Resolved.{resolved}
+use Rattle.history_model.specs.Resolved.{resolved_acts}
 use Rattle.history_model.specs.Acts.{acts_back}
 
 -- whether two properties are the same
@@ -52,18 +52,18 @@ all_along [] to ticks duration = []
 all_along (from ∷ more) [] ticks duration = []
 all_along (from ∷ more) (to ∷ others) ticks duration = along from to ticks duration ∷ all_along more others ticks duration
 
--- the value of a property by the settings and resets of a place, once so many ticks have passed in all
+-- the value of a property by the settings and resets of a place, the last one first, after so many ticks
 abbrev pub tuned_value : List Act → Prop → ℕ → List ℤ
 tuned_value [] prop ticks = default_of prop
 tuned_value (act ∷ before) prop ticks = elim (aim_of act.cmd prop) [
-    None ↦ tuned_value before prop ticks
+  | None ↦ tuned_value before prop ticks
   | Some aim ↦ all_along (tuned_value before prop act.ticks) aim.values (ticks - act.ticks) aim.duration
-  ]
+]
 
--- the value of a property of a place after the acts, in millionths, once so many ticks have passed in all
+-- the value of a property of a place after the acts and so many ticks, in millionths
 abbrev pub value_at : List Act → PlaceView → Prop → ℕ → List ℤ
-value_at acts place prop ticks = tuned_value (tuning (resolved acts) place) prop ticks
+value_at acts place prop ticks = tuned_value (tuning (resolved_acts acts) place) prop ticks
 
--- the same after a history
+-- the value of a property of a place after a history, when so many ticks have passed, in millionths
 unfoldable pub value : List Event → PlaceView → Prop → ℕ → List ℤ
 value history place prop ticks = value_at (acts_back (reverse history)) place prop ticks

@@ -15,7 +15,6 @@ use Rattle.play_types.specs.declared.take.Spec.TheVariants.{Clip, Colour, RouteC
 use Rattle.play_types.specs.declared.command.Cmd.{Cmd}
 use Rattle.play_types.specs.declared.command.Cmd.TheVariants.{LoadBg, PlayTake, Set}
 use Rattle.play_types.specs.declared.geometry.Geometry.{Geometry}
-use Rattle.play_types.specs.declared.event.Tag.{Tag}
 use Rattle.play_types.specs.declared.event.Event.{Event}
 use Rattle.play_types.specs.declared.event.Event.TheVariants.{Do, Batch, Tick}
 use Rattle.pixel_math.specs.Pixel.{PixelView, pixel_bytes}
@@ -192,7 +191,3 @@ old_of take shown paused = record { take = take; shown = shown; paused = paused 
 -- what a channel shows
 abbrev pub frame_of : List PixelView → List ℤ → ChannelFrame
 frame_of pixels samples = record { pixels = pixels; samples = samples }
-
--- blue, green, red and alpha
-abbrev pub pixel : ℕ → ℕ → ℕ → ℕ → PixelView
-pixel b g r a = record { b = b; g = g; r = r; a = a }

@@ -11,5 +11,5 @@ pub returns-clause-trails : goal.returns-clause-trails
 returns-clause-trails c = trail-tick
 
 pub returns-clause-live : goal.returns-clause-live
-returns-clause-live c history t u channel = 
+returns-clause-live c history t u channel =
     ap (λ past. live_layers past t channel) (acts-tick history) ∙ live_layers-ticks (acts history) t u channel

@@ -4,7 +4,7 @@ use Rattle.history_model.proofs.Lives.{steps_are_after, ready_before, ready_when
 use Rattle.history_model.proofs.laws.lives.automatic_start_at_its_tick.Goals as goal
 
 pub returns-clause-not_before : goal.returns-clause-not_before
-returns-clause-not_before c s a j e below = 
+returns-clause-not_before c s a j e below =
     ap ready (steps_are_after j s) ∙ ready_before s a j e below ∙ sym (steps_are_after j s)
 
 pub returns-clause-due : goal.returns-clause-due

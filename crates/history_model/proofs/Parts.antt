@@ -1,6 +1,6 @@
 -- Lines of a text that grows by one byte.
 use Rattle.std.proofs.Common.{◌≡◌, ℕ, ◌<◌, Bool, true, false, cond, eqb, List, [], ◌∷◌, ◌++◌, length, refl, sym, ap, ◌∙◌, arith}
-use Rattle.std.specs.List.{slice_split, onto_first}
+use Rattle.std.specs.List.{onto_first}
 use Rattle.std.specs.Str.Lines.{strip_carriage_return, lines, lines_of_parts}
 use Rattle.history_model.specs.ScriptInput.{parts, ended_parts, last_part, ended_lines, unended}
 
@@ -41,7 +41,7 @@ parts-feed : (bytes : List ℕ) → parts (bytes ++ 10 ∷ []) ≡ parts bytes +
 parts-feed [] = refl
 parts-feed (c ∷ bytes) =
     ap (λ (ps : List (List ℕ)). cond (eqb c 10) ([] ∷ ps) (onto_first c ps)) (parts-feed bytes)
-        ∙ feed_by (eqb c 10) c (parts bytes) (some_parts bytes)
+    ∙ feed_by (eqb c 10) c (parts bytes) (some_parts bytes)
 
 onto_last-cons : (ps : List (List ℕ)) (byte : ℕ) → 0 < length ps → onto_last ([] ∷ ps) byte ≡ [] ∷ onto_last ps byte
 unfolding onto_last
@@ -58,7 +58,7 @@ unfolding onto_last
 parts-other [] byte other = rw other refl
 parts-other (c ∷ bytes) byte other =
     ap (λ (ps : List (List ℕ)). cond (eqb c 10) ([] ∷ ps) (onto_first c ps)) (parts-other bytes byte other)
-        ∙ other_by (eqb c 10) c (parts bytes) byte (some_parts bytes)
+    ∙ other_by (eqb c 10) c (parts bytes) byte (some_parts bytes)
 
 ended_parts-snoc : (ps : List (List ℕ)) (q : List ℕ) → 0 < length ps → ended_parts (ps ++ q ∷ []) ≡ ended_parts ps ++ strip_carriage_return (last_part ps) ∷ []
 ended_parts-snoc [] q some = absurd (omega arith)

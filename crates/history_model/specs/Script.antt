@@ -9,7 +9,7 @@ use Rattle.play_types.specs.declared.event.Tag.{Tag}
 use Rattle.play_types.specs.declared.event.Event.{Event}
 use Rattle.play_types.specs.declared.event.Event.TheVariants as event
 use Rattle.history_model.specs.Numbers.{plain_number_within}
-use Rattle.history_model.specs.Picture.{lowest, colour_take}
+use Rattle.history_model.specs.ColourHistory.{first_place, colour_take}
 
 -- what a line of a script says
 pub data ScriptLine : Type 0 where
@@ -74,7 +74,7 @@ played_colour text =
 -- the event that a colour is started there, with a cut
 abbrev pub played : Tag → Option ℕ → List Event
 played tag None = []
-played tag (Some colour) = event.Do tag (cmd.PlayTake lowest (colour_take colour)) ∷ []
+played tag (Some colour) = event.Do tag (cmd.PlayTake first_place (colour_take colour)) ∷ []
 
 -- the events of a line
 abbrev pub line_events : ScriptLine → List Event

@@ -4,7 +4,8 @@ use Rattle.play_types.specs.declared.event.Tag.{Tag}
 use Rattle.play_types.specs.declared.event.Event.{Event}
 use Rattle.play_types.specs.History.{ticks}
 use Rattle.history_model.specs.FrameText.{frame_bytes, frame_lines}
-use Rattle.history_model.specs.Picture.{frame_pixel}
+use Rattle.history_model.specs.Media.{Setup}
+use Rattle.history_model.specs.Frame.{frame_pixel}
 use Rattle.history_model.specs.Script.{ScriptLine, Tick, Said, NoForm, played_colour, script_events}
 
 -- the head of each line of a reply: the tag of the connection
@@ -28,10 +29,14 @@ abbrev pub reply : Tag → Option ℕ → List ℕ
 reply tag (Some colour) = acknowledgement tag
 reply tag None = refusal tag
 
+-- one channel of this width and height, without sound and without clips
+abbrev pub one_channel : ℕ → ℕ → Setup
+one_channel width height = record { channels = record { width = width; height = height; pairs = 0 } ∷ []; clips = [] }
+
 -- the frame of the next tick after these events, on a channel of this width and height
 unfoldable pub next_frame : ℕ → ℕ → List Event → List ℕ
 next_frame width height events =
-    frame_lines 1 (ticks events + 1) width height 0 (frame_bytes width height (frame_pixel events)) []
+    frame_lines 1 (ticks events + 1) width height 0 (frame_bytes width height (frame_pixel (one_channel width height) events 1)) []
 
 -- what is written for a line, after these events
 abbrev pub line_output : ℕ → ℕ → List Event → ScriptLine → List ℕ

@@ -1,4 +1,8 @@
-//! What the server shows and answers, as definitions over the whole history, and the laws that they keep.
+//! What the server shows and answers, defined by looking back over the whole history of its events.
 //!
-//! Nothing here runs in the product. Each crate above proves its calls against these definitions.
+//! The definitions stand in `specs/`. They name one pixel or one sample at a time. Here are worked examples, which the
+//! checker computes, and laws. No function of this crate does anything when it runs.
 #![tactic(auto)]
+
+pub mod examples;
+pub mod laws;

@@ -1,6 +1,6 @@
 -- What a line makes of the stage and of the output.
-use Rattle.std.proofs.Common.{◌≡◌, ℕ, ◌+◌, List, [], ◌∷◌, ◌++◌, refl, sym, ap, ◌∙◌, subst, arith}
-use Rattle.std.specs.Prelude.{Option, Some, None, Result, Ok, Err}
+use Rattle.std.proofs.Common.{◌≡◌, ℕ, ◌+◌, List, [], ◌∷◌, ◌++◌, refl, sym, ap, ap₂, ◌∙◌, subst, arith}
+use Rattle.std.specs.Prelude.{Option, Result, Ok, Err}
 use Rattle.play_types.specs.History.{ticks}
 use Rattle.play_types.specs.declared.event.Tag.{Tag}
 use Rattle.play_types.specs.declared.event.Event.{Event}
@@ -8,10 +8,12 @@ use Rattle.play_types.specs.declared.event.Event.TheVariants as event
 use Rattle.play_types.proofs.Histories.{ticks-append}
 use Rattle.play_outside.specs.SinkState.{SinkState, after_taking}
 use Rattle.play_outside.specs.Sink.{Fails}
-use Rattle.history_model.specs.Picture.{last_colour, later_or}
+use Rattle.std.specs.Option.{option_or}
+use Rattle.history_model.specs.ColourHistory.{last_colour}
 use Rattle.history_model.specs.Script.{ScriptLine, Tick, Said, played_colour, played}
 use Rattle.history_model.specs.ScriptOutput.{next_frame, line_output}
-use Rattle.history_model.proofs.Colours.{last_colour-append}
+use Rattle.history_model.proofs.ScriptColours.{last_colour-append, last_colour-played, ticks-played, IsColourHistory-append, IsColourHistory-played}
+use Rattle.history_model.proofs.Outputs.{next_frame-colours}
 use Rattle.run_script.specs.declared.ending.Halt.{Halt}
 use Rattle.run_script.specs.declared.ending.Halt.TheVariants as halt
 use Rattle.run_script.specs.declared.stage.Stage.{Stage}
@@ -19,8 +21,9 @@ use Rattle.run_script.specs.Stage.{StandsFor, SameSize, Ticks, Answers, Outcome,
 
 -- the frame of the next tick is that of the colour that the stage has
 frame_is : (stage : Stage) (events : List Event) (width height : ℕ) → StandsFor stage events → colour_frame width height (stage.ticks + 1) stage.colour ≡ next_frame width height events
-unfolding next_frame
-frame_is stage events width height stands = rw (stands.ticks, stands.colour) refl
+frame_is stage events width height stands =
+    ap₂ (λ (tick : ℕ) (colour : Option ℕ). colour_frame width height (tick + 1) colour) stands.ticks stands.colour
+    ∙ sym (next_frame-colours width height events stands.colours)
 
 -- on a channel of the same size the same is written
 same_output : (old new : Stage) (events : List Event) (line : ScriptLine) → SameSize old new → line_output old.width old.height events line ≡ line_output new.width new.height events line
@@ -28,6 +31,7 @@ same_output old new events line size = rw (size.width, size.height) refl
 
 ticked : (old new : Stage) (events : List Event) → StandsFor old events → new.colour ≡ old.colour → new.ticks ≡ old.ticks + 1 → StandsFor new (events ++ event.Tick ∷ [])
 ticked old new events stands colour ticks = record {
+  colours = IsColourHistory-append events (event.Tick ∷ []) stands.colours (tt, tt);
   colour = colour ∙ stands.colour ∙ sym (last_colour-append events (event.Tick ∷ []));
   ticks = ticks ∙ ap (λ (t : ℕ). t + 1) stands.ticks ∙ sym (ticks-append events (event.Tick ∷ []));
 }
@@ -52,22 +56,14 @@ tick_taken result line events old new before after is stands tick =
     subst (λ l. Takes result l events old new before after) is
     (record { size = tick.size; outcome = tick_outcome result events old new before after stands tick })
 
--- the colour of the events of a text
-played-colour : (tag : Tag) (colour : Option ℕ) → last_colour (played tag colour) ≡ colour
-played-colour tag None = refl
-played-colour tag (Some colour) = refl
-
-played-ticks : (tag : Tag) (colour : Option ℕ) → ticks (played tag colour) ≡ 0
-played-ticks tag None = refl
-played-ticks tag (Some colour) = refl
-
-answered : (tag : Tag) (text : List ℕ) (old new : Stage) (events : List Event) → StandsFor old events → new.colour ≡ later_or (played_colour text) old.colour → new.ticks ≡ old.ticks → StandsFor new (events ++ played tag (played_colour text))
+answered : (tag : Tag) (text : List ℕ) (old new : Stage) (events : List Event) → StandsFor old events → new.colour ≡ option_or (played_colour text) old.colour → new.ticks ≡ old.ticks → StandsFor new (events ++ played tag (played_colour text))
 answered tag text old new events stands colour same = record {
-  colour = colour ∙ ap (later_or (played_colour text)) stands.colour
-      ∙ ap (λ (c : Option ℕ). later_or c (last_colour events)) (sym (played-colour tag (played_colour text)))
+  colours = IsColourHistory-append events (played tag (played_colour text)) stands.colours (IsColourHistory-played tag (played_colour text));
+  colour = colour ∙ ap (option_or (played_colour text)) stands.colour
+      ∙ ap (λ (c : Option ℕ). option_or c (last_colour events)) (sym (last_colour-played tag (played_colour text)))
       ∙ sym (last_colour-append events (played tag (played_colour text)));
   ticks = same ∙ stands.ticks
-      ∙ sym (ticks-append events (played tag (played_colour text)) ∙ ap (λ (t : ℕ). ticks events + t) (played-ticks tag (played_colour text)) ∙ omega arith);
+      ∙ sym (ticks-append events (played tag (played_colour text)) ∙ ap (λ (t : ℕ). ticks events + t) (ticks-played tag (played_colour text)) ∙ omega arith);
 }
 
 said_outcome : (result : Result (Unit {0}) Halt) (tag : Tag) (text : List ℕ) (events : List Event) (old new : Stage) (before after : SinkState) → StandsFor old events → Answers result tag text old new before after → Outcome result (Said tag text) events new before after

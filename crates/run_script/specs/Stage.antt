@@ -5,7 +5,8 @@ use Rattle.play_types.specs.declared.event.Tag.{Tag}
 use Rattle.play_types.specs.declared.event.Event.{Event}
 use Rattle.play_outside.specs.SinkState.{SinkState, after_taking}
 use Rattle.play_outside.specs.Sink.{Fails}
-use Rattle.history_model.specs.Picture.{last_colour, pixel_of, later_or}
+use Rattle.std.specs.Option.{option_or}
+use Rattle.history_model.specs.ColourHistory.{IsColourHistory, last_colour, pixel_of_colour}
 use Rattle.history_model.specs.FrameText.{frame_bytes, frame_lines}
 use Rattle.history_model.specs.Script.{ScriptLine, NoForm, is_formed, played_colour, line_events}
 use Rattle.history_model.specs.ScriptOutput.{line_output, reply}
@@ -13,8 +14,9 @@ use Rattle.run_script.specs.declared.ending.Halt.{Halt}
 use Rattle.run_script.specs.declared.ending.Halt.TheVariants as halt
 use Rattle.run_script.specs.declared.stage.Stage.{Stage}
 
--- the stage stands where these events put it
+-- the events only play colours and tick, and the stage stands where they put it
 pub record StandsFor (stage : Stage) (events : List Event) : Type 0 where
+  pub colours : IsColourHistory events
   pub colour : stage.colour ≡ last_colour events
   pub ticks : stage.ticks ≡ ticks events
 
@@ -28,7 +30,7 @@ Writes (Err halt.NoForm) text before after = ⊥
 -- the lines of a frame of one colour or of none
 abbrev pub colour_frame : ℕ → ℕ → ℕ → Option ℕ → List ℕ
 colour_frame width height tick colour =
-    frame_lines 1 tick width height 0 (frame_bytes width height (λ x y. pixel_of colour)) []
+    frame_lines 1 tick width height 0 (frame_bytes width height (λ x y. pixel_of_colour colour)) []
 
 -- the channel has the same size as before
 pub record SameSize (old new : Stage) : Type 0 where
@@ -46,7 +48,7 @@ pub record Ticks (result : Result (Unit {0}) Halt) (old new : Stage) (before aft
 -- a text is answered, and starts its colour where it names one
 pub record Answers (result : Result (Unit {0}) Halt) (tag : Tag) (text : List ℕ) (old new : Stage) (before after : SinkState) : Type 0 where
   pub size : SameSize old new
-  pub colour : new.colour ≡ later_or (played_colour text) old.colour
+  pub colour : new.colour ≡ option_or (played_colour text) old.colour
   pub ticks : new.ticks ≡ old.ticks
   pub written : Writes result (reply tag (played_colour text)) before after
 

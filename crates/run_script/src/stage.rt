@@ -1,7 +1,7 @@
 //! The stage of the one channel: what is shown, and how many ticks there were.
 ghost use Rattle.std.specs.Prelude.{◌≡◌, ◌+◌, ◌<◌, ◌≤◌, ◌^◌, List};
 ghost use Rattle.play_types.specs.declared.event.Event.{Event};
-ghost use Rattle.history_model.specs.Picture.{pixel_of};
+ghost use Rattle.history_model.specs.ColourHistory.{pixel_of_colour};
 ghost use Rattle.history_model.specs.Script.{meaning};
 ghost use Rattle.run_script.specs.Stage.{StandsFor, Takes, Ticks, Answers};
 
@@ -63,7 +63,7 @@ impl Stage {
 
     /// The pixel that is shown everywhere.
     fn pixel(&self) -> Pixel
-        ensures { result ≡ pixel_of self.now.colour }
+        ensures { result ≡ pixel_of_colour self.now.colour }
     {
         match self.colour {
             Some(colour) => Pixel::colour(colour),

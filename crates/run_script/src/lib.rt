@@ -9,6 +9,8 @@ mod reply;
 mod run;
 mod script;
 mod stage;
+#[cfg(test)]
+mod tests;
 mod words;
 
 pub use run::run_main;

@@ -6,3 +6,6 @@ pub mod Liveness
 pub mod Placing
 pub mod Colours
 pub mod Frames
+pub mod Parts
+pub mod ScriptColours
+pub mod Outputs

@@ -17,3 +17,8 @@ pub mod Steps
 pub mod ColourHistory
 pub mod Touched
 pub mod Worked
+pub mod FrameText
+pub mod Numbers
+pub mod Script
+pub mod ScriptInput
+pub mod ScriptOutput

@@ -1,10 +1,12 @@
 //! Laws of the definitions in `specs/`, each the contract of a function that does nothing.
 ghost use Rattle.std.specs.Prelude.{◌≡◌, ◌+◌, ◌<◌, ◌≤◌, false};
+ghost use Rattle.play_types.specs.ClipFile.{IsClip, clip_bytes};
 ghost use Rattle.play_types.specs.Columns.{IsInRaster, pick};
 ghost use Rattle.play_types.specs.Curve.{IsBetween, along};
 ghost use Rattle.play_types.specs.Playhead.{head};
 ghost use Rattle.play_types.specs.Take.{take_of};
 
+use crate::clip::Clip;
 use crate::take::Spec;
 use crate::transition::{Kind, Trans};
 
@@ -38,4 +40,12 @@ pub fn playhead_in_part(id: u32, looped: bool, seek: u32, length: u32, trans: Tr
     ensures from { seek ≤ head (take_of (Spec.Clip id) looped seek length trans false) shown }
     ensures below { head (take_of (Spec.Clip id) looped seek length trans false) shown
         < seek + length }
+{}
+
+/// A file is the file of one clip alone.
+pub fn clip_of_a_file(first: &Clip, second: &Clip)
+    requires first_in_range { IsClip first.now }
+    requires second_in_range { IsClip second.now }
+    requires same_file { clip_bytes first.now ≡ clip_bytes second.now }
+    ensures { first.now ≡ second.now }
 {}

@@ -2,6 +2,9 @@
 //!
 //! A value that has a range is made only by its `new`, which answers `None` exactly where the range is left.
 //! Contracts see such a value as a plain record of numbers, and a list type as the list of its items.
+//!
+//! The definitions over these types stand in `specs/`: histories, playheads, tweens, the columns of transitions and clip
+//! files. The modules `examples` and `laws` show what they say.
 #![tactic(auto)]
 
 mod answer;

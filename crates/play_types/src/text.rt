@@ -7,7 +7,7 @@ ghost use Rattle.std.specs.Str.{chars};
 use std::alloc::{AllocError, Global};
 use std::marker::Model;
 
-/// A text. Contracts see the list of its characters.
+/// A text. Contracts see the list of its characters. Two texts are equal where their characters are.
 #[derive(Debug, Drop)]
 pub struct Text {
     text: String,
@@ -43,6 +43,7 @@ impl Text {
         self.as_str().is_empty()
     }
 
+    /// Whether the two have the same characters.
     pub fn is_same(&self, other: &str) -> bool
         ensures { IsTrue result ↔ (self.now ≡ chars other.now) }
     {

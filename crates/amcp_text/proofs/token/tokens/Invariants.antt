@@ -1,0 +1,11 @@
+use Rattle.std.specs.Prelude.{string_bytes}
+use Rattle.std.specs.Str.Iter.{char_indices_rest, char_indices_offset}
+use Rattle.amcp_text.proofs.ReadingText.{Reads}
+use Rattle.amcp_text.proofs.token.tokens.Given as goal
+
+abbrev pub invariant-loop-at : goal.invariant-loop-at
+invariant-loop-at l = record {
+  can_next : (goal.iterator-loop-at).can_next l.at-iterator;
+  is_finite : (goal.iterator-loop-at).is_finite l.at-iterator;
+  reads : Reads l.line l.words l.begun (string_bytes l.word) l.open l.escape (char_indices_offset l.at-iterator) (char_indices_rest l.at-iterator);
+}

@@ -1,0 +1,35 @@
+-- The lines of a stream of bytes.
+use Rattle.std.specs.Prelude.{◌≡◌, ℕ, ◌-◌, ◌==◌, nat_lt, ◌⊎◌, Bool, if◌then◌else◌, List, [], ◌∷◌, ◌++◌, map, length, take}
+use Rattle.std.specs.List.{slice_split}
+use Rattle.std.specs.Str.{chars, is_utf8}
+use Rattle.std.specs.Str.Lines.{strip_carriage_return}
+
+-- a line: its characters, or that its text has more than 4,096 bytes, or else is not UTF-8
+pub data Line : Type 0 where
+  Text : List ℕ → Line
+  TooLong : Line
+  NotUtf8 : Line
+
+-- the byte LF, which ends a line
+abbrev pub is_line_end : ℕ → Bool
+is_line_end byte = byte == 10
+
+-- the line of this text
+abbrev pub line_of_text : List ℕ → Line
+line_of_text text = if nat_lt 4096 (length text) then TooLong else (if is_utf8 text then Text (chars text) else NotUtf8)
+
+-- the line with these bytes before its LF: one CR at their end belongs to the line's end
+abbrev pub line_of : List ℕ → Line
+line_of bytes = line_of_text (strip_carriage_return bytes)
+
+-- what stands before each line end, since the one before it: the part after the last line end is no line
+abbrev pub ended_parts : List ℕ → List (List ℕ)
+ended_parts stream = let parts = slice_split is_line_end stream in take (length parts - 1) parts
+
+-- the lines of a stream
+abbrev pub lines_of : List ℕ → List Line
+lines_of stream = map line_of (ended_parts stream)
+
+-- the stream is cut at a line's end: it is nothing, or its last byte is LF
+abbrev pub IsEnded : List ℕ → Type 0
+IsEnded stream = (stream ≡ []) ⊎ ((front : List ℕ) × (stream ≡ front ++ 10 ∷ []))

@@ -1,0 +1,17 @@
+//! A client's bytes as lines, and a line as words.
+//!
+//! A line ends at LF, and one CR directly before that LF belongs to the end. A `LineReader` takes a stream in pieces
+//! of any size and gives its lines one by one; however the stream is cut, they are the same. The definitions of
+//! lines, words, whole numbers and decimals stand here, in `specs/`.
+#![tactic(auto)]
+
+mod line_reader;
+mod token;
+mod word_list;
+
+pub use line_reader::{LineEvent, LineReader};
+pub use token::{TokenFault, tokens};
+pub use word_list::WordList;
+
+#[cfg(test)]
+mod tests;

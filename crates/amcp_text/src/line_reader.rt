@@ -1,0 +1,167 @@
+//! Lines of a stream that comes in pieces.
+ghost use Rattle.std.specs.Prelude.{◌≡◌, ℕ, List, [], ◌++◌, take, IfOk, IsTrue, IsSome, ◌↔◌};
+ghost use Rattle.std.specs.List.{position};
+ghost use Rattle.std.specs.Str.Lines.{strip_carriage_return};
+ghost use Rattle.amcp_text.specs.Lines.{line_of_text, is_line_end};
+ghost use Rattle.amcp_text.specs.Reader.{StandsFor, Tells, taken_len, with_text, line_seen, line_kept};
+
+use std::alloc::{AllocError, Global};
+use std::marker::Model;
+
+/// The longest text of a line, in bytes.
+const LINE_LIMIT: usize = 4096;
+
+/// How many bytes of a line are kept: the longest text, and the CR that may belong to the line's end.
+const ROOM: usize = 4097;
+
+const LINE_END: u8 = b'\n';
+
+/// A whole line.
+#[derive(Clone, Copy, Debug, PartialEq, Eq)]
+pub enum LineEvent<'a> {
+    /// The text of the line, without its end.
+    Line(&'a str),
+    /// The text has more than 4,096 bytes.
+    TooLong,
+    /// The text is not UTF-8.
+    NotUtf8,
+}
+
+/// Takes the bytes of a stream and holds one line at a time.
+///
+/// It stands for the bytes taken since its last `next_line` or `clear`: it keeps at most 4,097 of them, and whether
+/// there were more.
+#[derive(Debug, Drop)]
+pub struct LineReader {
+    kept: Vec<u8>,
+    over: bool,
+    held: bool,
+}
+
+impl Model for LineReader {
+    ghost use Rattle.std.specs.Prelude.{◌≡◌, ◌≤◌, vec_capacity, vec_len};
+    ghost use Rattle.amcp_text.specs.ReaderState.{ReaderState};
+
+    ghost Value = { ReaderState };
+
+    ghost view = { λ r. record { kept = r.kept.items; over = r.over; held = r.held } };
+
+    ghost invariant = { λ r. (vec_len r.kept ≤ 4097) × (4097 ≤ vec_capacity r.kept) };
+}
+
+impl LineReader {
+    /// A reader that has taken nothing. It takes the room for one line.
+    pub fn new(alloc: Global) -> Result<LineReader, AllocError>
+        ensures { IfOk result (λ reader. StandsFor reader []) }
+    {
+        let kept = Vec::with_capacity(alloc, ROOM)?;
+        Ok(LineReader {
+            kept,
+            over: false,
+            held: false,
+        })
+    }
+
+    /// Takes the bytes up to and with the first LF, and answers how many: 0 exactly where a whole line is held or
+    /// the piece is empty. It takes no memory.
+    pub fn feed(&mut self, piece: &[u8]) -> usize
+        ensures count { result ≡ taken_len self.old.held piece.now }
+        ensures stands { (bytes : List ℕ) → StandsFor self.old bytes → StandsFor self.new (bytes ++ take result piece.now) }
+    {
+        if self.held {
+            return 0;
+        }
+        match line_end(piece) {
+            Some(end) => {
+                self.keep(&piece[..end]);
+                self.held = true;
+                end + 1
+            }
+            None => {
+                self.keep(piece);
+                piece.len()
+            }
+        }
+    }
+
+    /// The line that is held: `None` exactly where no whole line is held.
+    pub fn line(&self) -> Option<LineEvent<'_>>
+        ensures held { IsSome result ↔ IsTrue self.now.held }
+        ensures line { (bytes : List ℕ) → StandsFor self.now bytes → Tells result bytes }
+    {
+        if !self.held {
+            return None;
+        }
+        Some(self.whole_line())
+    }
+
+    /// Drops the line that is held. Where no whole line is held, the bytes taken so far are dropped.
+    pub fn next_line(&mut self)
+        ensures { StandsFor self.new [] }
+    {
+        self.clear();
+    }
+
+    /// Drops all bytes that were taken.
+    pub fn clear(&mut self)
+        ensures { StandsFor self.new [] }
+    {
+        self.kept.clear();
+        self.over = false;
+        self.held = false;
+    }
+
+    /// Keeps as much of the text of a line as there is room for.
+    fn keep(&mut self, text: &[u8])
+        ensures { self.new ≡ with_text self.old text.now }
+    {
+        let room = ROOM - self.kept.len();
+        let fits = text.len().min(room);
+        if self.kept.extend_from_slice(&text[..fits]).is_err() {
+            unreachable!();
+        }
+        if fits < text.len() {
+            self.over = true;
+        }
+    }
+
+    /// The line whose end has come.
+    fn whole_line(&self) -> LineEvent<'_>
+        ensures { line_seen result ≡ line_kept self.now }
+    {
+        if self.over {
+            return LineEvent::TooLong;
+        }
+        line_of_text(without_return(self.kept.as_slice()))
+    }
+}
+
+/// Where the first LF of a piece is.
+fn line_end(piece: &[u8]) -> Option<usize>
+    ensures { result ≡ position is_line_end piece.now }
+{
+    piece.iter().position(|byte| *byte == LINE_END)
+}
+
+/// The bytes without the one CR at their end, where there is one.
+fn without_return(bytes: &[u8]) -> &[u8]
+    ensures { result.now ≡ strip_carriage_return bytes.now }
+{
+    match bytes {
+        [text @ .., b'\r'] => text,
+        _ => bytes,
+    }
+}
+
+/// The line of this text.
+fn line_of_text(text: &[u8]) -> LineEvent<'_>
+    ensures { line_seen result ≡ line_of_text text.now }
+{
+    if text.len() > LINE_LIMIT {
+        return LineEvent::TooLong;
+    }
+    match str::from_utf8(text) {
+        Ok(text) => LineEvent::Line(text),
+        Err(_) => LineEvent::NotUtf8,
+    }
+}

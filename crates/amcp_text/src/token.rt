@@ -1,0 +1,96 @@
+//! Cutting a line into words.
+ghost use Rattle.std.specs.Prelude.{◌≡◌, MatchOption};
+ghost use Rattle.std.specs.Str.{chars};
+ghost use Rattle.amcp_text.specs.Words.{Escape, Bad, escape_with, is_blank};
+ghost use Rattle.amcp_text.specs.Tokens.{AreTokens};
+
+use crate::word_list::WordList;
+use std::alloc::{AllocError, Global};
+
+/// Why a line has no words. `at` is a byte of the line.
+#[derive(Clone, Copy, Debug, PartialEq, Eq)]
+pub enum TokenFault {
+    /// The line ends inside quotes, which the quotation mark at `at` opened.
+    OpenQuote { at: usize },
+    /// The backslash at `at` is followed by no character, or by one that forms no escape with it.
+    BadEscape { at: usize },
+    OutOfMemory,
+}
+
+impl From<AllocError> for TokenFault {
+    ghost use Rattle.std.specs.Prelude.{◌≡◌};
+    ghost use Rattle.amcp_text.specs.declared.token.TokenFault.TheVariants.{OutOfMemory};
+
+    ghost from_gives = { λ _ fault. fault ≡ OutOfMemory };
+
+    fn from(_: AllocError) -> TokenFault {
+        TokenFault::OutOfMemory
+    }
+}
+
+/// The words of a line.
+///
+/// Spaces and tabs outside quotes part words. A quotation mark that is not escaped opens or closes quotes at any place
+/// of a word, and is no part of it, so `""` is the empty word. The escapes, inside quotes and outside, are `\"`, `\\`
+/// and `\n`, the new line. The first bad escape is answered, and open quotes only where there is none.
+pub fn tokens(alloc: Global, line: &str) -> Result<WordList, TokenFault>
+    ensures { AreTokens (chars line.now) result }
+{
+    let mut words = WordList::new(alloc);
+    let mut word = String::new(alloc);
+    let mut begun = false;
+    let mut open = None;
+    let mut escape = None;
+    for (at, c) in line.char_indices() {
+        if let Some(start) = escape {
+            match escaped(c) {
+                Some(c) => word.push(c)?,
+                None => return Err(TokenFault::BadEscape { at: start }),
+            }
+            begun = true;
+            escape = None;
+        } else if c == '\\' {
+            escape = Some(at);
+        } else if c == '"' {
+            open = if open.is_none() { Some(at) } else { None };
+            begun = true;
+        } else if is_blank(c) && open.is_none() {
+            if begun {
+                words.push(word.as_str())?;
+            }
+            word.clear();
+            begun = false;
+        } else {
+            word.push(c)?;
+            begun = true;
+        }
+    }
+    if let Some(at) = escape {
+        return Err(TokenFault::BadEscape { at });
+    }
+    if let Some(at) = open {
+        return Err(TokenFault::OpenQuote { at });
+    }
+    if begun {
+        words.push(word.as_str())?;
+    }
+    Ok(words)
+}
+
+/// The character that a backslash stands for together with this one, if they form an escape.
+fn escaped(c: char) -> Option<char>
+    ensures { MatchOption result (escape_with c ≡ Bad) (λ stands_for. escape_with c ≡ Escape stands_for) }
+{
+    match c {
+        '"' => Some('"'),
+        '\\' => Some('\\'),
+        'n' => Some('\n'),
+        _ => None,
+    }
+}
+
+fn is_blank(c: char) -> bool
+    ensures { result ≡ is_blank c }
+{
+    c == ' ' || c == '\t'
+}

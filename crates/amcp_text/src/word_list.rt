@@ -1,0 +1,64 @@
+//! The words of a line.
+ghost use Rattle.std.specs.Prelude.{◌≡◌, ◌==◌, ◌∷◌, ◌++◌, [], length, OnOk, OnErr, option_map, slice_get};
+ghost use Rattle.std.specs.Str.{chars};
+
+use std::alloc::{AllocError, Global};
+use std::marker::Model;
+
+/// Words in order. Contracts see a list of words, each the list of its characters.
+#[derive(Debug, Drop)]
+pub struct WordList {
+    words: Vec<String>,
+}
+
+impl Model for WordList {
+    ghost use Rattle.std.specs.Prelude.{List, ℕ, map, string_bytes};
+    ghost use Rattle.std.specs.Str.{chars};
+
+    ghost Value = { List (List ℕ) };
+
+    ghost view = { λ l. map (λ word. chars (string_bytes word)) l.words.items };
+}
+
+impl WordList {
+    /// No words. It takes no memory.
+    pub fn new(alloc: Global) -> WordList
+        ensures { result ≡ [] }
+    {
+        WordList {
+            words: Vec::new(alloc),
+        }
+    }
+
+    /// Adds a copy of a word at the end. At want of memory the list is as before.
+    pub fn push(&mut self, word: &str) -> Result<(), AllocError>
+        ensures ok { OnOk result (self.new ≡ self.old ++ chars word.now ∷ []) }
+        ensures err { OnErr result (self.new ≡ self.old) }
+    {
+        let word = String::from_str(*self.words.allocator(), word)?;
+        self.words.push(word)?;
+        Ok(())
+    }
+
+    pub fn len(&self) -> usize
+        ensures { result ≡ length self.now }
+    {
+        self.words.len()
+    }
+
+    pub fn is_empty(&self) -> bool
+        ensures { result ≡ (length self.now == 0) }
+    {
+        self.words.is_empty()
+    }
+
+    /// `None` exactly where `at` is not below the length.
+    pub fn get(&self, at: usize) -> Option<&str>
+        ensures { option_map (λ word. chars word.now) result ≡ slice_get self.now at }
+    {
+        match self.words.get(at) {
+            Some(word) => Some(word.as_str()),
+            None => None,
+        }
+    }
+}

@@ -1,0 +1,13 @@
+//! Writes frames: raw, as lines of hexadecimal, or as digests.
+//!
+//! A writer takes no memory. It answers `Failed` only where the sink failed, and then a front of the text went out.
+#![tactic(auto)]
+
+mod digest_line;
+mod hex_lines;
+mod label;
+mod raw;
+
+pub use digest_line::write_digest;
+pub use hex_lines::write_hex;
+pub use raw::write_raw;

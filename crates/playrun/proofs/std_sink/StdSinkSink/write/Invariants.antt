@@ -1,0 +1,6 @@
+use Rattle.std.proofs.Common.{◌≡◌}
+use Rattle.playrun.proofs.std_sink.StdSinkSink.write.Given as goal
+
+-- an interruption is no fault
+abbrev pub invariant-loop : goal.invariant-loop
+invariant-loop g l = l.self.faults ≡ l.initial.self.faults

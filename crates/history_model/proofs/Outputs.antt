@@ -1,8 +1,9 @@
 -- The output of a script that grows by one line.
-use Rattle.std.proofs.Common.{◌≡◌, ℕ, zero, suc, ◌+◌, ◌<◌, ◌≤◌, List, [], ◌∷◌, ◌++◌, refl, sym, ap, ap₂, ◌∙◌, append_assoc, append-nil, arith}
+use Rattle.std.proofs.Common.{◌≡◌, ℕ, zero, suc, ◌+◌, ◌<◌, ◌≤◌, List, [], ◌∷◌, ◌++◌, refl, sym, ap, ap₂, ◌∙◌, append_assoc, append-nil, replicate, arith}
 use Rattle.std.specs.Prelude.{flat_map}
 use Rattle.std.proofs.lemmas.Grind.{flat_map-append}
 use Rattle.play_types.specs.declared.event.Event.{Event}
+use Rattle.play_types.specs.declared.event.Event.TheVariants as event
 use Rattle.std.specs.List.{range_with_len}
 use Rattle.play_types.specs.History.{ticks}
 use Rattle.pixel_math.specs.Pixel.{PixelView, pixel_bytes}
@@ -10,7 +11,7 @@ use Rattle.history_model.specs.ColourHistory.{IsColourHistory, last_colour, pixe
 use Rattle.history_model.specs.Frame.{frame_pixel}
 use Rattle.history_model.specs.FrameText.{frame_bytes, frame_lines}
 use Rattle.history_model.specs.Script.{ScriptLine, line_events, script_events}
-use Rattle.history_model.specs.ScriptOutput.{one_channel, next_frame, line_output, output_after, script_output}
+use Rattle.history_model.specs.ScriptOutput.{one_channel, next_frame, next_frames, line_output, output_after, script_output}
 use Rattle.history_model.proofs.Colours.{frame_pixel-colours}
 
 -- the events of a line come after those of the lines before it
@@ -55,3 +56,20 @@ next_frame-colours width height events colours =
     ap (λ (frame : List ℕ). frame_lines 1 (ticks events + 1) width height 0 frame [])
     (same_frame_bytes width height (frame_pixel (one_channel width height) events 1) (λ x y. pixel_of_colour (last_colour events))
     (λ x y left right. frame_pixel-colours (one_channel width height) events colours x y left right))
+
+-- the frames of one tick more
+pub next_frames-snoc : (width height : ℕ) (events : List Event) (count : ℕ) → next_frames width height events (suc count) ≡ next_frames width height events count ++ next_frame width height (events ++ replicate count event.Tick)
+unfolding next_frames
+next_frames-snoc width height events zero =
+    append-nil (next_frame width height events) ∙ ap (next_frame width height) (sym (append-nil events))
+next_frames-snoc width height events (suc count) =
+    ap (λ (text : List ℕ). next_frame width height events ++ text)
+        (next_frames-snoc width height (events ++ event.Tick ∷ []) count
+            ∙ ap (λ (es : List Event). next_frames width height (events ++ event.Tick ∷ []) count ++ next_frame width height es)
+                (append_assoc events (event.Tick ∷ []) (replicate count event.Tick)))
+        ∙ sym (append_assoc (next_frame width height events) (next_frames width height (events ++ event.Tick ∷ []) count)
+            (next_frame width height (events ++ replicate (suc count) event.Tick)))
+
+pub next_frames-none : (width height : ℕ) (events : List Event) → next_frames width height events 0 ≡ []
+unfolding next_frames
+next_frames-none width height events = refl

@@ -1,5 +1,6 @@
 -- Lines of a text that grows by one byte.
-use Rattle.std.proofs.Common.{◌≡◌, ℕ, ◌<◌, Bool, true, false, cond, eqb, List, [], ◌∷◌, ◌++◌, length, refl, sym, ap, ◌∙◌, arith}
+use Rattle.std.proofs.Common.{◌≡◌, ℕ, ◌<◌, Bool, true, false, cond, eqb, List, [], ◌∷◌, ◌++◌, length, refl, sym, ap, ◌∙◌, append-nil, append_assoc, arith}
+use Rattle.std.proofs.lemmas.Bool.Decides.{nat_tests}
 use Rattle.std.specs.List.{onto_first}
 use Rattle.std.specs.Str.Lines.{strip_carriage_return, lines, lines_of_parts}
 use Rattle.history_model.specs.ScriptInput.{parts, ended_parts, last_part, ended_lines, unended}
@@ -121,3 +122,23 @@ lines_of_parts-ended (part ∷ next ∷ more) =
 pub lines-ended : (bytes : List ℕ) → lines bytes ≡ ended_lines bytes ++ last_line (unended bytes)
 unfolding ended_lines unended
 lines-ended bytes = lines_of_parts-ended (parts bytes)
+
+ended_lines-more_by : (bytes : List ℕ) (c : ℕ) (b : Bool) → eqb c 10 ≡ b → (more : List (List ℕ)) × (ended_lines (bytes ++ c ∷ []) ≡ ended_lines bytes ++ more)
+ended_lines-more_by bytes c true is =
+    (strip_carriage_return (unended bytes) ∷ [], ap (λ (k : ℕ). ended_lines (bytes ++ k ∷ [])) (is_ten c is) ∙ ended_lines-feed bytes)
+  where
+    is_ten : (c : ℕ) → eqb c 10 ≡ true → c ≡ 10
+    is_ten c is = grind (arith, nat_tests)
+ended_lines-more_by bytes c false is = ([], ended_lines-other bytes c is ∙ sym (append-nil (ended_lines bytes)))
+
+-- the lines that have ended stand first among those of more bytes
+pub ended_lines-more : (bytes rest : List ℕ) → (more : List (List ℕ)) × (ended_lines (bytes ++ rest) ≡ ended_lines bytes ++ more)
+ended_lines-more bytes [] = ([], ap ended_lines (append-nil bytes) ∙ sym (append-nil (ended_lines bytes)))
+ended_lines-more bytes (c ∷ rest) =
+    let next = ended_lines-more (bytes ++ c ∷ []) rest in
+    let one = ended_lines-more_by bytes c (eqb c 10) refl in
+    (
+      one.0 ++ next.0,
+      ap ended_lines (sym (append_assoc bytes (c ∷ []) rest)) ∙ next.1 ∙ ap (λ (ls : List (List ℕ)). ls ++ next.0) one.1
+          ∙ append_assoc (ended_lines bytes) one.0 next.0,
+    )

@@ -1,10 +1,11 @@
 -- The histories that scripts of colours make.
-use Rattle.std.proofs.Common.{◌≡◌, ℕ, List, [], ◌∷◌, ◌++◌, refl, sym, ap, ◌∙◌}
+use Rattle.std.proofs.Common.{replicate, zero, suc, ◌+◌, arith, ◌≡◌, ℕ, List, [], ◌∷◌, ◌++◌, refl, sym, ap, ◌∙◌}
 use Rattle.std.specs.Prelude.{Option, Some, None}
 use Rattle.std.specs.Option.{option_or}
 use Rattle.play_types.specs.History.{ticks}
 use Rattle.play_types.specs.declared.event.Tag.{Tag}
 use Rattle.play_types.specs.declared.event.Event.{Event}
+use Rattle.play_types.specs.declared.event.Event.TheVariants as event
 use Rattle.history_model.specs.ColourHistory.{IsColourHistory, event_colour, last_colour}
 use Rattle.history_model.specs.Script.{played}
 
@@ -42,3 +43,16 @@ last_colour-played tag (Some colour) = refl
 pub ticks-played : (tag : Tag) (colour : Option ℕ) → ticks (played tag colour) ≡ 0
 ticks-played tag None = refl
 ticks-played tag (Some colour) = refl
+
+-- so many ticks are such a history, without a colour
+pub IsColourHistory-ticks : (count : ℕ) → IsColourHistory (replicate count event.Tick)
+IsColourHistory-ticks zero = tt
+IsColourHistory-ticks (suc count) = (tt, IsColourHistory-ticks count)
+
+pub last_colour-ticks : (count : ℕ) → last_colour (replicate count event.Tick) ≡ None
+last_colour-ticks zero = refl
+last_colour-ticks (suc count) = ap (λ (c : Option ℕ). option_or c None) (last_colour-ticks count)
+
+pub ticks-ticks : (count : ℕ) → ticks (replicate count event.Tick) ≡ count
+ticks-ticks zero = refl
+ticks-ticks (suc count) = ap (λ (n : ℕ). 1 + n) (ticks-ticks count) ∙ omega arith

@@ -19,6 +19,9 @@ pub mod Touched
 pub mod Worked
 pub mod FrameText
 pub mod Numbers
+pub mod Asked
+pub mod Parts
 pub mod Script
 pub mod ScriptInput
+pub mod ReplyText
 pub mod ScriptOutput

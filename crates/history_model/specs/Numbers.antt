@@ -1,13 +1,6 @@
 -- Numbers in the words of a script and of a command line.
 use Rattle.std.specs.Prelude.{ℕ, ◌&&◌, ◌==◌, nat_le, if◌then◌else◌, Option, Some, None, option_and_then, List, [], ◌∷◌}
-use Rattle.std.specs.Char.{is_ascii_digit}
-use Rattle.std.specs.List.{list_all}
-use Rattle.std.specs.Str.Parse.{digits_value}
-
--- the value of one or more digits
-abbrev pub whole_number : List ℕ → Option ℕ
-whole_number [] = None
-whole_number (c ∷ cs) = if list_all is_ascii_digit (c ∷ cs) then Some (digits_value 10 (c ∷ cs)) else None
+use Rattle.amcp_text.specs.Numbers.{whole_number}
 
 -- the number, where it lies from the one end to the other
 abbrev pub within : ℕ → ℕ → ℕ → Option ℕ

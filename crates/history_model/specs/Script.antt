@@ -1,34 +1,34 @@
 -- Scripts: lines of connections and of ticks, in the order in which they happen.
-use Rattle.std.specs.Prelude.{ℕ, ◌+◌, ◌==◌, nat_lt, if◌then◌else◌, Bool, true, false, Option, Some, None, option_map, option_and_then, List, [], ◌∷◌, length, take, drop, position, flat_map, codes}
-use Rattle.std.specs.Result.{result_ok}
-use Rattle.std.specs.Str.{bytes_eq}
-use Rattle.std.specs.Int.{w32, from_be_bytes}
-use Rattle.hex.specs.Hex.{decode_sized}
+use Rattle.std.specs.Prelude.{ℕ, ◌+◌, ◌==◌, nat_lt, if◌then◌else◌, Bool, true, false, Option, Some, None, option_map, option_and_then, List, [], ◌∷◌, length, take, drop, position, flat_map, replicate}
 use Rattle.play_types.specs.declared.command.Cmd.TheVariants as cmd
 use Rattle.play_types.specs.declared.event.Tag.{Tag}
 use Rattle.play_types.specs.declared.event.Event.{Event}
 use Rattle.play_types.specs.declared.event.Event.TheVariants as event
-use Rattle.history_model.specs.Numbers.{plain_number_within}
+use Rattle.history_model.specs.Asked.{asked, asked_colour}
+use Rattle.history_model.specs.Parts.{parts_at}
+use Rattle.history_model.specs.Numbers.{number_within, plain_number_within}
 use Rattle.history_model.specs.ColourHistory.{first_place, colour_take}
 
 -- what a line of a script says
 pub data ScriptLine : Type 0 where
-  -- one tick of all channels
-  Tick : ScriptLine
+  -- nothing, for a reader alone
+  Comment : ScriptLine
+  -- so many ticks of all channels
+  Ticks : ℕ → ScriptLine
   -- a connection's line
   Said : Tag → List ℕ → ScriptLine
+  -- the server's own stop, with which the run ends
+  Stop : ScriptLine
   -- nothing that a script may say
   NoForm : ScriptLine
 
--- whether a line says something that a script may say
-abbrev pub is_formed : ScriptLine → Bool
-is_formed Tick = true
-is_formed (Said tag text) = true
-is_formed NoForm = false
-
--- what stands before the first such byte and what stands after it, where there is one
-abbrev pub parts_at : ℕ → List ℕ → Option (List ℕ × List ℕ)
-parts_at byte text = option_map (λ at. (take at text, drop (at + 1) text)) (position (λ c. c == byte) text)
+-- whether the run goes on after a line
+abbrev pub goes_on : ScriptLine → Bool
+goes_on Comment = true
+goes_on (Ticks count) = true
+goes_on (Said tag text) = true
+goes_on Stop = false
+goes_on NoForm = false
 
 -- `w.s text`: the digits of the worker, of the session, and the text
 abbrev pub addressed_parts : List ℕ → Option (List ℕ × (List ℕ × List ℕ))
@@ -55,33 +55,55 @@ said_line (Some parts) = said_by parts.1.1 (tag_of parts.0 parts.1.0)
 abbrev pub longest_line : ℕ
 longest_line = 8192
 
+-- a tick, or so many: 1 to 100,000
+abbrev pub ticks_line : Option ℕ → ScriptLine
+ticks_line None = NoForm
+ticks_line (Some count) = Ticks count
+
+abbrev pub after_t : List ℕ → ScriptLine
+after_t [] = Ticks 1
+after_t (c ∷ digits) = if c == 32 then ticks_line (number_within 1 100000 digits) else NoForm
+
+abbrev pub after_x : List ℕ → ScriptLine
+after_x [] = Stop
+after_x (c ∷ more) = NoForm
+
+-- what a line that is not too long says: it may be empty, begin with #, be a tick or a stop, or be a connection's
+abbrev pub short_meaning : List ℕ → ScriptLine
+short_meaning [] = Comment
+short_meaning (c ∷ more) =
+    if c == 35 then Comment
+    else if c == 84 then after_t more
+    else if c == 88 then after_x more
+    else said_line (addressed_parts (c ∷ more))
+
 -- what a line says
 abbrev pub meaning : List ℕ → ScriptLine
-meaning line =
-    if nat_lt longest_line (length line) then NoForm
-    else if bytes_eq line (codes "T") then Tick
-    else said_line (addressed_parts line)
+meaning line = if nat_lt longest_line (length line) then NoForm else short_meaning line
 
--- the colour 0xAARRGGBB of eight hexadecimal digits, in either case
-abbrev pub colour_of_digits : List ℕ → Option ℕ
-colour_of_digits digits = option_map (from_be_bytes w32) (result_ok (decode_sized digits 4))
-
--- the colour that a text starts on layer 0 of channel 1: `PLAY 1-0 #AARRGGBB`
-abbrev pub played_colour : List ℕ → Option ℕ
-played_colour text =
-    if bytes_eq (take 10 text) (codes "PLAY 1-0 #") then colour_of_digits (drop 10 text) else None
-
--- the event that a colour is started there, with a cut
+-- the event that a colour is started on layer 0 of channel 1, with a cut
 abbrev pub played : Tag → Option ℕ → List Event
 played tag None = []
 played tag (Some colour) = event.Do tag (cmd.PlayTake first_place (colour_take colour)) ∷ []
 
+-- the server itself
+abbrev pub server : Tag
+server = record { worker = 0; session = 0 }
+
 -- the events of a line
 abbrev pub line_events : ScriptLine → List Event
-line_events Tick = event.Tick ∷ []
-line_events (Said tag text) = played tag (played_colour text)
+line_events Comment = []
+line_events (Ticks count) = replicate count event.Tick
+line_events (Said tag text) = played tag (asked_colour (asked text))
+line_events Stop = event.Stop server ∷ []
 line_events NoForm = []
 
 -- the history that the lines make
 abbrev pub script_events : List ScriptLine → List Event
 script_events lines = flat_map line_events lines
+
+-- the lines up to the first stop
+abbrev pub until_stop : List ScriptLine → List ScriptLine
+until_stop [] = []
+until_stop (Stop ∷ more) = Stop ∷ []
+until_stop (line ∷ more) = line ∷ until_stop more

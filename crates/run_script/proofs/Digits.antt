@@ -1,26 +1,37 @@
 -- Numbers read digit by digit.
-use Rattle.std.proofs.Common.{◌≡◌, ◌-◌, ℕ, ◌+◌, ◌*◌, ◌<◌, ◌≤◌, Bool, true, false, List, [], ◌∷◌, take, length, get_or, refl, ap, ◌∙◌, arith}
+use Rattle.std.proofs.Common.{◌≡◌, ◌-◌, ◌&&◌, ℕ, ◌+◌, ◌*◌, ◌<◌, ◌≤◌, Bool, true, false, cond, ltb, List, [], ◌∷◌, take, length, get_or, refl, sym, ap, ◌∙◌, arith}
 use Rattle.std.specs.Prelude.{Some, None, option_and_then}
 use Rattle.std.specs.Char.{is_ascii_digit, digit_value}
 use Rattle.std.specs.Int.{IsInRange}
 use Rattle.std.specs.List.{list_all}
 use Rattle.std.specs.Str.Parse.{digits_value}
 use Rattle.std.proofs.lemmas.Str.{digit_value_digit}
+use Rattle.std.proofs.lemmas.Bool.{false≢true}
 use Rattle.std.proofs.lemmas.Bool.Decides.{nat_tests}
 use Rattle.std.proofs.lemmas.Int.Digits.{digits_value_more}
 use Rattle.std.proofs.lemmas.Str.Parse.{digits_value-take-le}
 use Rattle.std.proofs.lemmas.List.Folds.{list_all_at, list_all_more}
-use Rattle.history_model.specs.Numbers.{whole_number, within, number_within}
+use Rattle.amcp_text.specs.Numbers.{whole_number}
+use Rattle.history_model.specs.Numbers.{within, number_within}
+
+chosen : (a b : Bool) (n : ℕ) → a ≡ true → b ≡ true → cond (a && b) (Some n) None ≡ Some n
+chosen true true n a b = refl
+chosen true false n a b = absurd (false≢true b)
+chosen false b' n a b = absurd (false≢true a)
+
+not_chosen : (a b : Bool) (n : ℕ) → b ≡ false → cond (a && b) (Some n) None ≡ None
+not_chosen true false n b = refl
+not_chosen true true n b = absurd (false≢true (sym b))
+not_chosen false b' n b = refl
 
 -- the number of a text that has digits alone
 whole_number-digits : (text : List ℕ) → 0 < length text → list_all is_ascii_digit text ≡ true → whole_number text ≡ Some (digits_value 10 text)
-whole_number-digits [] some digits = absurd (omega arith)
-whole_number-digits (c ∷ cs) some digits = rw digits refl
+whole_number-digits text some digits =
+    chosen (ltb 0 (length text)) (list_all is_ascii_digit text) (digits_value 10 text) (grind (arith, nat_tests)) digits
 
 -- there is none where some character is no digit
 whole_number-none : (text : List ℕ) → list_all is_ascii_digit text ≡ false → whole_number text ≡ None
-whole_number-none [] digits = refl
-whole_number-none (c ∷ cs) digits = rw digits refl
+whole_number-none text digits = not_chosen (ltb 0 (length text)) (list_all is_ascii_digit text) (digits_value 10 text) digits
 
 -- a number above the upper end is not within the ends
 within-above : (least most number : ℕ) → most < number → within least most number ≡ None

@@ -1,11 +1,21 @@
 -- How a run ends, and what it says then.
-use Rattle.std.specs.Prelude.{ℕ, List, [], ◌∷◌, ◌++◌, codes, decimal}
+use Rattle.std.specs.Prelude.{ℕ, ◌+◌, List, [], ◌∷◌, ◌++◌, codes, decimal}
+use Rattle.run_script.specs.declared.ending.Halt.{Halt}
+use Rattle.run_script.specs.declared.ending.Halt.TheVariants as halt
 use Rattle.run_script.specs.declared.ending.Ending.{Ending}
-use Rattle.run_script.specs.declared.ending.Ending.TheVariants.{Finished, BadLine, TooLong, ReadFault, WriteFault, Memory}
+use Rattle.run_script.specs.declared.ending.Ending.TheVariants.{Finished, Stopped, BadLine, TooLong, ReadFault, WriteFault, Memory}
+
+-- how a run ends that stops after so many lines
+abbrev pub ending_of : Halt → ℕ → Ending
+ending_of halt.Stop lines = Stopped
+ending_of halt.NoForm lines = BadLine (lines + 1)
+ending_of halt.Write lines = WriteFault
+ending_of halt.Memory lines = Memory
 
 -- the exit status
 abbrev pub status_of : Ending → ℕ
 status_of Finished = 0
+status_of Stopped = 0
 status_of (BadLine number) = 2
 status_of TooLong = 2
 status_of ReadFault = 4
@@ -19,6 +29,7 @@ bad_line number = codes "E line " ++ decimal number ++ 10 ∷ []
 -- the line that says what went wrong
 abbrev pub fault_line : Ending → List ℕ
 fault_line Finished = []
+fault_line Stopped = []
 fault_line (BadLine number) = bad_line number
 fault_line TooLong = codes "E input too long\n"
 fault_line ReadFault = codes "E device\n"

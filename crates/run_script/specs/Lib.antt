@@ -1,7 +1,5 @@
 pub mod Ending
 pub mod Line
-pub mod Program
-pub mod Run
-pub mod Script
-pub mod Stage
+pub mod Request
 pub mod Words
+pub mod Stage

@@ -1,14 +1,15 @@
 //! How a run goes on or ends.
 ghost use Rattle.std.specs.Prelude.{◌≡◌, ◌<◌, ◌^◌};
 ghost use Rattle.play_outside.specs.Sink.{Sends};
-ghost use Rattle.run_script.specs.Run.{ending_of};
-ghost use Rattle.run_script.specs.Ending.{status_of, bad_line, fault_line};
+ghost use Rattle.run_script.specs.Ending.{ending_of, status_of, bad_line, fault_line};
 
 use play_outside::{Sent, Sink, send, send_number};
 
 /// Why a run stops at a line.
 #[derive(Clone, Copy, Debug, PartialEq, Eq)]
 pub enum Halt {
+    /// The line is the server's own stop.
+    Stop,
     /// The line says nothing that a script may say.
     NoForm,
     /// A write failed.
@@ -21,6 +22,8 @@ pub enum Halt {
 pub enum Ending {
     /// The input ended, and all its lines were taken.
     Finished,
+    /// A line was the server's own stop.
+    Stopped,
     /// The line of this number, from 1, says nothing that a script may say.
     BadLine(u64),
     /// The input has more bytes than a script may have.
@@ -37,6 +40,7 @@ impl Halt {
         ensures { result ≡ ending_of self lines }
     {
         match self {
+            Halt::Stop => Ending::Stopped,
             Halt::NoForm => Ending::BadLine(lines + 1),
             Halt::Write => Ending::WriteFault,
             Halt::Memory => Ending::Memory,
@@ -50,7 +54,7 @@ impl Ending {
         ensures { result ≡ status_of self }
     {
         match self {
-            Ending::Finished => 0,
+            Ending::Finished | Ending::Stopped => 0,
             Ending::BadLine(_) | Ending::TooLong => 2,
             Ending::ReadFault | Ending::WriteFault => 4,
             Ending::Memory => 5,
@@ -62,7 +66,7 @@ impl Ending {
         ensures { Sends result (fault_line self) (K.state out.old) (K.state out.new) }
     {
         match self {
-            Ending::Finished => Sent::All,
+            Ending::Finished | Ending::Stopped => Sent::All,
             Ending::BadLine(number) => say_line(number, out),
             Ending::TooLong => send(b"E input too long\n", out),
             Ending::ReadFault | Ending::WriteFault => send(b"E device\n", out),

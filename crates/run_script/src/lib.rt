@@ -6,11 +6,7 @@ mod frame;
 mod line;
 mod numbers;
 mod reply;
-mod run;
-mod script;
+mod request;
 mod stage;
-#[cfg(test)]
-mod tests;
 mod words;
 
-pub use run::run_main;

@@ -1,25 +1,80 @@
 //! Replies, each line after the tag of its connection.
-ghost use Rattle.std.specs.Prelude.{◌≡◌};
+ghost use Rattle.std.specs.Prelude.{◌≡◌, ◌++◌, ◌∷◌, ℕ, List, [], IfOk, string_bytes};
+ghost use Rattle.std.specs.Str.Lines.{strip_carriage_return};
 ghost use Rattle.play_outside.specs.Sink.{Sends};
-ghost use Rattle.history_model.specs.ScriptOutput.{tag_text, reply_line, acknowledgement, refusal};
+ghost use Rattle.history_model.specs.ReplyText.{ended};
+ghost use Rattle.history_model.specs.ScriptOutput.{tag_text, reply_line, tagged_lines};
+ghost use Rattle.run_script.specs.Request.{seen};
+ghost use Rattle.run_script.specs.Stage.{bytes_of};
 
+use crate::request::Request;
 use play_outside::{Sent, Sink, send, send_number};
 use play_types::Tag;
+use std::alloc::{AllocError, Global};
 
-/// Writes that a colour was started.
-pub fn acknowledge<K: Sink>(tag: Tag, out: &mut K) -> Sent
-    ensures { Sends result (acknowledgement tag) (K.state out.old) (K.state out.new) }
+/// The bytes of the reply to a request: none where nothing was asked for.
+pub fn reply_to(alloc: Global, request: &Request) -> Result<Vec<u8>, AllocError>
+    ensures { IfOk result (λ bytes. (width height : ℕ) → bytes.items ≡ bytes_of width height (seen request.now)) }
 {
-    write_line(tag, b"202 PLAY OK", out)
+    match request {
+        Request::Silence => Ok(Vec::new(alloc)),
+        Request::Unknown(line) => two_lines(alloc, b"400 ERROR", line.as_str().as_bytes()),
+        Request::OtherChannel => one_line(alloc, b"401 PLAY ERROR"),
+        Request::Plays(_) => one_line(alloc, b"202 PLAY OK"),
+    }
 }
 
-/// Writes that a text is no command.
-pub fn refuse<K: Sink>(tag: Tag, out: &mut K) -> Sent
-    ensures { Sends result (refusal tag) (K.state out.old) (K.state out.new) }
+/// A reply of one line.
+fn one_line(alloc: Global, line: &[u8]) -> Result<Vec<u8>, AllocError>
+    ensures { IfOk result (λ bytes. bytes.items ≡ ended line.now) }
 {
-    match write_line(tag, b"400 ERROR", out) {
-        Sent::All => write_line(tag, b"", out),
-        Sent::Failed => Sent::Failed,
+    let mut bytes = Vec::new(alloc);
+    add_line(&mut bytes, line)?;
+    Ok(bytes)
+}
+
+/// A reply of two lines.
+fn two_lines(alloc: Global, first: &[u8], second: &[u8]) -> Result<Vec<u8>, AllocError>
+    ensures { IfOk result (λ bytes. bytes.items ≡ ended first.now ++ ended second.now) }
+{
+    let mut bytes = one_line(alloc, first)?;
+    add_line(&mut bytes, second)?;
+    Ok(bytes)
+}
+
+/// Adds a line and its end, CR LF.
+fn add_line(bytes: &mut Vec<u8>, line: &[u8]) -> Result<(), AllocError>
+    ensures { IfOk result (λ _. bytes.new.items ≡ bytes.old.items ++ ended line.now) }
+{
+    bytes.extend_from_slice(line)?;
+    bytes.extend_from_slice(b"\r\n")
+}
+
+/// Writes the lines of a reply, each after the tag.
+pub fn write_reply<K: Sink>(tag: Tag, bytes: &[u8], out: &mut K) -> Sent
+    ensures { Sends result (tagged_lines tag bytes.now) (K.state out.old) (K.state out.new) }
+{
+    let mut start = 0;
+    for at in 0..bytes.len() {
+        if bytes[at] != b'\n' {
+            continue;
+        }
+        match write_line(tag, without_return(&bytes[start..at]), out) {
+            Sent::All => {}
+            Sent::Failed => return Sent::Failed,
+        }
+        start = at + 1;
+    }
+    Sent::All
+}
+
+/// The line without the one carriage return at its end.
+pub fn without_return(line: &[u8]) -> &[u8]
+    ensures { result.now ≡ strip_carriage_return line.now }
+{
+    match line.last() {
+        Some(b'\r') => &line[..line.len() - 1],
+        _ => line,
     }
 }
 

@@ -8,3 +8,6 @@ mod read;
 
 pub use print::print_micro;
 pub use read::read_micro;
+
+#[cfg(test)]
+mod tests;

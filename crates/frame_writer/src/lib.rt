@@ -5,9 +5,12 @@
 
 mod digest_line;
 mod hex_lines;
-mod label;
+mod line;
 mod raw;
 
 pub use digest_line::write_digest;
 pub use hex_lines::write_hex;
 pub use raw::write_raw;
+
+#[cfg(test)]
+mod tests;

@@ -1,5 +1,5 @@
 -- Texts that are sent in parts, one after another.
-use Rattle.std.proofs.Common.{ℕ, ◌+◌, ◌<◌, List, ◌++◌, take, length, sym, ap, ◌∙◌, subst, arith, length-append}
+use Rattle.std.proofs.Common.{◌≡◌, ℕ, ◌+◌, ◌<◌, List, ◌++◌, take, length, sym, ap, ◌∙◌, subst, arith, length-append}
 use Rattle.std.proofs.Math.Seq.{take-append-add}
 use Rattle.std.proofs.lemmas.List.{take-append-le}
 use Rattle.play_outside.specs.SinkState.{SinkState, more_taken, after_taking}
@@ -48,8 +48,8 @@ taken_more done piece first state after so_far all = all ∙ ap (λ (s : SinkSta
 pub Fails-within : (whole done piece rest : List ℕ) (first state after : SinkState) → whole ≡ (done ++ piece) ++ rest → state ≡ after_taking first done → Fails piece state after → Fails whole first after
 Fails-within whole done piece rest first state after parts so_far fails =
     subst (λ text. Fails text first after) (sym parts)
-        (Fails-before (done ++ piece) rest first after
-            (Fails-after done piece first after (subst (λ s. Fails piece s after) so_far fails)))
+    (Fails-before (done ++ piece) rest first after
+    (Fails-after done piece first after (subst (λ s. Fails piece s after) so_far fails)))
 
 -- the last piece of the text was sent, after what stands before it was taken
 pub Sends-last : (result : Sent) (whole done piece : List ℕ) (first state after : SinkState) → whole ≡ done ++ piece → state ≡ after_taking first done → Sends result piece state after → Sends result whole first after

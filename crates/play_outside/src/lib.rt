@@ -14,6 +14,8 @@ mod plain;
 mod planned_faults;
 mod sink;
 mod source;
+#[cfg(test)]
+mod tests;
 mod unread;
 
 pub use folder::{FileFault, MediaDir};

@@ -1,14 +1,14 @@
 //! Frames as lines of hexadecimal.
-ghost use Rattle.std.specs.Prelude.{◌≡◌, ◌≤◌, ◌*◌, ◌∷◌, ◌++◌, [], length};
+ghost use Rattle.std.specs.Prelude.{◌≡◌, ◌*◌, length};
 ghost use Rattle.play_outside.specs.Sink.{Sends};
-ghost use Rattle.history_model.specs.FrameText.{frame_lines, head_line, row_lines, sound_line};
+ghost use Rattle.history_model.specs.FrameText.{frame_lines, head_line, row_lines};
 
 use crate::line::{send_label, write_line};
 use play_outside::{Sent, Sink, send};
 use play_types::Geometry;
 
-/// Writes a frame as lines: `F`, the channel and the tick, then each row in lower-case hexadecimal, then the sound
-/// where the channel has sound.
+/// Writes a frame as lines: `F`, the channel and the tick; then each row from the top, in lower-case hexadecimal; then
+/// the sound, in the same digits, where the channel has sound. A pixel has four bytes, and so has a pair of sound.
 pub fn write_hex<K: Sink>(
     channel: u8,
     tick: u64,

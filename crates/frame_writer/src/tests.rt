@@ -4,7 +4,7 @@ use play_outside::{MemSink, Sent};
 use play_types::Geometry;
 use std::test::Fail;
 
-const RED_AND_RED: [u8; 8] = [0, 0, 255, 255, 0, 0, 255, 255];
+const TWO_RED_PIXELS: [u8; 8] = [0, 0, 255, 255, 0, 0, 255, 255];
 
 const SILENT: Geometry = Geometry {
     width: 2,
@@ -22,7 +22,7 @@ fn writes_frames(rt: HostRuntime) -> Result<(), Fail> {
     };
     let sound = [0, 128, 255, 127, 1, 0, 254, 255, 16, 0, 10, 11];
     let sent = [
-        write_hex(1, 1, SILENT, &RED_AND_RED, &[], &mut sink),
+        write_hex(1, 1, SILENT, &TWO_RED_PIXELS, &[], &mut sink),
         write_hex(2, 30, sounding, &[1, 32, 171, 205], &sound, &mut sink),
         write_digest(9, 18446744073709551615, b"ab", b"c", &mut sink),
         write_digest(1, 2, &[], &[], &mut sink),
@@ -53,7 +53,7 @@ fn stops_at_a_fault(rt: HostRuntime) -> Result<(), Fail> {
         (8, "F 1 1\n0000ffff0000ff"),
     ] {
         let mut sink = MemSink::new(rt.alloc(), 0, 400, 7, vec![in rt.alloc(); fails]?)?;
-        let sent = write_hex(1, 1, SILENT, &RED_AND_RED, &[], &mut sink);
+        let sent = write_hex(1, 1, SILENT, &TWO_RED_PIXELS, &[], &mut sink);
         assert_eq!(rt; sent, Sent::Failed);
         assert_eq!(rt; sink.taken(), front.as_bytes());
         assert_eq!(rt; sink.faults(), 1);

@@ -1,1 +1,6 @@
+pub mod Counting
+mod Finding
+mod Giving
+pub mod Reading
+pub mod Sending
 pub mod Taking

@@ -5,3 +5,5 @@ pub mod SinkState
 pub mod Sink
 pub mod FolderState
 pub mod Folder
+pub mod Held
+pub mod MemSink

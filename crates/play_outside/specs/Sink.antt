@@ -7,9 +7,9 @@ use Rattle.play_outside.specs.declared.sink.WriteStep.TheVariants.{Took, Failed}
 use Rattle.play_outside.specs.declared.sink.Sent.{Sent}
 use Rattle.play_outside.specs.declared.sink.Sent.TheVariants as sent
 
--- the sink failed after it took a front of the bytes, and keeps its mark
+-- the sink failed after it took some of the bytes from their front, but not all, and keeps its mark
 pub record Fails (bytes : List ℕ) (before after : SinkState) : Type 0 where
-  pub front : (count : ℕ) × (count ≤ length bytes) × (after.taken ≡ more_taken before.taken (take count bytes))
+  pub front : (count : ℕ) × (count < length bytes) × (after.taken ≡ more_taken before.taken (take count bytes))
   pub rose : Rose before.faults after.faults
   pub mark : after.mark ≡ before.mark
 

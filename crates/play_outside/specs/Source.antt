@@ -1,5 +1,5 @@
 -- What a read does.
-use Rattle.std.specs.Prelude.{◌≡◌, ℕ, ◌<◌, ◌≤◌, Option, Some, None, List, [], ◌++◌, length, take}
+use Rattle.std.specs.Prelude.{◌≡◌, ℕ, ◌<◌, ◌≤◌, Option, Some, None, IfSome, List, [], ◌++◌, length, take, min, if◌then◌else◌, ◌==◌}
 use Rattle.play_outside.specs.Faults.{Rose}
 use Rattle.play_outside.specs.SourceState.{SourceState}
 use Rattle.play_outside.specs.declared.source.ReadStep.{ReadStep}
@@ -17,10 +17,14 @@ pub record Consumes (bytes : List ℕ) (before after : SourceState) : Type 0 whe
 
 -- nothing is left, where it is told
 abbrev pub IsAtEnd : SourceState → Type 0
-IsAtEnd state = Gives [] state.left (Some [])
+IsAtEnd state = IfSome state.left (λ rest. rest ≡ [])
 
 -- a read gave the bytes at the front of the buffer, or found the end, or failed and gave nothing
 abbrev pub Reads : ReadStep → List ℕ → SourceState → SourceState → Type 0
 Reads (Got count) buffer before after = (0 < count) × (count ≤ length buffer) × Consumes (take count buffer) before after
 Reads End buffer before after = IsAtEnd before × (after ≡ before)
 Reads Failed buffer before after = (after.left ≡ before.left) × Rose before.faults after.faults
+
+-- a read that gives all that is left, or as much of it as the buffer takes
+abbrev pub whole_read : List ℕ → ℕ → ReadStep
+whole_read left room = if length left == 0 then End else Got (min (length left) room)

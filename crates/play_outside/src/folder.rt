@@ -1,9 +1,10 @@
 //! The folder of configuration and media.
-ghost use Rattle.std.specs.Prelude.{string_bytes, map, MatchResult};
+ghost use Rattle.std.specs.Prelude.{◌≡◌, string_bytes, map, MatchResult};
+ghost use Rattle.play_outside.specs.declared.folder.FileFault.TheVariants.{OutOfMemory};
 ghost use Rattle.play_outside.specs.FolderState.{FolderState};
 ghost use Rattle.play_outside.specs.Folder.{Finds, Misses, config_at, names_in, bytes_at};
 
-use std::alloc::Global;
+use std::alloc::{AllocError, Global};
 
 /// Why a file was not read.
 #[derive(Clone, Copy, Debug, PartialEq, Eq)]
@@ -11,6 +12,14 @@ pub enum FileFault {
     /// The file is missing, or the device failed.
     Failed,
     OutOfMemory,
+}
+
+impl From<AllocError> for FileFault {
+    ghost from_gives = { λ _ fault. fault ≡ OutOfMemory };
+
+    fn from(_error: AllocError) -> FileFault {
+        FileFault::OutOfMemory
+    }
 }
 
 /// Files by their names.

@@ -6,9 +6,22 @@
 #![tactic(auto)]
 
 mod folder;
+mod mem_media;
+mod mem_sink;
+mod mem_source;
+mod pieces;
+mod plain;
+mod planned_faults;
 mod sink;
 mod source;
+#[cfg(test)]
+mod tests;
+mod unread;
 
 pub use folder::{FileFault, MediaDir};
-pub use sink::{Sent, Sink, WriteStep, send};
+pub use mem_media::{MemConfig, MemFile, MemMedia};
+pub use mem_sink::MemSink;
+pub use mem_source::MemSource;
+pub use plain::{PlainMedia, PlainSink, PlainSource};
+pub use sink::{Sent, Sink, WriteStep, send, send_number};
 pub use source::{ReadStep, Source};

@@ -1,7 +1,9 @@
 //! What is written to.
-ghost use Rattle.std.specs.Prelude.{◌<◌, length};
+ghost use Rattle.std.specs.Prelude.{◌<◌, length, decimal};
 ghost use Rattle.play_outside.specs.SinkState.{SinkState};
 ghost use Rattle.play_outside.specs.Sink.{Writes, Sends};
+
+use itoa::Buffer;
 
 /// What a write answered.
 #[derive(Clone, Copy, Debug, PartialEq, Eq)]
@@ -42,4 +44,12 @@ pub fn send<K: Sink>(piece: &[u8], to: &mut K) -> Sent
         }
     }
     Sent::All
+}
+
+/// Writes a number in decimal digits, without leading zeros.
+pub fn send_number<K: Sink>(number: u64, to: &mut K) -> Sent
+    ensures { Sends result (decimal number) (K.state to.old) (K.state to.new) }
+{
+    let mut buffer = Buffer::new();
+    send(buffer.format(number).as_bytes(), to)
 }

@@ -1,4 +1,13 @@
 pub mod Place
 pub mod Transition
+pub mod Columns
 pub mod Take
+pub mod Playhead
 pub mod Setting
+pub mod Curve
+pub mod Answer
+pub mod History
+pub mod Geometry
+pub mod ClipFile
+pub mod Media
+pub mod Config

@@ -1,7 +1,8 @@
 -- What contracts see of a setting.
-use Rattle.std.specs.Prelude.{◌≡◌, ℕ, ◌⊎◌, Bool, ℤ, pos, neg_ℤ, ◌≤ℤ◌, List, slice_index_or}
+use Rattle.std.specs.Prelude.{◌≡◌, ℕ, ◌≤◌, ◌⊎◌, Bool, ℤ, pos, neg_ℤ, ◌≤ℤ◌, List, [], ◌∷◌, slice_index_or}
 use Rattle.play_types.specs.Place.{PlaceView}
 use Rattle.play_types.specs.declared.transition.Curve.{Curve}
+use Rattle.play_types.specs.declared.transition.Curve.TheVariants.{Linear}
 use Rattle.play_types.specs.declared.setting.Prop.{Prop}
 use Rattle.play_types.specs.declared.setting.Prop.TheVariants.{Opacity, Fill, Clip, Volume, Keyer}
 
@@ -35,3 +36,40 @@ AreValues Fill values =
 AreValues Clip values =
     IsWide (number_at values 0) × IsWide (number_at values 1) × IsWide (number_at values 2) × IsWide (number_at values 3)
 AreValues Keyer values = (number_at values 0 ≡ pos 0) ⊎ (number_at values 0 ≡ pos 1000000)
+
+-- the numbers that are kept: those that the property does not use are 0
+abbrev pub values_of : Prop → List ℤ → List ℤ
+values_of Opacity values = number_at values 0 ∷ pos 0 ∷ pos 0 ∷ pos 0 ∷ []
+values_of Volume values = number_at values 0 ∷ pos 0 ∷ pos 0 ∷ pos 0 ∷ []
+values_of Fill values = values
+values_of Clip values = values
+values_of Keyer values = number_at values 0 ∷ pos 0 ∷ pos 0 ∷ pos 0 ∷ []
+
+-- the duration that is kept, in ticks: a keyer changes at once
+abbrev pub duration_of : Prop → ℕ → ℕ
+duration_of Opacity duration = duration
+duration_of Volume duration = duration
+duration_of Fill duration = duration
+duration_of Clip duration = duration
+duration_of Keyer duration = 0
+
+-- the curve that is kept: a keyer has none, which is written as the straight one
+abbrev pub curve_of : Prop → Curve → Curve
+curve_of Opacity curve = curve
+curve_of Volume curve = curve
+curve_of Fill curve = curve
+curve_of Clip curve = curve
+curve_of Keyer curve = Linear
+
+-- the setting that is kept for these words
+abbrev pub setting_of : PlaceView → Prop → List ℤ → ℕ → Curve → Bool → SettingView
+setting_of place prop values duration curve deferred =
+    record { place = place; prop = prop; values = values_of prop values; duration = duration_of prop duration; curve = curve_of prop curve; deferred = deferred }
+
+-- the numbers and the duration are in range, and what the property does not use is 0
+pub record IsSetting (setting : SettingView) : Type 0 where
+  pub short : setting.duration ≤ 1000000
+  pub in_range : AreValues setting.prop setting.values
+  pub values : values_of setting.prop setting.values ≡ setting.values
+  pub duration : duration_of setting.prop setting.duration ≡ setting.duration
+  pub curve : curve_of setting.prop setting.curve ≡ setting.curve

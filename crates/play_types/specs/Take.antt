@@ -1,6 +1,6 @@
 -- What contracts see of a take.
 use Rattle.std.specs.Prelude.{◌≡◌, ℕ, ◌+◌, ◌<◌, ◌≤◌, Bool, false}
-use Rattle.play_types.specs.Transition.{TransView}
+use Rattle.play_types.specs.Transition.{TransView, cut}
 use Rattle.play_types.specs.declared.take.Spec.{Spec}
 use Rattle.play_types.specs.declared.take.Spec.TheVariants.{Clip, Colour, RouteChannel, RouteLayer}
 
@@ -37,3 +37,11 @@ IsTakeValue (Clip id) looped seek length = (0 < length) × (seek + length ≤ 10
 IsTakeValue (Colour value) looped seek length = (looped ≡ false) × (seek ≡ 0) × (length ≡ 0)
 IsTakeValue (RouteChannel channel) looped seek length = (looped ≡ false) × (seek ≡ 0) × (length ≡ 0)
 IsTakeValue (RouteLayer place) looped seek length = (looped ≡ false) × (seek ≡ 0) × (length ≡ 0)
+
+-- the take as a LOAD keeps it: with a cut, and not starting by itself
+abbrev pub loaded : TakeView → TakeView
+loaded take = record take { trans = cut; auto = false }
+
+-- the take as a PLAY keeps it: not starting by itself
+abbrev pub played : TakeView → TakeView
+played take = record take { auto = false }

@@ -1,5 +1,6 @@
 //! Commands of the stage, and lists of them.
 ghost use Rattle.std.specs.Prelude.{◌≡◌, ◌==◌, ◌∷◌, ◌++◌, [], length, OnOk, OnErr, option_copied, slice_get};
+ghost use Rattle.play_types.specs.Take.{loaded, played};
 
 use crate::place::Place;
 use crate::setting::{Prop, Setting};
@@ -44,6 +45,22 @@ pub enum Cmd {
     Value(Place, Prop),
     /// Asks for the status of all channels.
     Info,
+}
+
+impl Cmd {
+    /// A LOAD. Its take is kept with a cut and without `auto`.
+    pub fn load(place: Place, take: Take) -> Cmd
+        ensures { result ≡ Cmd.Load place (loaded take) }
+    {
+        Cmd::Load(place, take.with_cut().without_auto())
+    }
+
+    /// A PLAY of a take, which is kept without `auto`.
+    pub fn play_take(place: Place, take: Take) -> Cmd
+        ensures { result ≡ Cmd.PlayTake place (played take) }
+    {
+        Cmd::PlayTake(place, take.without_auto())
+    }
 }
 
 /// Commands in order.

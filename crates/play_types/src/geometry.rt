@@ -1,4 +1,6 @@
 //! The size of a picture and of its sound.
+ghost use Rattle.std.specs.Prelude.{◌≡◌, ◌↔◌, IsTrue};
+ghost use Rattle.play_types.specs.Geometry.{IsSize, frame_bytes};
 
 /// The size of a frame: columns, rows, and stereo pairs of sound.
 #[derive(Clone, Copy, Debug, PartialEq, Eq)]
@@ -6,4 +8,20 @@ pub struct Geometry {
     pub width: u16,
     pub height: u16,
     pub pairs: u16,
+}
+
+impl Geometry {
+    /// Whether there are 1 to 4096 columns and rows, and at most 4096 pairs.
+    pub fn is_in_range(self) -> bool
+        ensures { IsTrue result ↔ IsSize self.width self.height self.pairs }
+    {
+        (1..=4096).contains(&self.width) && (1..=4096).contains(&self.height) && self.pairs <= 4096
+    }
+
+    /// The bytes of one frame: four a pixel, then four a pair.
+    pub fn frame_bytes(self) -> u64
+        ensures { result ≡ frame_bytes self }
+    {
+        4 * u64::from(self.width) * u64::from(self.height) + 4 * u64::from(self.pairs)
+    }
 }

@@ -1,6 +1,7 @@
 //! What a layer is asked to play.
-ghost use Rattle.std.specs.Prelude.{◌≡◌, ◌↔◌, IsSome, IfSome};
+ghost use Rattle.std.specs.Prelude.{◌≡◌, ◌↔◌, false, IsSome, IfSome};
 ghost use Rattle.play_types.specs.Take.{IsTake, take_of};
+ghost use Rattle.play_types.specs.Transition.{cut};
 
 use crate::place::Place;
 use crate::transition::Trans;
@@ -81,6 +82,26 @@ impl Take {
                 trans,
                 auto,
             }),
+        }
+    }
+
+    /// The take with a cut for its transition.
+    pub fn with_cut(self) -> Take
+        ensures { result ≡ record self { trans = cut } }
+    {
+        Take {
+            trans: Trans::cut(),
+            ..self
+        }
+    }
+
+    /// The take, which does not start by itself.
+    pub fn without_auto(self) -> Take
+        ensures { result ≡ record self { auto = false } }
+    {
+        Take {
+            auto: false,
+            ..self
         }
     }
 

@@ -1,11 +1,13 @@
 //! A text.
-ghost use Rattle.std.specs.Prelude.{◌≡◌, IfOk, string_bytes};
+ghost use Rattle.std.specs.Prelude.{◌≡◌, ◌==◌, ◌↔◌, nat_eq, length, IsTrue, IfOk, string_bytes};
+ghost use Rattle.std.specs.Cmp.{partial_equiv_from_equiv};
+ghost use Rattle.std.specs.Cmp.Lexicographic.{nat_list_eq_equiv, pointwise};
 ghost use Rattle.std.specs.Str.{chars};
 
 use std::alloc::{AllocError, Global};
 use std::marker::Model;
 
-/// A text. Contracts see the list of its characters.
+/// A text. Contracts see the list of its characters. Two texts are equal where their characters are.
 #[derive(Debug, Drop)]
 pub struct Text {
     text: String,
@@ -35,10 +37,37 @@ impl Text {
         self.text.as_str()
     }
 
+    pub fn is_empty(&self) -> bool
+        ensures { result ≡ (length self.now == 0) }
+    {
+        self.as_str().is_empty()
+    }
+
+    /// Whether the two have the same characters.
+    pub fn is_same(&self, other: &str) -> bool
+        ensures { IsTrue result ↔ (self.now ≡ chars other.now) }
+    {
+        self.as_str() == other
+    }
+
     /// The text itself, without a copy.
     pub fn into_string(self) -> String
         ensures { chars (string_bytes result) ≡ self }
     {
         self.text
     }
+}
+
+impl PartialEq for Text {
+    ghost eq = { pointwise nat_eq };
+
+    ghost laws = { partial_equiv_from_equiv nat_list_eq_equiv };
+
+    fn eq(&self, other: &Text) -> bool {
+        self.as_str() == other.as_str()
+    }
+}
+
+impl Eq for Text {
+    ghost laws = { nat_list_eq_equiv };
 }

@@ -1,0 +1,34 @@
+-- Hexadecimal text of bytes that come in parts.
+use Rattle.std.proofs.Common.{◌≡◌, ℕ, ◌+◌, ◌-◌, ◌/◌, ◌%◌, List, [], ◌∷◌, ◌++◌, take, drop, slice_index, refl, sym, ap, ◌∙◌, arith}
+use Rattle.std.proofs.lemmas.List.{take-append-drop}
+use Rattle.std.proofs.Math.Seq.{take-add}
+use Rattle.hex.specs.Hex.{encode_with, encode_lower, lower_digits}
+
+encode_with-append : (t a b : List ℕ) → encode_with t (a ++ b) ≡ encode_with t a ++ encode_with t b
+unfolding encode_with
+encode_with-append t [] b = refl
+encode_with-append t (x ∷ a) b =
+    ap (λ (text : List ℕ). slice_index t (x / 16) ∷ slice_index t (x % 16) ∷ text) (encode_with-append t a b)
+
+-- the text of two parts is their texts in a row
+pub encode_lower-append : (a b : List ℕ) → encode_lower (a ++ b) ≡ encode_lower a ++ encode_lower b
+encode_lower-append a b = encode_with-append lower_digits a b
+
+-- no bytes have no text
+pub encode_lower-nil : encode_lower [] ≡ []
+unfolding encode_with
+encode_lower-nil = refl
+
+-- the text of a front and of one piece more
+pub encode_lower-more : (at count : ℕ) (bytes : List ℕ) → encode_lower (take (at + count) bytes)
+    ≡ encode_lower (take at bytes) ++ encode_lower (take (at + count - at) (drop at bytes))
+encode_lower-more at count bytes =
+    let piece : at + count - at ≡ count = omega arith in
+    rw piece (rw take-add (encode_lower-append (take at bytes) (take count (drop at bytes))))
+
+-- the text of a front, of one piece more, and of the rest
+pub encode_lower-parts : (at count : ℕ) (bytes : List ℕ) → encode_lower bytes
+    ≡ (encode_lower (take at bytes) ++ encode_lower (take (at + count - at) (drop at bytes))) ++ encode_lower (drop (at + count) bytes)
+encode_lower-parts at count bytes =
+    rw (← encode_lower-more at count bytes)
+    (ap encode_lower (sym (take-append-drop (at + count) bytes)) ∙ encode_lower-append (take (at + count) bytes) (drop (at + count) bytes))

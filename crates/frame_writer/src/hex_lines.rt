@@ -1,0 +1,62 @@
+//! Frames as lines of hexadecimal.
+ghost use Rattle.std.specs.Prelude.{◌≡◌, ◌*◌, length};
+ghost use Rattle.play_outside.specs.Sink.{Sends};
+ghost use Rattle.history_model.specs.FrameText.{frame_lines, head_line, row_lines};
+
+use crate::line::{send_label, write_line};
+use play_outside::{Sent, Sink, send};
+use play_types::Geometry;
+
+/// Writes a frame as lines: `F`, the channel and the tick; then each row from the top, in lower-case hexadecimal; then
+/// the sound, in the same digits, where the channel has sound. A pixel has four bytes, and so has a pair of sound.
+pub fn write_hex<K: Sink>(
+    channel: u8,
+    tick: u64,
+    size: Geometry,
+    frame: &[u8],
+    sound: &[u8],
+    to: &mut K,
+) -> Sent
+    requires frame_size { length frame.now ≡ 4 * size.width * size.height }
+    requires sound_size { length sound.now ≡ 4 * size.pairs }
+    ensures { Sends result (frame_lines channel tick size.width size.height size.pairs frame.now sound.now) (K.state to.old) (K.state to.new) }
+{
+    match write_head(channel, tick, to) {
+        Sent::All => {}
+        Sent::Failed => return Sent::Failed,
+    }
+    match write_rows(4 * usize::from(size.width), size.height, frame, to) {
+        Sent::All => {}
+        Sent::Failed => return Sent::Failed,
+    }
+    if size.pairs == 0 {
+        return Sent::All;
+    }
+    write_line(sound, to)
+}
+
+/// Writes the line that names the channel and the tick.
+fn write_head<K: Sink>(channel: u8, tick: u64, to: &mut K) -> Sent
+    ensures { Sends result (head_line channel tick) (K.state to.old) (K.state to.new) }
+{
+    match send_label(b"F ", channel, tick, to) {
+        Sent::All => {}
+        Sent::Failed => return Sent::Failed,
+    }
+    send(b"\n", to)
+}
+
+/// Writes rows of so many bytes, each as a line.
+fn write_rows<K: Sink>(row_length: usize, rows: u16, frame: &[u8], to: &mut K) -> Sent
+    requires { length frame.now ≡ row_length * rows }
+    ensures { Sends result (row_lines row_length rows frame.now) (K.state to.old) (K.state to.new) }
+{
+    for row in 0..rows {
+        let at = usize::from(row) * row_length;
+        match write_line(&frame[at..at + row_length], to) {
+            Sent::All => {}
+            Sent::Failed => return Sent::Failed,
+        }
+    }
+    Sent::All
+}

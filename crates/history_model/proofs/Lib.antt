@@ -1,0 +1,11 @@
+pub mod Lives
+pub mod Trails
+pub mod Events
+pub mod Later
+pub mod Liveness
+pub mod Placing
+pub mod Colours
+pub mod Frames
+pub mod Parts
+pub mod ScriptColours
+pub mod Outputs

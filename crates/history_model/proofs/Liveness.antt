@@ -1,0 +1,67 @@
+-- Ticks change neither which places are live nor where their contents came from.
+use Rattle.std.proofs.Common.{◌≡◌, ℕ, ◌-◌, ◌<◌, ◌≤◌, Bool, true, false, ◌||◌, List, [], ◌∷◌, ◌++◌, refl, sym, ap, ◌∙◌, ◌⊎◌, inl, inr, arith, is_some}
+use Rattle.std.proofs.lemmas.List.{reverse-append}
+use Rattle.std.specs.Prelude.{Option, Some, None, option_map, filter}
+use Rattle.play_types.specs.Place.{PlaceView}
+use Rattle.play_types.specs.Take.{TakeView}
+use Rattle.play_types.specs.declared.event.Event.{Event}
+use Rattle.play_types.specs.declared.event.Event.TheVariants.{Tick}
+use Rattle.history_model.specs.Act.{Act}
+use Rattle.history_model.specs.Trail.{trail}
+use Rattle.history_model.specs.Life.{Foreground, Life, shown_for, run_for, start_of, delay, delay_of, after, effect, life}
+use Rattle.history_model.specs.Live.{is_live, live_layers, layers}
+use Rattle.history_model.specs.Acts.{acts, acts_back}
+use Rattle.history_model.proofs.Lives.{after-none, after-early, after-late}
+
+-- running leaves the foreground
+some_run : (front : Option Foreground) (k : ℕ) → is_some (option_map (shown_for k) front) ≡ is_some front
+some_run None k = refl
+some_run (Some f) k = refl
+
+is_live-run_for : (s : Life) (k : ℕ) → is_live (run_for k s) ≡ is_live s
+is_live-run_for s k = ap (λ b. b || is_some s.back) (some_run s.front k)
+
+or_true : (b : Bool) → true ≡ (b || true)
+or_true true = refl
+or_true false = refl
+
+-- a place with a delay has a background, and a foreground once that has started
+is_live-start_of : (back : Option TakeView) (front ran : Option Foreground) (a k : ℕ) → delay_of back front ≡ Some a →
+    is_live (run_for k (start_of back (record { front = ran; back = back }))) ≡ is_live (record { front = front; back = back })
+is_live-start_of None front ran a k e = cc
+is_live-start_of (Some take) front ran a k e = or_true (is_some front)
+
+lt_or_le : (a b : ℕ) → (a < b) ⊎ (b ≤ a)
+lt_or_le a b = grind arith
+
+after_some : (s : Life) (k a : ℕ) → delay s ≡ Some a → (a < k) ⊎ (k ≤ a) → is_live (after s k) ≡ is_live s
+after_some s k a e (inl past) =
+    ap is_live (after-late s a k e past) ∙ is_live-start_of s.back s.front (run_for a s).front a (k - a) e
+after_some s k a e (inr early) = ap is_live (after-early s a k e early) ∙ is_live-run_for s k
+
+after_by : (s : Life) (k : ℕ) (wait : Option ℕ) → delay s ≡ wait → is_live (after s k) ≡ is_live s
+after_by s k None e = ap is_live (after-none s k e) ∙ is_live-run_for s k
+after_by s k (Some a) e = after_some s k a e (lt_or_le a k)
+
+-- ticks leave a place live, or not
+pub is_live-after : (s : Life) (k : ℕ) → is_live (after s k) ≡ is_live s
+is_live-after s k = after_by s k (delay s) refl
+
+pub is_live-life : (acts : List Act) (t u : ℕ) → is_live (life acts t) ≡ is_live (life acts u)
+is_live-life [] t u = refl
+is_live-life (act ∷ before) t u =
+    is_live-after (effect act.cmd (life before act.ticks)) (t - act.ticks)
+    ∙ sym (is_live-after (effect act.cmd (life before act.ticks)) (u - act.ticks))
+
+pub live_layers-ticks : (acts : List Act) (t u channel : ℕ) → live_layers acts t channel ≡ live_layers acts u channel
+live_layers-ticks acts t u channel =
+    λ i. filter (λ layer. is_live-life (trail acts (record { channel = channel; layer = layer })) t u i) (layers acts)
+
+-- a tick gives no acts
+pub acts-tick : (history : List Event) → acts (history ++ Tick ∷ []) ≡ acts history
+unfolding acts
+acts-tick history = ap acts_back (reverse-append history (Tick ∷ []))
+
+-- so it leaves every trail
+pub trail-tick : (history : List Event) (place : PlaceView) → trail (acts (history ++ Tick ∷ [])) place ≡ trail (acts history) place
+trail-tick history place = ap (λ past. trail past place) (acts-tick history)

@@ -1,0 +1,49 @@
+-- Which places are live, and which are drawn. In lists of acts the last act stands first.
+use Rattle.std.specs.Prelude.{ℕ, ◌==◌, Bool, ◌||◌, List, [], ◌∷◌, nat_lt, is_some, filter, if◌then◌else◌, Option}
+use Rattle.play_types.specs.Place.{PlaceView}
+use Rattle.play_types.specs.declared.command.Cmd.{Cmd}
+use Rattle.play_types.specs.declared.command.Cmd.TheVariants.{Load, LoadBg, SwapLayers}
+use Rattle.history_model.specs.Act.{Act}
+use Rattle.history_model.specs.Trail.{trail}
+use Rattle.history_model.specs.Life.{Life, Foreground, life, ready}
+
+-- a rising list with one more number, if it lacks that
+abbrev pub with_number : ℕ → List ℕ → List ℕ
+with_number n [] = n ∷ []
+with_number n (m ∷ more) =
+    let rest = with_number n more in
+    if n == m then m ∷ more else (if nat_lt n m then n ∷ m ∷ more else m ∷ rest)
+
+-- the layers with those to which a command can bring a content: a swap of channels keeps each content on its layer
+abbrev pub with_layers_of : Cmd → List ℕ → List ℕ
+with_layers_of (Load place take) layers = with_number place.layer layers
+with_layers_of (LoadBg place take) layers = with_number place.layer layers
+with_layers_of (SwapLayers a b transforms) layers = with_number a.layer (with_number b.layer layers)
+with_layers_of cmd layers = layers
+
+-- the layers that acts loaded or swapped, on any channel, in rising number: no other layer can hold a content
+abbrev pub layers : List Act → List ℕ
+layers [] = []
+layers (act ∷ before) = with_layers_of act.cmd (layers before)
+
+-- what stands at a place after the acts, when so many ticks have passed since the history began
+abbrev pub state : List Act → ℕ → PlaceView → Life
+state acts ticks place = life (trail acts place) ticks
+
+-- whether a place holds a foreground or a background
+abbrev pub is_live : Life → Bool
+is_live s = is_some s.front || is_some s.back
+
+-- the live layers of a channel, in rising number
+abbrev pub live_layers : List Act → ℕ → ℕ → List ℕ
+live_layers acts ticks channel =
+    filter (λ layer. is_live (state acts ticks (record { channel = channel; layer = layer }))) (layers acts)
+
+-- the foreground that the next tick shows at a place
+abbrev pub front_at : List Act → ℕ → PlaceView → Option Foreground
+front_at acts ticks place = (ready (state acts ticks place)).front
+
+-- the layers of a channel that the next tick draws, in rising number
+abbrev pub drawn_layers : List Act → ℕ → ℕ → List ℕ
+drawn_layers acts ticks channel =
+    filter (λ layer. is_some (front_at acts ticks (record { channel = channel; layer = layer }))) (layers acts)

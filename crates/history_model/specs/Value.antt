@@ -1,0 +1,69 @@
+-- Mixer values.
+use Rattle.std.specs.Prelude.{ℕ, ◌-◌, Bool, true, false, List, [], ◌∷◌, ℤ, pos, reverse, Option, Some, None, if◌then◌else◌}
+use Rattle.play_types.specs.Place.{PlaceView}
+use Rattle.play_types.specs.Curve.{along}
+use Rattle.play_types.specs.declared.setting.Prop.{Prop}
+use Rattle.play_types.specs.declared.setting.Prop.TheVariants.{Opacity, Fill, Clip, Volume, Keyer}
+use Rattle.play_types.specs.declared.command.Cmd.{Cmd}
+use Rattle.play_types.specs.declared.command.Cmd.TheVariants.{Set, ResetLayer, ResetChannel}
+use Rattle.play_types.specs.declared.event.Event.{Event}
+use Rattle.history_model.specs.Act.{Act}
+use Rattle.history_model.specs.Trail.{tuning}
+use Rattle.history_model.specs.Resolved.{resolved_acts}
+use Rattle.history_model.specs.Acts.{acts_back}
+
+-- whether two properties are the same
+abbrev pub same_prop : Prop → Prop → Bool
+same_prop Opacity Opacity = true
+same_prop Fill Fill = true
+same_prop Clip Clip = true
+same_prop Volume Volume = true
+same_prop Keyer Keyer = true
+same_prop a b = false
+
+-- four numbers in millionths
+abbrev pub four : ℤ → ℤ → ℤ → ℤ → List ℤ
+four a b c d = a ∷ b ∷ c ∷ d ∷ []
+
+-- the value of a property without any setting, in millionths: the numbers that it does not use are 0
+abbrev pub default_of : Prop → List ℤ
+default_of Opacity = four (pos 1000000) (pos 0) (pos 0) (pos 0)
+default_of Fill = four (pos 0) (pos 0) (pos 1000000) (pos 1000000)
+default_of Clip = four (pos 0) (pos 0) (pos 1000000) (pos 1000000)
+default_of Volume = four (pos 1000000) (pos 0) (pos 0) (pos 0)
+default_of Keyer = four (pos 0) (pos 0) (pos 0) (pos 0)
+
+-- a value to be reached, and in how many ticks
+pub record Aim : Type 0 where
+  pub values : List ℤ
+  pub duration : ℕ
+
+-- what a command sets a property to: a reset sets the default at once
+abbrev pub aim_of : Cmd → Prop → Option Aim
+aim_of (Set setting) prop =
+    if same_prop setting.prop prop then Some (record { values = setting.values; duration = setting.duration }) else None
+aim_of (ResetLayer place) prop = Some (record { values = default_of prop; duration = 0 })
+aim_of (ResetChannel channel) prop = Some (record { values = default_of prop; duration = 0 })
+aim_of cmd prop = None
+
+-- each number on its way, so many ticks after the start
+abbrev pub all_along : List ℤ → List ℤ → ℕ → ℕ → List ℤ
+all_along [] to ticks duration = []
+all_along (from ∷ more) [] ticks duration = []
+all_along (from ∷ more) (to ∷ others) ticks duration = along from to ticks duration ∷ all_along more others ticks duration
+
+-- the value of a property by the settings and resets of a place, the last one first, after so many ticks
+abbrev pub tuned_value : List Act → Prop → ℕ → List ℤ
+tuned_value [] prop ticks = default_of prop
+tuned_value (act ∷ before) prop ticks = elim (aim_of act.cmd prop) [
+  | None ↦ tuned_value before prop ticks
+  | Some aim ↦ all_along (tuned_value before prop act.ticks) aim.values (ticks - act.ticks) aim.duration
+]
+
+-- the value of a property of a place after the acts and so many ticks, in millionths
+abbrev pub value_at : List Act → PlaceView → Prop → ℕ → List ℤ
+value_at acts place prop ticks = tuned_value (tuning (resolved_acts acts) place) prop ticks
+
+-- the value of a property of a place after a history, when so many ticks have passed, in millionths
+unfoldable pub value : List Event → PlaceView → Prop → ℕ → List ℤ
+value history place prop ticks = value_at (acts_back (reverse history)) place prop ticks

@@ -1,0 +1,193 @@
+-- Words for the worked examples: places, takes, events and media that are short to write.
+use Rattle.std.specs.Prelude.{ℕ, zero, suc, ◌+◌, ◌/◌, ◌%◌, replicate, Bool, true, false, List, [], ◌∷◌, ℤ, pos, nat_lt, Option, Some, None, flat_map, if◌then◌else◌}
+use Rattle.play_types.specs.Place.{PlaceView}
+use Rattle.play_types.specs.Take.{TakeView}
+use Rattle.play_types.specs.Setting.{SettingView}
+use Rattle.play_types.specs.Transition.{TransView, cut}
+use Rattle.play_types.specs.ClipFile.{ClipView}
+use Rattle.play_types.specs.History.{ticks}
+use Rattle.play_types.specs.declared.transition.Kind.{Kind}
+use Rattle.play_types.specs.declared.transition.Curve.TheVariants.{Linear}
+use Rattle.play_types.specs.declared.setting.Prop.{Prop}
+use Rattle.play_types.specs.declared.setting.Prop.TheVariants.{Opacity}
+use Rattle.play_types.specs.declared.take.Spec.{Spec}
+use Rattle.play_types.specs.declared.take.Spec.TheVariants.{Clip, Colour, RouteChannel, RouteLayer}
+use Rattle.play_types.specs.declared.command.Cmd.{Cmd}
+use Rattle.play_types.specs.declared.command.Cmd.TheVariants.{LoadBg, PlayTake, Set}
+use Rattle.play_types.specs.declared.geometry.Geometry.{Geometry}
+use Rattle.play_types.specs.declared.event.Event.{Event}
+use Rattle.play_types.specs.declared.event.Event.TheVariants.{Do, Batch, Tick}
+use Rattle.pixel_math.specs.Pixel.{PixelView, pixel_bytes}
+use Rattle.history_model.specs.Act.{Act}
+use Rattle.history_model.specs.Media.{Setup}
+use Rattle.history_model.specs.Life.{Life, Outgoing}
+use Rattle.history_model.specs.Live.{state}
+use Rattle.history_model.specs.Acts.{acts}
+use Rattle.history_model.specs.Answer.{ChannelFrame, row_pixels, channel_frame}
+
+-- layer l of channel c
+abbrev pub at : ℕ → ℕ → PlaceView
+at c l = record { channel = c; layer = l }
+
+-- a command of session 1 of worker 1
+abbrev pub ask : Cmd → Event
+ask cmd = Do (record { worker = 1; session = 1 }) cmd
+
+-- a batch of the same session
+abbrev pub batch : List Cmd → Event
+batch cmds = Batch (record { worker = 1; session = 1 }) cmds
+
+-- a transition that goes rightward, or leftward
+abbrev pub rightward : Kind → ℕ → TransView
+rightward kind duration = record { kind = kind; duration = duration; curve = Linear; leftward = false }
+
+abbrev pub leftward : Kind → ℕ → TransView
+leftward kind duration = record { kind = kind; duration = duration; curve = Linear; leftward = true }
+
+-- a producer that is no clip, with a cut
+abbrev pub plain : Spec → TakeView
+plain spec = record { spec = spec; looped = false; seek = 0; length = 0; trans = cut; auto = false }
+
+abbrev pub red : TakeView
+red = plain (Colour 0xFFFF0000)
+
+abbrev pub blue : TakeView
+blue = plain (Colour 0xFF0000FF)
+
+-- a route to a channel, and one to a layer of it
+abbrev pub route : ℕ → TakeView
+route c = plain (RouteChannel c)
+
+abbrev pub layer_route : ℕ → ℕ → TakeView
+layer_route c l = plain (RouteLayer (at c l))
+
+-- so many frames of a clip, from the first on, with a cut
+abbrev pub clip : ℕ → ℕ → TakeView
+clip id length = record { spec = Clip id; looped = false; seek = 0; length = length; trans = cut; auto = false }
+
+-- a take that is looped
+abbrev pub looped : TakeView → TakeView
+looped take = record take { looped = true }
+
+-- a take with a transition, and one that starts by itself
+abbrev pub by : TakeView → TransView → TakeView
+by take trans = record take { trans = trans }
+
+abbrev pub automatic : TakeView → TakeView
+automatic take = record take { auto = true }
+
+abbrev pub plays : PlaceView → TakeView → Event
+plays place take = ask (PlayTake place take)
+
+-- a setting to values in millionths, in so many ticks
+abbrev pub setting : PlaceView → Prop → List ℤ → ℕ → SettingView
+setting place prop values duration =
+    record { place = place; prop = prop; values = values; duration = duration; curve = Linear; deferred = false }
+
+abbrev pub sets : PlaceView → Prop → List ℤ → Event
+sets place prop values = ask (Set (setting place prop values 0))
+
+-- the same, deferred
+abbrev pub deferred : PlaceView → Prop → List ℤ → SettingView
+deferred place prop values = record (setting place prop values 0) { deferred = true }
+
+abbrev pub defers : PlaceView → Prop → List ℤ → Event
+defers place prop values = ask (Set (deferred place prop values))
+
+-- one number, and four
+abbrev pub number : ℤ → List ℤ
+number value = value ∷ pos 0 ∷ pos 0 ∷ pos 0 ∷ []
+
+abbrev pub numbers : ℤ → ℤ → ℤ → ℤ → List ℤ
+numbers a b c d = a ∷ b ∷ c ∷ d ∷ []
+
+-- so many columns and one row, with so many pairs of sound
+abbrev pub strip : ℕ → ℕ → Geometry
+strip width pairs = record { width = width; height = 1; pairs = pairs }
+
+-- the clip of these bytes
+abbrev pub film : ℕ → ℕ → ℕ → List ℕ → Option ClipView
+film width pairs frames bytes = Some (record { geometry = strip width pairs; frames = frames; bytes = bytes })
+
+-- an opaque pixel with only red
+abbrev pub reds : List ℕ → List ℕ
+reds values = flat_map (λ value. 0 ∷ 0 ∷ value ∷ 255 ∷ []) values
+
+-- the clips of the examples: 0 has four columns, 1 three frames, 2 two columns, 3 one column and two pairs of sound
+abbrev pub media : List (Option ClipView)
+media =
+    film 4 0 1 (reds (10 ∷ 20 ∷ 30 ∷ 40 ∷ []))
+    ∷ film 1 0 3 (reds (0 ∷ 80 ∷ 160 ∷ []))
+    ∷ film 2 0 1 (255 ∷ 255 ∷ 255 ∷ 255 ∷ 128 ∷ 128 ∷ 128 ∷ 255 ∷ [])
+    ∷ film 1 2 1 (0 ∷ 0 ∷ 0 ∷ 255 ∷ 0xe8 ∷ 3 ∷ 0x18 ∷ 0xfc ∷ 0xff ∷ 0x7f ∷ 0 ∷ 0x80 ∷ [])
+    ∷ []
+
+-- one channel of one row with so many columns and no sound, and three channels of one pixel and three pairs
+abbrev pub one : ℕ → Setup
+one width = record { channels = strip width 0 ∷ []; clips = media }
+
+abbrev pub three : Setup
+three = record { channels = strip 1 3 ∷ strip 1 3 ∷ strip 1 3 ∷ []; clips = media }
+
+-- the letter of a hexadecimal digit
+abbrev pub hex_digit : ℕ → ℕ
+hex_digit digit = if nat_lt digit 10 then 48 + digit else 87 + digit
+
+abbrev pub hex_of : ℕ → List ℕ
+hex_of byte = hex_digit (byte / 16) ∷ hex_digit (byte % 16) ∷ []
+
+-- the bytes of row 0 of a channel at the tick after a history, in hexadecimal letters
+abbrev pub row_text : Setup → ℕ → List Event → List ℕ
+row_text setup channel history =
+    flat_map (λ pixel. flat_map hex_of (pixel_bytes pixel)) (row_pixels setup history channel 0)
+
+-- a command after so many ticks
+abbrev pub act : ℕ → Cmd → Act
+act ticks cmd = record { cmd = cmd; ticks = ticks }
+
+-- a take put into the background of each of the layers below n of channel 1
+abbrev pub loads : ℕ → List Event
+loads zero = []
+loads (suc n) = ask (LoadBg (at 1 n) red) ∷ loads n
+
+-- so many deferred settings of channel 1
+abbrev pub deferred_acts : ℕ → List Act
+deferred_acts zero = []
+deferred_acts (suc n) = act 0 (Set (deferred (at 1 0) Opacity (number (pos 0)))) ∷ deferred_acts n
+
+-- so many ticks
+abbrev pub ticking : ℕ → List Event
+ticking n = replicate n Tick
+
+-- the samples of a channel at the tick after a history
+abbrev pub samples_of : Setup → ℕ → List Event → List ℤ
+samples_of setup channel history = (channel_frame setup history channel).samples
+
+-- what stands at a place after a history
+abbrev pub place_after : List Event → PlaceView → Life
+place_after history place = state (acts history) (ticks history) place
+
+-- a place with nothing but a foreground without an outgoing content: shown for so many ticks, and running or paused
+abbrev pub running : TakeView → ℕ → Life
+running take shown =
+    record { front = Some (record { take = take; shown = shown; paused = false; old = None }); back = None }
+
+abbrev pub paused : TakeView → ℕ → Life
+paused take shown =
+    record { front = Some (record { take = take; shown = shown; paused = true; old = None }); back = None }
+
+-- the same with a background
+abbrev pub with_back : Life → TakeView → Life
+with_back s take = record s { back = Some take }
+
+-- a foreground that runs and takes an old content away
+abbrev pub over_old : TakeView → ℕ → Outgoing → Life
+over_old take shown old =
+    record { front = Some (record { take = take; shown = shown; paused = false; old = Some old }); back = None }
+
+abbrev pub old_of : TakeView → ℕ → Bool → Outgoing
+old_of take shown paused = record { take = take; shown = shown; paused = paused }
+
+-- what a channel shows
+abbrev pub frame_of : List PixelView → List ℤ → ChannelFrame
+frame_of pixels samples = record { pixels = pixels; samples = samples }

@@ -1,0 +1,13 @@
+//! Worked examples, one module a topic. Each is a function that does nothing, and its contract is the example.
+//!
+//! Their words (`at`, `plays`, `row_text` ..) stand in `specs/Worked.antt`. Rows of pixels are written as hexadecimal
+//! letters: blue, green, red and alpha.
+
+pub mod answers;
+pub mod histories;
+pub mod lives;
+pub mod pictures;
+pub mod places;
+pub mod routes;
+pub mod settings;
+pub mod sounds;

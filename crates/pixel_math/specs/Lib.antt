@@ -1,0 +1,2 @@
+pub mod Pixel
+pub mod Arithmetic

@@ -1,0 +1,59 @@
+-- Texts that are sent in parts, one after another.
+use Rattle.std.proofs.Common.{◌≡◌, ℕ, ◌+◌, ◌<◌, List, ◌++◌, take, length, sym, ap, ◌∙◌, subst, arith, length-append}
+use Rattle.std.proofs.Math.Seq.{take-append-add}
+use Rattle.std.proofs.lemmas.List.{take-append-le}
+use Rattle.play_outside.specs.SinkState.{SinkState, more_taken, after_taking}
+use Rattle.play_outside.specs.Sink.{Sends, Fails}
+use Rattle.play_outside.specs.declared.sink.Sent.{Sent}
+use Rattle.play_outside.specs.declared.sink.Sent.TheVariants as sent
+use Rattle.play_outside.proofs.Taking.{more_taken-more_taken, after_taking-after_taking}
+
+-- the first part was taken and the sink failed in the second
+pub Fails-after : (a b : List ℕ) (first after : SinkState) → Fails b (after_taking first a) after → Fails (a ++ b) first after
+Fails-after a b first after fails =
+    let within : fails.front.0 < length b = fails.front.1 in record {
+      front = (
+        length a + fails.front.0,
+        omega (arith, length-append a b),
+        fails.front.2 ∙ more_taken-more_taken first.taken a (take fails.front.0 b)
+            ∙ ap (more_taken first.taken) (sym (take-append-add a b fails.front.0)),
+      );
+      rose = fails.rose;
+      mark = fails.mark;
+    }
+
+-- the sink failed in the first part
+pub Fails-before : (a b : List ℕ) (first after : SinkState) → Fails a first after → Fails (a ++ b) first after
+Fails-before a b first after fails =
+    let within : fails.front.0 < length a = fails.front.1 in record {
+      front = (
+        fails.front.0,
+        omega (arith, length-append a b),
+        fails.front.2 ∙ ap (more_taken first.taken) (sym (take-append-le fails.front.0 a b (omega arith))),
+      );
+      rose = fails.rose;
+      mark = fails.mark;
+    }
+
+-- all of the first part was taken, and then the second was sent
+pub Sends-then : (result : Sent) (a b : List ℕ) (first state after : SinkState) → Sends sent.All a first state → Sends result b state after → Sends result (a ++ b) first after
+Sends-then sent.All a b first state after all rest = rest ∙ ap (λ (s : SinkState). after_taking s b) all ∙ after_taking-after_taking first a b
+Sends-then sent.Failed a b first state after all rest = Fails-after a b first after (subst (λ s. Fails b s after) all rest)
+
+-- what was sent so far, and one more piece of which all was taken
+pub taken_more : (done piece : List ℕ) (first state after : SinkState) → state ≡ after_taking first done → Sends sent.All piece state after → after ≡ after_taking first (done ++ piece)
+taken_more done piece first state after so_far all = all ∙ ap (λ (s : SinkState). after_taking s piece) so_far ∙ after_taking-after_taking first done piece
+
+-- the sink failed in a piece of the text, after what stands before it was taken
+pub Fails-within : (whole done piece rest : List ℕ) (first state after : SinkState) → whole ≡ (done ++ piece) ++ rest → state ≡ after_taking first done → Fails piece state after → Fails whole first after
+Fails-within whole done piece rest first state after parts so_far fails =
+    subst (λ text. Fails text first after) (sym parts)
+    (Fails-before (done ++ piece) rest first after
+    (Fails-after done piece first after (subst (λ s. Fails piece s after) so_far fails)))
+
+-- the last piece of the text was sent, after what stands before it was taken
+pub Sends-last : (result : Sent) (whole done piece : List ℕ) (first state after : SinkState) → whole ≡ done ++ piece → state ≡ after_taking first done → Sends result piece state after → Sends result whole first after
+Sends-last sent.All whole done piece first state after parts so_far all =
+    taken_more done piece first state after so_far all ∙ ap (after_taking first) (sym parts)
+Sends-last sent.Failed whole done piece first state after parts so_far fails =
+    subst (λ text. Fails text first after) (sym parts) (Fails-after done piece first after (subst (λ s. Fails piece s after) so_far fails))

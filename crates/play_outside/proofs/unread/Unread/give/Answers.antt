@@ -1,0 +1,11 @@
+use Rattle.std.proofs.Common.{arith, drop}
+use Rattle.play_outside.proofs.Giving.{drop-piece}
+use Rattle.play_outside.proofs.unread.Unread.give.Goals as goal
+
+pub returns-clause-gives : goal.returns-clause-gives
+returns-clause-gives c =
+    let count = c.min-count.result in
+    let others = drop count c.args.buf.now in
+    rw (← c.self.view_is, ← c.deref.ensures.value)
+    (drop-piece c.deref.result.now c.copy_from_slice.new.self others c.self.inside.given count c.copy_from_slice.ensures.after
+    (omega (arith, c.min.ensures, c.min-count.ensures)))

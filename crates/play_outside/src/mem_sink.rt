@@ -1,0 +1,79 @@
+//! A sink in memory.
+ghost use Rattle.std.specs.Prelude.{◌≡◌, ◌<◌, Some, [], IfOk};
+
+use super::pieces::push_all_reserved;
+use super::planned_faults::PlannedFaults;
+use super::{Sink, WriteStep};
+use std::alloc::{AllocError, Global};
+
+/// Takes bytes into room that it has from its making. It tells what it took.
+#[derive(Drop)]
+pub struct MemSink {
+    taken: Vec<u8>,
+    piece: usize,
+    planned: PlannedFaults,
+    mark: u64,
+    ghost some: { 0 < piece },
+}
+
+impl MemSink {
+    ghost use Rattle.play_outside.specs.MemSink.{room_left};
+
+    /// Has room for `room` bytes, and takes at most `piece` of them a write. The writes whose numbers, counted from 1,
+    /// are in `fails` answer `Failed`, and so does each write that finds the room full.
+    pub fn new(
+        alloc: Global,
+        mark: u64,
+        room: usize,
+        piece: usize,
+        fails: Vec<u64>,
+    ) -> Result<MemSink, AllocError>
+        requires { 0 < piece }
+        ensures fresh { IfOk result (λ sink. ⟦<MemSink as Sink>⟧.state sink ≡ record { taken = Some []; faults = 0; mark = mark }) }
+        ensures room { IfOk result (λ sink. room_left sink ≡ room) }
+    {
+        let taken = Vec::with_capacity(alloc, room)?;
+        Ok(MemSink {
+            taken,
+            piece,
+            planned: PlannedFaults::new(fails),
+            mark,
+        })
+    }
+
+    /// The bytes that were taken, in order.
+    pub fn taken(&self) -> &[u8]
+        ensures { (⟦<MemSink as Sink>⟧.state self.now).taken ≡ Some result.now }
+    {
+        self.taken.as_slice()
+    }
+
+    /// For how many more bytes there is room.
+    pub fn room(&self) -> usize
+        ensures { result ≡ room_left self.now }
+    {
+        self.taken.capacity() - self.taken.len()
+    }
+
+    /// How often a write has failed.
+    pub fn faults(&self) -> u64
+        ensures { result ≡ (⟦<MemSink as Sink>⟧.state self.now).faults }
+    {
+        self.planned.count
+    }
+}
+
+impl Sink for MemSink {
+    ghost state = { λ s. record { taken = Some s.taken.items; faults = s.planned.count; mark = s.mark } };
+
+    fn write(&mut self, piece: &[u8]) -> WriteStep {
+        let room = self.room();
+        if self.planned.fails_now() || room == 0 {
+            self.planned.raise();
+            return WriteStep::Failed;
+        }
+        let count = piece.len().min(room).min(self.piece);
+        push_all_reserved(&mut self.taken, &piece[..count]);
+        WriteStep::Took(count)
+    }
+}

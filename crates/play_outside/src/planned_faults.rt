@@ -1,0 +1,41 @@
+//! Faults that are planned by the numbers of calls.
+ghost use Rattle.std.specs.Prelude.{◌≡◌, ◌==◌, ◌+◌, ◌-◌, ◌^◌, min};
+ghost use Rattle.std.specs.List.{list_any};
+ghost use Rattle.play_outside.specs.Faults.{Rose};
+
+/// The numbers of the calls that are to fail, counted from 1, and how many calls and faults there were.
+#[derive(Drop)]
+pub(crate) struct PlannedFaults {
+    at_calls: Vec<u64>,
+    calls: u64,
+    pub(crate) count: u64,
+}
+
+impl PlannedFaults {
+    pub(crate) fn new(at_calls: Vec<u64>) -> PlannedFaults
+        ensures { result ≡ record { at_calls = at_calls; calls = 0; count = 0 } }
+    {
+        PlannedFaults {
+            at_calls,
+            calls: 0,
+            count: 0,
+        }
+    }
+
+    /// Counts a call, and says whether it is to fail.
+    pub(crate) fn fails_now(&mut self) -> bool
+        ensures answer { result ≡ list_any (λ number. number == self.new.calls) self.old.at_calls.items }
+        ensures after { self.new ≡ record self.old { calls = min (self.old.calls + 1) (2 ^ 64 - 1) } }
+    {
+        self.calls = self.calls.saturating_add(1);
+        self.at_calls.as_slice().contains(&self.calls)
+    }
+
+    /// Counts a fault.
+    pub(crate) fn raise(&mut self)
+        ensures rose { Rose self.old.count self.new.count }
+        ensures after { self.new ≡ record self.old { count = self.new.count } }
+    {
+        self.count = self.count.saturating_add(1);
+    }
+}

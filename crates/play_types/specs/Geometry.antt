@@ -1,0 +1,15 @@
+-- Sizes of pictures and of their sound.
+use Rattle.std.specs.Prelude.{ℕ, ◌+◌, ◌*◌, ◌≤◌}
+use Rattle.play_types.specs.declared.geometry.Geometry.{Geometry}
+
+-- 1 to 4096 columns and rows, and at most 4096 stereo pairs
+pub record IsSize (width height pairs : ℕ) : Type 0 where
+  pub some_columns : 1 ≤ width
+  pub columns : width ≤ 4096
+  pub some_rows : 1 ≤ height
+  pub rows : height ≤ 4096
+  pub sound : pairs ≤ 4096
+
+-- the bytes of a frame: four a pixel, and four a stereo pair
+abbrev pub frame_bytes : Geometry → ℕ
+frame_bytes size = 4 * size.width * size.height + 4 * size.pairs

@@ -1,0 +1,142 @@
+//! Answers of the stage.
+ghost use Rattle.std.specs.Prelude.{◌≡◌, ◌≤◌, ◌↔◌, IsSome, IfSome};
+ghost use Rattle.play_types.specs.Answer.{AreMicros, IsMicros, IsStatusList, micros_of, status_list_of};
+
+use crate::setting::are_wide;
+use std::marker::Model;
+
+/// One to four mixer values, in millionths, each within -1,000,000,000 to 1,000,000,000. Only the first `count` are
+/// meant, and the rest are 0.
+#[derive(Clone, Copy, Debug, PartialEq, Eq)]
+pub struct Micros {
+    values: [i64; 4],
+    count: u8,
+}
+
+impl Model for Micros {
+    ghost use Rattle.play_types.specs.Answer.{MicrosView, IsMicros};
+
+    ghost Value = { MicrosView };
+
+    ghost view = { λ m. record { values = m.values; count = m.count } };
+
+    ghost invariant = { λ m. IsMicros m.values m.count };
+
+    ghost inverse = { λ v. record { values = v.values; count = v.count } };
+}
+
+impl Micros {
+    /// `None` exactly where the count is above 4 or one of the first `count` values is out of range. The other values
+    /// are dropped.
+    pub fn new(values: [i64; 4], count: u8) -> Option<Micros>
+        ensures exact { IsSome result ↔ AreMicros values count }
+        ensures value { IfSome result (λ m. m ≡ micros_of values count) }
+    {
+        if count > 4 {
+            return None;
+        }
+        let used = &values[..usize::from(count)];
+        if !are_wide(used) {
+            return None;
+        }
+        let mut kept = [0; 4];
+        kept[..usize::from(count)].copy_from_slice(used);
+        Some(Micros {
+            values: kept,
+            count,
+        })
+    }
+
+    /// Those from the count on are 0.
+    pub fn values(self) -> [i64; 4]
+        ensures value { result ≡ self.values }
+        ensures range { IsMicros self.values self.count }
+    {
+        self.values
+    }
+
+    /// 0 to 4.
+    pub fn count(self) -> u8
+        ensures value { result ≡ self.count }
+        ensures range { IsMicros self.values self.count }
+    {
+        self.count
+    }
+}
+
+/// What a channel does.
+#[derive(Clone, Copy, Debug, PartialEq, Eq)]
+pub enum Status {
+    /// It has no foreground.
+    Empty,
+    /// It has a foreground, and all its foregrounds are paused.
+    Paused,
+    /// It has a foreground that is not paused.
+    Playing,
+}
+
+/// The status of each channel. Only the first `count` are meant, and the rest are `Empty`.
+#[derive(Clone, Copy, Debug, PartialEq, Eq)]
+pub struct StatusList {
+    channels: [Status; 16],
+    count: u8,
+}
+
+impl Model for StatusList {
+    ghost use Rattle.play_types.specs.Answer.{StatusListView, IsStatusList};
+
+    ghost Value = { StatusListView };
+
+    ghost view = { λ s. record { channels = s.channels; count = s.count } };
+
+    ghost invariant = { λ s. IsStatusList s.channels s.count };
+
+    ghost inverse = { λ v. record { channels = v.channels; count = v.count } };
+}
+
+impl StatusList {
+    /// `None` exactly where the count is above 16. The statuses from the count on are dropped.
+    pub fn new(channels: [Status; 16], count: u8) -> Option<StatusList>
+        ensures exact { IsSome result ↔ (count ≤ 16) }
+        ensures value { IfSome result (λ s. s ≡ status_list_of channels count) }
+    {
+        if count > 16 {
+            return None;
+        }
+        let mut kept = [Status::Empty; 16];
+        kept[..usize::from(count)].copy_from_slice(&channels[..usize::from(count)]);
+        Some(StatusList {
+            channels: kept,
+            count,
+        })
+    }
+
+    /// Those from the count on are `Empty`.
+    pub fn channels(self) -> [Status; 16]
+        ensures value { result ≡ self.channels }
+        ensures range { IsStatusList self.channels self.count }
+    {
+        self.channels
+    }
+
+    /// 0 to 16.
+    pub fn count(self) -> u8
+        ensures value { result ≡ self.count }
+        ensures range { IsStatusList self.channels self.count }
+    {
+        self.count
+    }
+}
+
+/// What the stage answers to a command or a batch.
+#[derive(Clone, Copy, Debug, PartialEq, Eq)]
+pub enum Answer {
+    /// It was done.
+    Done,
+    /// The mixer values that were asked for.
+    Value(Micros),
+    /// The status of the channels.
+    Info(StatusList),
+    /// A limit of the stage refused it, and nothing changed.
+    Refused,
+}

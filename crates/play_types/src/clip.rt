@@ -1,0 +1,83 @@
+//! A clip in memory.
+ghost use Rattle.std.specs.Prelude.{◌≡◌, ◌↔◌, IsSome, IfSome};
+ghost use Rattle.play_types.specs.ClipFile.{IsClip};
+
+use crate::bytes::ByteList;
+use crate::geometry::Geometry;
+use std::marker::Model;
+
+/// A clip: its size, its number of frames, 1 to 1,000,000, and the bytes of its frames one after another.
+///
+/// A frame is its pixels, B, G, R and A of each, in rows from the top, and then its stereo pairs, left and right, each
+/// an `i16` in little-endian.
+#[derive(Debug, Drop)]
+pub struct Clip {
+    geometry: Geometry,
+    frames: u32,
+    bytes: ByteList,
+}
+
+impl Model for Clip {
+    ghost use Rattle.play_types.specs.ClipFile.{ClipView, IsClip};
+
+    ghost Value = { ClipView };
+
+    ghost view = { λ c. record { geometry = c.geometry; frames = c.frames; bytes = c.bytes } };
+
+    ghost invariant = { λ c. IsClip (record { geometry = c.geometry; frames = c.frames; bytes = c.bytes }) };
+}
+
+impl Clip {
+    /// `None` exactly where the size is out of range, the frames are not 1 to 1,000,000, or the bytes are not just those
+    /// of the frames.
+    pub fn new(geometry: Geometry, frames: u32, bytes: ByteList) -> Option<Clip>
+        ensures exact { IsSome result
+            ↔ IsClip (record { geometry = geometry; frames = frames; bytes = bytes }) }
+        ensures value { IfSome result
+            (λ c. c ≡ record { geometry = geometry; frames = frames; bytes = bytes }) }
+    {
+        if !geometry.is_in_range() || !(1..=1_000_000).contains(&frames) {
+            return None;
+        }
+        if bytes.as_slice().len() as u64 != u64::from(frames) * geometry.frame_bytes() {
+            return None;
+        }
+        Some(Clip {
+            geometry,
+            frames,
+            bytes,
+        })
+    }
+
+    /// 1 to 4096 columns and rows, and at most 4096 pairs.
+    pub fn geometry(&self) -> Geometry
+        ensures value { result ≡ self.now.geometry }
+        ensures range { IsClip self.now }
+    {
+        self.geometry
+    }
+
+    /// 1 to 1,000,000.
+    pub fn frames(&self) -> u32
+        ensures value { result ≡ self.now.frames }
+        ensures range { IsClip self.now }
+    {
+        self.frames
+    }
+
+    /// The bytes of all frames.
+    pub fn bytes(&self) -> &[u8]
+        ensures value { result.now ≡ self.now.bytes }
+        ensures range { IsClip self.now }
+    {
+        self.bytes.as_slice()
+    }
+
+    /// Hands the bytes of all frames back, without a copy.
+    pub fn into_bytes(self) -> ByteList
+        ensures value { result ≡ self.bytes }
+        ensures range { IsClip self }
+    {
+        self.bytes
+    }
+}

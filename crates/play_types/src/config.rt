@@ -1,0 +1,260 @@
+//! The configuration of a server.
+ghost use Rattle.std.specs.Prelude.{◌≡◌, ◌==◌, ◌<◌, ◌≤◌, ◌↔◌, ◌∷◌, ◌++◌, [], length, All, IsSome, IfSome, OnOk, OnErr, option_copied, slice_get};
+ghost use Rattle.play_types.specs.Config.{AreConfigParts, IsChannel, IsConfig};
+
+use crate::geometry::Geometry;
+use crate::text::Text;
+use std::alloc::{AllocError, Global};
+use std::marker::Model;
+
+/// A channel of the server: the size of its frames, and where they go.
+#[derive(Debug, Drop)]
+pub struct Channel {
+    width: u16,
+    height: u16,
+    pairs: u16,
+    output: Text,
+}
+
+impl Model for Channel {
+    ghost use Rattle.play_types.specs.Config.{ChannelView, IsChannel};
+
+    ghost Value = { ChannelView };
+
+    ghost view = { λ c. record { width = c.width; height = c.height; pairs = c.pairs; output = c.output } };
+
+    ghost invariant = { λ c. IsChannel (record { width = c.width; height = c.height; pairs = c.pairs; output = c.output }) };
+}
+
+impl Channel {
+    /// `None` exactly where the width or the height is not 1 to 4096, the pairs are above 4096, or the output is empty.
+    pub fn new(width: u16, height: u16, pairs: u16, output: Text) -> Option<Channel>
+        ensures exact { IsSome result
+            ↔ IsChannel (record { width = width; height = height; pairs = pairs; output = output }) }
+        ensures value { IfSome result
+            (λ c. c ≡ record { width = width; height = height; pairs = pairs; output = output }) }
+    {
+        let size = Geometry {
+            width,
+            height,
+            pairs,
+        };
+        if !size.is_in_range() || output.is_empty() {
+            return None;
+        }
+        Some(Channel {
+            width,
+            height,
+            pairs,
+            output,
+        })
+    }
+
+    /// 1 to 4096.
+    pub fn width(&self) -> u16
+        ensures value { result ≡ self.now.width }
+        ensures range { IsChannel self.now }
+    {
+        self.width
+    }
+
+    /// 1 to 4096.
+    pub fn height(&self) -> u16
+        ensures value { result ≡ self.now.height }
+        ensures range { IsChannel self.now }
+    {
+        self.height
+    }
+
+    /// Stereo pairs of sound a frame, at most 4096.
+    pub fn pairs(&self) -> u16
+        ensures value { result ≡ self.now.pairs }
+        ensures range { IsChannel self.now }
+    {
+        self.pairs
+    }
+
+    /// The name of the file of its frames, which is not empty.
+    pub fn output(&self) -> &Text
+        ensures value { result.now ≡ self.now.output }
+        ensures range { IsChannel self.now }
+    {
+        &self.output
+    }
+
+    pub fn geometry(&self) -> Geometry
+        ensures value { result
+            ≡ record { width = self.now.width; height = self.now.height; pairs = self.now.pairs } }
+        ensures range { IsChannel self.now }
+    {
+        Geometry {
+            width: self.width,
+            height: self.height,
+            pairs: self.pairs,
+        }
+    }
+}
+
+/// Channels in order: the first one is channel 1.
+#[derive(Debug, Drop)]
+pub struct ChannelList {
+    channels: Vec<Channel>,
+}
+
+impl Model for ChannelList {
+    ghost use Rattle.std.specs.Prelude.{List, All};
+    ghost use Rattle.play_types.specs.Config.{ChannelView, IsChannel};
+
+    ghost Value = { List ChannelView };
+
+    ghost view = { λ l. l.channels.items };
+
+    ghost invariant = { λ l. All IsChannel l.channels.items };
+}
+
+impl ChannelList {
+    /// No channels. It takes no memory.
+    pub fn new(alloc: Global) -> ChannelList
+        ensures { result ≡ [] }
+    {
+        ChannelList {
+            channels: Vec::new(alloc),
+        }
+    }
+
+    /// Adds a channel at the end. At want of memory the list is as before.
+    pub fn push(&mut self, channel: Channel) -> Result<(), AllocError>
+        ensures ok { OnOk result (self.new ≡ self.old ++ channel ∷ []) }
+        ensures err { OnErr result (self.new ≡ self.old) }
+    {
+        // The list keeps that each channel is in range.
+        let _ = &channel.width;
+        self.channels.push(channel)?;
+        Ok(())
+    }
+
+    pub fn len(&self) -> usize
+        ensures value { result ≡ length self.now }
+        ensures channels { All IsChannel self.now }
+    {
+        self.channels.len()
+    }
+
+    pub fn is_empty(&self) -> bool
+        ensures { result ≡ (length self.now == 0) }
+    {
+        self.channels.is_empty()
+    }
+
+    /// `None` exactly where `at` is not below the length.
+    pub fn get(&self, at: usize) -> Option<&Channel>
+        ensures { option_copied result ≡ slice_get self.now at }
+    {
+        self.channels.get(at)
+    }
+}
+
+/// What a server is started with.
+#[derive(Debug, Drop)]
+pub struct Config {
+    listen: Text,
+    media: Text,
+    rate: u32,
+    connections: u32,
+    journal_limit: u32,
+    channels: ChannelList,
+}
+
+impl Model for Config {
+    ghost use Rattle.play_types.specs.Config.{ConfigView, IsConfig};
+
+    ghost Value = { ConfigView };
+
+    ghost view = { λ c. record { listen = c.listen; media = c.media; rate = c.rate; connections = c.connections; journal_limit = c.journal_limit; channels = c.channels } };
+
+    ghost invariant = { λ c. IsConfig (record { listen = c.listen; media = c.media; rate = c.rate; connections = c.connections; journal_limit = c.journal_limit; channels = c.channels }) };
+}
+
+impl Config {
+    /// `None` exactly where the address or the media folder is empty, the rate is not 1 to 240, the connections are not
+    /// 1 to 64, the journal's limit is not 1 to 16,777,216, or the channels are not 1 to 16.
+    pub fn new(
+        listen: Text,
+        media: Text,
+        rate: u32,
+        connections: u32,
+        journal_limit: u32,
+        channels: ChannelList,
+    ) -> Option<Config>
+        ensures exact { IsSome result
+            ↔ AreConfigParts (record { listen = listen; media = media; rate = rate; connections = connections; journal_limit = journal_limit; channels = channels }) }
+        ensures value { IfSome result
+            (λ c. c ≡ record { listen = listen; media = media; rate = rate; connections = connections; journal_limit = journal_limit; channels = channels }) }
+    {
+        if listen.is_empty() || media.is_empty() || !(1..=16).contains(&channels.len()) {
+            return None;
+        }
+        if !(1..=240).contains(&rate)
+            || !(1..=64).contains(&connections)
+            || !(1..=16_777_216).contains(&journal_limit)
+        {
+            return None;
+        }
+        Some(Config {
+            listen,
+            media,
+            rate,
+            connections,
+            journal_limit,
+            channels,
+        })
+    }
+
+    /// The address to listen on, which is not empty.
+    pub fn listen(&self) -> &Text
+        ensures value { result.now ≡ self.now.listen }
+        ensures range { IsConfig self.now }
+    {
+        &self.listen
+    }
+
+    /// The folder of the media, which is not empty.
+    pub fn media(&self) -> &Text
+        ensures value { result.now ≡ self.now.media }
+        ensures range { IsConfig self.now }
+    {
+        &self.media
+    }
+
+    /// Pulses a second, 1 to 240.
+    pub fn rate(&self) -> u32
+        ensures value { result ≡ self.now.rate }
+        ensures range { IsConfig self.now }
+    {
+        self.rate
+    }
+
+    /// Connection workers, 1 to 64.
+    pub fn connections(&self) -> u32
+        ensures value { result ≡ self.now.connections }
+        ensures range { IsConfig self.now }
+    {
+        self.connections
+    }
+
+    /// The most commands that the history may hold, 1 to 16,777,216.
+    pub fn journal_limit(&self) -> u32
+        ensures value { result ≡ self.now.journal_limit }
+        ensures range { IsConfig self.now }
+    {
+        self.journal_limit
+    }
+
+    /// 1 to 16 channels.
+    pub fn channels(&self) -> &ChannelList
+        ensures value { result.now ≡ self.now.channels }
+        ensures range { IsConfig self.now }
+    {
+        &self.channels
+    }
+}

@@ -1,0 +1,179 @@
+//! The names of the media table.
+ghost use Rattle.std.specs.Prelude.{◌≡◌, ◌==◌, ◌<◌, ◌≤◌, ◌↔◌, ◌∷◌, ◌++◌, [], length, All, IsSome, IfSome, OnOk, OnErr, option_copied, slice_get};
+ghost use Rattle.play_types.specs.Media.{AreMediaNumbers, IsMediaName, media_name_of};
+
+use crate::geometry::Geometry;
+use crate::text::Text;
+use std::alloc::{AllocError, Global};
+use std::marker::Model;
+
+/// The name of a clip, with its size and its frames. A clip that is not readable has its numbers 0.
+#[derive(Debug, Drop)]
+pub struct MediaName {
+    name: Text,
+    readable: bool,
+    width: u16,
+    height: u16,
+    frames: u32,
+    pairs: u16,
+}
+
+impl Model for MediaName {
+    ghost use Rattle.play_types.specs.Media.{MediaNameView, AreKept};
+
+    ghost Value = { MediaNameView };
+
+    ghost view = { λ m. record { name = m.name; readable = m.readable; width = m.width; height = m.height; frames = m.frames; pairs = m.pairs } };
+
+    ghost invariant = { λ m. AreKept m.readable m.width m.height m.frames m.pairs };
+}
+
+impl MediaName {
+    /// `None` exactly where the clip is readable and its width or height is not 1 to 4096, its frames are not 1 to
+    /// 1,000,000, or its pairs are above 4096. The numbers of a clip that is not readable are dropped.
+    pub fn new(
+        name: Text,
+        readable: bool,
+        width: u16,
+        height: u16,
+        frames: u32,
+        pairs: u16,
+    ) -> Option<MediaName>
+        ensures exact { IsSome result ↔ AreMediaNumbers readable width height frames pairs }
+        ensures value { IfSome result
+            (λ m. m ≡ media_name_of name readable width height frames pairs) }
+    {
+        if !readable {
+            return Some(MediaName {
+                name,
+                readable,
+                width: 0,
+                height: 0,
+                frames: 0,
+                pairs: 0,
+            });
+        }
+        let size = Geometry {
+            width,
+            height,
+            pairs,
+        };
+        if !size.is_in_range() || !(1..=1_000_000).contains(&frames) {
+            return None;
+        }
+        Some(MediaName {
+            name,
+            readable,
+            width,
+            height,
+            frames,
+            pairs,
+        })
+    }
+
+    pub fn name(&self) -> &Text
+        ensures { result.now ≡ self.now.name }
+    {
+        &self.name
+    }
+
+    pub fn readable(&self) -> bool
+        ensures { result ≡ self.now.readable }
+    {
+        self.readable
+    }
+
+    /// 1 to 4096 for a readable clip.
+    pub fn width(&self) -> u16
+        ensures value { result ≡ self.now.width }
+        ensures range { IsMediaName self.now }
+    {
+        self.width
+    }
+
+    /// 1 to 4096 for a readable clip.
+    pub fn height(&self) -> u16
+        ensures value { result ≡ self.now.height }
+        ensures range { IsMediaName self.now }
+    {
+        self.height
+    }
+
+    /// 1 to 1,000,000 for a readable clip.
+    pub fn frames(&self) -> u32
+        ensures value { result ≡ self.now.frames }
+        ensures range { IsMediaName self.now }
+    {
+        self.frames
+    }
+
+    /// Stereo pairs of sound a frame, at most 4096.
+    pub fn pairs(&self) -> u16
+        ensures value { result ≡ self.now.pairs }
+        ensures range { IsMediaName self.now }
+    {
+        self.pairs
+    }
+}
+
+/// Names in the order of the media table, at most 4,294,967,295.
+#[derive(Debug, Drop)]
+pub struct MediaNames {
+    names: Vec<MediaName>,
+}
+
+impl Model for MediaNames {
+    ghost use Rattle.std.specs.Prelude.{List, ◌≤◌, length, All};
+    ghost use Rattle.play_types.specs.Media.{MediaNameView, IsMediaName};
+
+    ghost Value = { List MediaNameView };
+
+    ghost view = { λ l. l.names.items };
+
+    ghost invariant = { λ l. (length l.names.items ≤ 4294967295) × All IsMediaName l.names.items };
+}
+
+impl MediaNames {
+    /// No names. It takes no memory.
+    pub fn new(alloc: Global) -> MediaNames
+        ensures { result ≡ [] }
+    {
+        MediaNames {
+            names: Vec::new(alloc),
+        }
+    }
+
+    /// Adds a name at the end. At want of memory the list is as before.
+    pub fn push(&mut self, name: MediaName) -> Result<(), AllocError>
+        requires { length self.old < 4294967295 }
+        ensures ok { OnOk result (self.new ≡ self.old ++ name ∷ []) }
+        ensures err { OnErr result (self.new ≡ self.old) }
+    {
+        // The list keeps that the numbers of each name are in range.
+        let _ = &name.readable;
+        self.names.push(name)?;
+        Ok(())
+    }
+
+    /// At most 4,294,967,295.
+    pub fn len(&self) -> usize
+        ensures value { result ≡ length self.now }
+        ensures range { length self.now ≤ 4294967295 }
+        ensures names { All IsMediaName self.now }
+    {
+        self.names.len()
+    }
+
+    pub fn is_empty(&self) -> bool
+        ensures { result ≡ (length self.now == 0) }
+    {
+        self.names.is_empty()
+    }
+
+    /// `None` exactly where `at` is not below the length.
+    pub fn get(&self, at: usize) -> Option<&MediaName>
+        ensures { option_copied result ≡ slice_get self.now at }
+    {
+        self.names.get(at)
+    }
+}

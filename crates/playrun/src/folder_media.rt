@@ -1,0 +1,110 @@
+//! Files of the system.
+ghost use Rattle.std.specs.Prelude.{◌≡◌, None};
+ghost use Rattle.std.specs.IoError.{error_kind};
+ghost use Rattle.play_outside.specs.Folder.{Misses};
+ghost use Rattle.playrun.specs.Faults.{fault_of};
+
+use play_outside::{FileFault, MediaDir};
+use std::alloc::Global;
+use std::io::{ErrorKind, Read};
+use std::path::Path;
+use std::rt::Files;
+use std::{fs, io};
+
+/// Reads configurations and media from the files of the system. It does not tell what it holds.
+#[derive(Drop)]
+pub struct FolderMedia<R> {
+    rt: R,
+    faults: u64,
+}
+
+impl<R: Files + AllocGlobal + Clone + Drop> FolderMedia<R> {
+    pub fn new(rt: R) -> FolderMedia<R>
+        ensures { ⟦<FolderMedia<R> as MediaDir>⟧.state result ≡ record { files = None; faults = 0 } }
+    {
+        FolderMedia { rt, faults: 0 }
+    }
+
+    /// Counts a fault, unless memory ran out.
+    fn missed(&mut self, error: io::Error) -> FileFault
+        ensures fault { result ≡ fault_of (error_kind error) }
+        ensures misses { Misses result (⟦<FolderMedia<R> as MediaDir>⟧.state self.old) (⟦<FolderMedia<R> as MediaDir>⟧.state self.new) }
+    {
+        if matches!(error.kind(), ErrorKind::OutOfMemory) {
+            return FileFault::OutOfMemory;
+        }
+        self.faults = self.faults.saturating_add(1);
+        FileFault::Failed
+    }
+}
+
+impl<R: Files + AllocGlobal + Clone + Drop> MediaDir for FolderMedia<R> {
+    ghost state = { λ m. record { files = None; faults = m.faults } };
+
+    fn config(&mut self, alloc: Global, path: &str) -> Result<Vec<u8>, FileFault> {
+        match read_file(&self.rt, alloc, path) {
+            Ok(bytes) => Ok(bytes),
+            Err(error) => Err(self.missed(error)),
+        }
+    }
+
+    /// The names of the regular files in a folder, also through links. A name that is not UTF-8 is passed over.
+    fn names(&mut self, alloc: Global, folder: &str) -> Result<Vec<String>, FileFault> {
+        match list_files(&self.rt, alloc, folder) {
+            Ok(names) => Ok(names),
+            Err(error) => Err(self.missed(error)),
+        }
+    }
+
+    fn bytes(&mut self, alloc: Global, folder: &str, name: &str) -> Result<Vec<u8>, FileFault> {
+        match read_file_in(&self.rt, alloc, folder, name) {
+            Ok(bytes) => Ok(bytes),
+            Err(error) => Err(self.missed(error)),
+        }
+    }
+}
+
+fn read_file<R: Files>(rt: &R, alloc: Global, path: &str) -> io::Result<Vec<u8>> {
+    let mut file = fs::open(rt, path)?;
+    let mut bytes = Vec::new(alloc);
+    file.read_to_end(&mut bytes)?;
+    Ok(bytes)
+}
+
+fn read_file_in<R: Files>(rt: &R, alloc: Global, folder: &str, name: &str) -> io::Result<Vec<u8>> {
+    let path = format!(in alloc; "{folder}/{name}")?;
+    read_file(rt, alloc, path.as_str())
+}
+
+fn list_files<R: Files + AllocGlobal + Clone + Drop>(
+    rt: &R,
+    alloc: Global,
+    folder: &str,
+) -> io::Result<Vec<String>> {
+    let mut names = Vec::new(alloc);
+    for entry in fs::read_dir(rt, folder)? {
+        match entry {
+            Ok(entry) => {
+                if is_regular(rt, entry.path())? {
+                    names.push(String::from_str(alloc, entry.file_name())?)?;
+                }
+            }
+            Err(error) if matches!(error.kind(), ErrorKind::InvalidFilename) => {}
+            Err(error) => return Err(error),
+        }
+    }
+    Ok(names)
+}
+
+/// Whether the path leads to a regular file. A link that leads nowhere does not.
+fn is_regular<R: Files>(rt: &R, path: Path<'_>) -> io::Result<bool> {
+    match fs::metadata(rt, path) {
+        Ok(metadata) => Ok(metadata.is_file()),
+        Err(error)
+            if matches!(
+                error.kind(),
+                ErrorKind::NotFound | ErrorKind::FilesystemLoop
+            ) => Ok(false),
+        Err(error) => Err(error),
+    }
+}

@@ -1,0 +1,45 @@
+//! Writing to a stream of the system.
+ghost use Rattle.std.specs.Prelude.{◌≡◌, ◌<◌, None, length};
+ghost use Rattle.play_outside.specs.Sink.{Writes};
+ghost use Rattle.playrun.specs.Stream.{AddsTo};
+
+use super::std_source::INTERRUPTIONS;
+use play_outside::{Sink, WriteStep};
+use std::io::{ErrorKind, Write};
+
+/// Writes to a stream of the system, such as standard output, and keeps nothing back: what a write took, the system
+/// took. It does not tell what was taken.
+#[derive(Drop)]
+pub struct StdSink<W> {
+    output: W,
+    faults: u64,
+}
+
+impl<W: Write + Drop> StdSink<W> {
+    pub fn new(output: W) -> StdSink<W>
+        ensures { ⟦<StdSink<W> as Sink>⟧.state result ≡ record { taken = None; faults = 0; mark = 0 } }
+    {
+        StdSink { output, faults: 0 }
+    }
+}
+
+impl<W: Write + Drop> Sink for StdSink<W> {
+    ghost state = { λ s. record { taken = None; faults = s.faults; mark = 0 } };
+
+    fn write(&mut self, piece: &[u8]) -> WriteStep
+        requires { 0 < length piece.now }
+        ensures writes { Writes result piece.now (⟦<StdSink<W> as Sink>⟧.state self.old) (⟦<StdSink<W> as Sink>⟧.state self.new) }
+        ensures stream { AddsTo result piece.now (W.contents self.old.output) (W.contents self.new.output) }
+    {
+        for _ in 0..INTERRUPTIONS {
+            match self.output.write(piece) {
+                Ok(0) => break,
+                Ok(count) => return WriteStep::Took(count),
+                Err(error) if matches!(error.kind(), ErrorKind::Interrupted) => {}
+                Err(_) => break,
+            }
+        }
+        self.faults = self.faults.saturating_add(1);
+        WriteStep::Failed
+    }
+}

@@ -1,0 +1,46 @@
+//! Reading a stream of the system.
+ghost use Rattle.std.specs.Prelude.{◌≡◌, ◌<◌, None, length};
+ghost use Rattle.play_outside.specs.Source.{Reads};
+ghost use Rattle.playrun.specs.Stream.{GivesFrom};
+
+use play_outside::{ReadStep, Source};
+use std::io::{ErrorKind, Read};
+
+/// How often in a row a read or a write may be interrupted before it counts as failed.
+pub const INTERRUPTIONS: u32 = 1000;
+
+/// Reads a stream of the system, such as standard input. It does not tell what is left.
+#[derive(Drop)]
+pub struct StdSource<R> {
+    input: R,
+    faults: u64,
+}
+
+impl<R: Read + Drop> StdSource<R> {
+    pub fn new(input: R) -> StdSource<R>
+        ensures { ⟦<StdSource<R> as Source>⟧.state result ≡ record { left = None; faults = 0 } }
+    {
+        StdSource { input, faults: 0 }
+    }
+}
+
+impl<R: Read + Drop> Source for StdSource<R> {
+    ghost state = { λ s. record { left = None; faults = s.faults } };
+
+    fn read(&mut self, buf: &mut [u8]) -> ReadStep
+        requires { 0 < length buf.old }
+        ensures reads { Reads result buf.new (⟦<StdSource<R> as Source>⟧.state self.old) (⟦<StdSource<R> as Source>⟧.state self.new) }
+        ensures stream { GivesFrom result buf.new (R.remaining self.old.input) (R.remaining self.new.input) }
+    {
+        for _ in 0..INTERRUPTIONS {
+            match self.input.read(buf) {
+                Ok(0) => return ReadStep::End,
+                Ok(count) => return ReadStep::Got(count),
+                Err(error) if matches!(error.kind(), ErrorKind::Interrupted) => {}
+                Err(_) => break,
+            }
+        }
+        self.faults = self.faults.saturating_add(1);
+        ReadStep::Failed
+    }
+}

@@ -1,0 +1,16 @@
+//! The whole of `playrun`: a script of interleaved connections and ticks in, replies and frames out.
+#![tactic(auto)]
+
+mod ending;
+mod frame;
+mod line;
+mod numbers;
+mod reply;
+mod run;
+mod script;
+mod stage;
+#[cfg(test)]
+mod tests;
+mod words;
+
+pub use run::run_main;

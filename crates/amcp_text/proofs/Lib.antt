@@ -1,8 +1,10 @@
 pub mod FirstEnd
 pub mod LineLaws
 pub mod ReaderLaws
+pub mod Cutting
 pub mod LastMark
 pub mod Roles
 pub mod Reading
 pub mod ReadingText
 pub mod TextLaws
+pub mod Examples

@@ -14,7 +14,7 @@ abbrev pub micro_of : List ℕ → Option ℤ
 micro_of text = option_and_then (λ value. if is_wide value then Some value else None) (decimal_micro text)
 
 -- the last so many digits of a number, with zeros in front where it has fewer
-abbrev pub last_digits : ℕ → ℕ → List ℕ
+unfoldable pub last_digits : ℕ → ℕ → List ℕ
 last_digits zero n = []
 last_digits (suc count) n = (48 + (n / 10 ^ count) % 10) ∷ last_digits count n
 
@@ -28,7 +28,7 @@ printed_unsigned micros =
     decimal (micros / 1000000)
     ++ (if micros % 1000000 == 0 then [] else 46 ∷ without_end_zeros (last_digits 6 (micros % 1000000)))
 
--- the text of a value
+-- a value: a minus where it is negative, and its number without the sign
 abbrev pub printed_micro : ℤ → List ℕ
 printed_micro (pos micros) = printed_unsigned micros
 printed_micro (negsuc before) = 45 ∷ printed_unsigned (suc before)

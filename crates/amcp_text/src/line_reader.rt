@@ -1,5 +1,5 @@
 //! Lines of a stream that comes in pieces.
-ghost use Rattle.std.specs.Prelude.{◌≡◌, ℕ, List, [], ◌++◌, take, IfOk, IsTrue, IsSome, ◌↔◌};
+ghost use Rattle.std.specs.Prelude.{◌≡◌, ℕ, List, [], ◌++◌, take, IfOk, is_some};
 ghost use Rattle.std.specs.List.{position};
 ghost use Rattle.std.specs.Str.Lines.{strip_carriage_return};
 ghost use Rattle.amcp_text.specs.Lines.{line_of_text, is_line_end};
@@ -66,7 +66,8 @@ impl LineReader {
     /// the piece is empty. It takes no memory.
     pub fn feed(&mut self, piece: &[u8]) -> usize
         ensures count { result ≡ taken_len self.old.held piece.now }
-        ensures stands { (bytes : List ℕ) → StandsFor self.old bytes → StandsFor self.new (bytes ++ take result piece.now) }
+        ensures stands { (bytes : List ℕ)
+            → StandsFor self.old bytes → StandsFor self.new (bytes ++ take result piece.now) }
     {
         if self.held {
             return 0;
@@ -86,7 +87,7 @@ impl LineReader {
 
     /// The line that is held: `None` exactly where no whole line is held.
     pub fn line(&self) -> Option<LineEvent<'_>>
-        ensures held { IsSome result ↔ IsTrue self.now.held }
+        ensures held { is_some result ≡ self.now.held }
         ensures line { (bytes : List ℕ) → StandsFor self.now bytes → Tells result bytes }
     {
         if !self.held {

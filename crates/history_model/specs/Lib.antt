@@ -22,3 +22,4 @@ pub mod Numbers
 pub mod Script
 pub mod ScriptInput
 pub mod ScriptOutput
+pub mod ReplyText

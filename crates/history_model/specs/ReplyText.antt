@@ -1,0 +1,111 @@
+-- Replies as lines, and as the bytes that are sent.
+use Rattle.std.specs.Prelude.{◌⊎◌, ℕ, ◌+◌, ◌≤◌, ◌==◌, nat_lt, if◌then◌else◌, List, [], ◌∷◌, ◌++◌, map, take, flat_map, codes, decimal, encode_utf8_all}
+use Rattle.std.specs.List.{join_by}
+use Rattle.play_types.specs.Answer.{MicrosView}
+use Rattle.play_types.specs.Config.{ChannelView, ConfigView}
+use Rattle.play_types.specs.Media.{MediaNameView}
+use Rattle.play_types.specs.declared.answer.Status.{Status}
+use Rattle.play_types.specs.declared.answer.Status.TheVariants as status
+use Rattle.play_types.specs.declared.reply.Name.{Name}
+use Rattle.play_types.specs.declared.reply.Name.TheVariants as name
+use Rattle.play_types.specs.declared.reply.Reply.{Reply}
+use Rattle.play_types.specs.declared.reply.Reply.TheVariants as reply
+use Rattle.amcp_text.specs.Micros.{printed_micro}
+
+-- the name of a command in capitals
+abbrev pub name_text : Name → List ℕ
+name_text name.LoadBg = codes "LOADBG"
+name_text name.Load = codes "LOAD"
+name_text name.Play = codes "PLAY"
+name_text name.Pause = codes "PAUSE"
+name_text name.Resume = codes "RESUME"
+name_text name.Stop = codes "STOP"
+name_text name.Clear = codes "CLEAR"
+name_text name.Swap = codes "SWAP"
+name_text name.Mixer = codes "MIXER"
+name_text name.Begin = codes "BEGIN"
+name_text name.Commit = codes "COMMIT"
+name_text name.Discard = codes "DISCARD"
+name_text name.Info = codes "INFO"
+name_text name.Cls = codes "CLS"
+name_text name.Version = codes "VERSION"
+name_text name.Bye = codes "BYE"
+name_text name.Kill = codes "KILL"
+
+-- a code with the name that it is about and a word
+unfoldable pub code_line : ℕ → Name → List ℕ → List ℕ
+code_line code command word = decimal code ++ 32 ∷ name_text command ++ 32 ∷ word
+
+-- the word of a refusal: below 500 the client is at fault, from 500 on the server
+abbrev pub refusal_word : ℕ → List ℕ
+refusal_word code = if nat_lt code 500 then codes "ERROR" else codes "FAILED"
+
+-- the codes of the refusals that name a command
+abbrev pub IsRefusalCode : ℕ → Type 0
+IsRefusalCode code = ((401 ≤ code) × (code ≤ 404)) ⊎ ((501 ≤ code) × (code ≤ 503))
+
+-- mixer values in printed form, parted by one space
+unfoldable pub values_line : MicrosView → List ℕ
+values_line micros = join_by printed_micro (codes " ") (take micros.count micros.values)
+
+-- width and height in pixels
+unfoldable pub size_text : ℕ → ℕ → List ℕ
+size_text width height = decimal width ++ codes "x" ++ decimal height
+
+abbrev pub status_text : Status → List ℕ
+status_text status.Empty = codes "EMPTY"
+status_text status.Paused = codes "PAUSED"
+status_text status.Playing = codes "PLAYING"
+
+-- the line of a channel: its number, its size and its status
+unfoldable pub channel_line : ℕ → ChannelView → Status → List ℕ
+channel_line number channel state =
+    decimal number ++ codes " " ++ size_text channel.width channel.height ++ codes " " ++ status_text state
+
+-- a line for each channel that has a status, numbered from the first number on
+unfoldable pub channel_lines : ℕ → List ChannelView → List Status → List (List ℕ)
+channel_lines number [] states = []
+channel_lines number (channel ∷ channels) [] = []
+channel_lines number (channel ∷ channels) (state ∷ states) =
+    channel_line number channel state ∷ channel_lines (number + 1) channels states
+
+-- a character of a name: a quotation mark, a backslash and a new line are escaped by a backslash
+abbrev pub escaped : ℕ → List ℕ
+escaped c =
+    if c == 34 then codes "\\\""
+    else if c == 92 then codes "\\\\"
+    else if c == 10 then codes "\\n"
+    else c ∷ []
+
+-- the characters of a name in quotation marks, with its escapes
+unfoldable pub quoted : List ℕ → List ℕ
+quoted name = 34 ∷ flat_map escaped name ++ 34 ∷ []
+
+-- what the line of a clip says after its name: its size, its frames and its stereo pairs
+unfoldable pub clip_text : MediaNameView → List ℕ
+clip_text clip = size_text clip.width clip.height ++ codes " " ++ decimal clip.frames ++ codes " " ++ decimal clip.pairs
+
+-- the line of a name of the media table
+unfoldable pub media_line : MediaNameView → List ℕ
+media_line clip =
+    encode_utf8_all (quoted clip.name) ++ codes " " ++ (if clip.readable then clip_text clip else codes "UNREADABLE")
+
+-- the lines of a reply, without their ends
+abbrev pub reply_lines : ConfigView → List MediaNameView → Reply → List (List ℕ)
+reply_lines config media (reply.Done command) = code_line 202 command (codes "OK") ∷ []
+reply_lines config media (reply.Value micros) = codes "201 MIXER OK" ∷ values_line micros ∷ []
+reply_lines config media (reply.Info statuses) =
+    codes "200 INFO OK" ∷ channel_lines 1 config.channels (take statuses.count statuses.channels) ++ [] ∷ []
+reply_lines config media reply.Cls = codes "200 CLS OK" ∷ map media_line media ++ [] ∷ []
+reply_lines config media reply.Version = codes "201 VERSION OK" ∷ codes "2.0 PLAYD" ∷ []
+reply_lines config media (reply.Unknown line) = codes "400 ERROR" ∷ encode_utf8_all line ∷ []
+reply_lines config media (reply.Refused code command) = code_line code command (refusal_word code) ∷ []
+reply_lines config media reply.NoMemory = codes "500 FAILED" ∷ []
+
+-- a line with its end, CR LF
+unfoldable pub ended : List ℕ → List ℕ
+ended line = line ++ 13 ∷ 10 ∷ []
+
+-- the bytes of a reply
+unfoldable pub reply_bytes : ConfigView → List MediaNameView → Reply → List ℕ
+reply_bytes config media answer = flat_map ended (reply_lines config media answer)

@@ -45,5 +45,5 @@ sample_of_bytes bytes at = cast_signed w16 (slice_index bytes at + 256 * slice_i
 -- the sample of a clip at a frame and pair, side 0 left and 1 right: silent where it has no such frame or pair
 abbrev pub clip_sample : ClipView → ℕ → ℕ → ℕ → ℤ
 clip_sample clip frame pair side =
-    let at = frame_start clip frame + 4 * (clip.geometry.width * clip.geometry.height) + 4 * pair + 2 * side in
+    let at = frame_start clip frame + 4 * clip.geometry.width * clip.geometry.height + 4 * pair + 2 * side in
     if nat_lt frame clip.frames && nat_lt pair clip.geometry.pairs then sample_of_bytes clip.bytes at else pos 0

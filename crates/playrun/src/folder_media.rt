@@ -1,6 +1,8 @@
 //! Files of the system.
 ghost use Rattle.std.specs.Prelude.{◌≡◌, None};
+ghost use Rattle.std.specs.IoError.{error_kind};
 ghost use Rattle.play_outside.specs.Folder.{Misses};
+ghost use Rattle.playrun.specs.Faults.{fault_of};
 
 use play_outside::{FileFault, MediaDir};
 use std::alloc::Global;
@@ -25,7 +27,8 @@ impl<R: Files + AllocGlobal + Clone + Drop> FolderMedia<R> {
 
     /// Counts a fault, unless memory ran out.
     fn missed(&mut self, error: io::Error) -> FileFault
-        ensures { Misses result (⟦<FolderMedia<R> as MediaDir>⟧.state self.old) (⟦<FolderMedia<R> as MediaDir>⟧.state self.new) }
+        ensures fault { result ≡ fault_of (error_kind error) }
+        ensures misses { Misses result (⟦<FolderMedia<R> as MediaDir>⟧.state self.old) (⟦<FolderMedia<R> as MediaDir>⟧.state self.new) }
     {
         if matches!(error.kind(), ErrorKind::OutOfMemory) {
             return FileFault::OutOfMemory;

@@ -1,5 +1,7 @@
 //! Writing to a stream of the system.
-ghost use Rattle.std.specs.Prelude.{◌≡◌, None};
+ghost use Rattle.std.specs.Prelude.{◌≡◌, ◌<◌, None, length};
+ghost use Rattle.play_outside.specs.Sink.{Writes};
+ghost use Rattle.playrun.specs.Stream.{AddsTo};
 
 use super::std_source::INTERRUPTIONS;
 use play_outside::{Sink, WriteStep};
@@ -24,7 +26,11 @@ impl<W: Write + Drop> StdSink<W> {
 impl<W: Write + Drop> Sink for StdSink<W> {
     ghost state = { λ s. record { taken = None; faults = s.faults; mark = 0 } };
 
-    fn write(&mut self, piece: &[u8]) -> WriteStep {
+    fn write(&mut self, piece: &[u8]) -> WriteStep
+        requires { 0 < length piece.now }
+        ensures writes { Writes result piece.now (⟦<StdSink<W> as Sink>⟧.state self.old) (⟦<StdSink<W> as Sink>⟧.state self.new) }
+        ensures stream { AddsTo result piece.now (W.contents self.old.output) (W.contents self.new.output) }
+    {
         for _ in 0..INTERRUPTIONS {
             match self.output.write(piece) {
                 Ok(0) => break,

@@ -1,5 +1,7 @@
 //! Reading a stream of the system.
-ghost use Rattle.std.specs.Prelude.{◌≡◌, None};
+ghost use Rattle.std.specs.Prelude.{◌≡◌, ◌<◌, None, length};
+ghost use Rattle.play_outside.specs.Source.{Reads};
+ghost use Rattle.playrun.specs.Stream.{GivesFrom};
 
 use play_outside::{ReadStep, Source};
 use std::io::{ErrorKind, Read};
@@ -25,7 +27,11 @@ impl<R: Read + Drop> StdSource<R> {
 impl<R: Read + Drop> Source for StdSource<R> {
     ghost state = { λ s. record { left = None; faults = s.faults } };
 
-    fn read(&mut self, buf: &mut [u8]) -> ReadStep {
+    fn read(&mut self, buf: &mut [u8]) -> ReadStep
+        requires { 0 < length buf.old }
+        ensures reads { Reads result buf.new (⟦<StdSource<R> as Source>⟧.state self.old) (⟦<StdSource<R> as Source>⟧.state self.new) }
+        ensures stream { GivesFrom result buf.new (R.remaining self.old.input) (R.remaining self.new.input) }
+    {
         for _ in 0..INTERRUPTIONS {
             match self.input.read(buf) {
                 Ok(0) => return ReadStep::End,

@@ -8,7 +8,7 @@ use Rattle.std.proofs.lemmas.List.Folds.{prefix_len-append}
 use Rattle.std.proofs.lemmas.List.Sums.{suffix_len-le-length}
 
 -- the elements that fail at the end of a list with one more before it
-suffix_len-cons : {X : Type 0} (p : X → Bool) (x : X) (xs : List X)
+pub suffix_len-cons : {X : Type 0} (p : X → Bool) (x : X) (xs : List X)
     → suffix_len p (x ∷ xs) ≡ cond (eqb (suffix_len p xs) (length xs)) (length xs + prefix_len p (x ∷ [])) (suffix_len p xs)
 suffix_len-cons p x xs =
     ap (prefix_len p) (reverse-append (x ∷ []) xs) ∙ rw (prefix_len-append p (reverse xs) (x ∷ []), length-reverse xs) refl

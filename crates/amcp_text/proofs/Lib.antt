@@ -1,6 +1,7 @@
 pub mod FirstEnd
 pub mod LineLaws
 pub mod ReaderLaws
+pub mod Cutting
 pub mod LastMark
 pub mod Roles
 pub mod Reading

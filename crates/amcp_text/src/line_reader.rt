@@ -1,5 +1,5 @@
 //! Lines of a stream that comes in pieces.
-ghost use Rattle.std.specs.Prelude.{◌≡◌, ℕ, List, [], ◌++◌, take, IfOk, IsTrue, IsSome, ◌↔◌};
+ghost use Rattle.std.specs.Prelude.{◌≡◌, ℕ, List, [], ◌++◌, take, IfOk, is_some};
 ghost use Rattle.std.specs.List.{position};
 ghost use Rattle.std.specs.Str.Lines.{strip_carriage_return};
 ghost use Rattle.amcp_text.specs.Lines.{line_of_text, is_line_end};
@@ -86,7 +86,7 @@ impl LineReader {
 
     /// The line that is held: `None` exactly where no whole line is held.
     pub fn line(&self) -> Option<LineEvent<'_>>
-        ensures held { IsSome result ↔ IsTrue self.now.held }
+        ensures held { is_some result ≡ self.now.held }
         ensures line { (bytes : List ℕ) → StandsFor self.now bytes → Tells result bytes }
     {
         if !self.held {

@@ -1,4 +1,4 @@
-//! Lines by hand, and the streams that they stand in.
+//! Lines and words by hand.
 ghost use Rattle.std.specs.Prelude.{◌<◌};
 
 use super::*;
@@ -82,5 +82,70 @@ fn a_line_of_4096_bytes_is_the_longest(rt: HostRuntime) -> Result<(), Fail> {
             assert!(rt; long || told.len() == 4098);
         }
     }
+    Ok(())
+}
+
+/// Each word in brackets.
+fn shown(alloc: Global, words: &WordList) -> Result<String, AllocError> {
+    let mut shown = String::new(alloc);
+    for at in 0..words.len() {
+        if let Some(word) = words.get(at) {
+            shown.push('[')?;
+            shown.push_str(word)?;
+            shown.push(']')?;
+        }
+    }
+    Ok(shown)
+}
+
+#[test]
+fn words_are_parted_by_blanks_outside_quotes(rt: HostRuntime) -> Result<(), Fail> {
+    let rows = [
+        ("", ""),
+        (" \t ", ""),
+        ("PLAY 1-0 RED", "[PLAY][1-0][RED]"),
+        ("  a\t \tb ", "[a][b]"),
+        ("play 1-0 \"r\"ed", "[play][1-0][red]"),
+        ("\"\"", "[]"),
+        ("a \"\" b\"\"", "[a][][b]"),
+        ("\"a b\"c\" \"d", "[a bc d]"),
+        ("a\\\"b \\\\ \\n", "[a\"b][\\][\n]"),
+        ("\"a\\nb\\\"\\\\\" c", "[a\nb\"\\][c]"),
+        ("\u{e9} \"\u{20ac}\t\"", "[\u{e9}][\u{20ac}\t]"),
+    ];
+    for (line, expected) in rows {
+        let words = tokens(rt.alloc(), line)?;
+        let shown = shown(rt.alloc(), &words)?;
+        assert_eq!(rt; shown.as_str(), expected);
+    }
+    Ok(())
+}
+
+#[test]
+fn a_faulty_line_has_its_first_bad_escape_or_its_open_quote(rt: HostRuntime) {
+    let rows = [
+        ("PLAY 1-0 \"RED", TokenFault::OpenQuote { at: 9 }),
+        ("\"a\" \"", TokenFault::OpenQuote { at: 4 }),
+        ("\"\u{20ac}\" \"\\\"", TokenFault::OpenQuote { at: 6 }),
+        ("a\\", TokenFault::BadEscape { at: 1 }),
+        ("\"\\x \\", TokenFault::BadEscape { at: 1 }),
+        ("\u{e9}\\N", TokenFault::BadEscape { at: 2 }),
+        ("\"\\\\\"\\t", TokenFault::BadEscape { at: 4 }),
+    ];
+    for (line, expected) in rows {
+        assert_eq!(rt; tokens(rt.alloc(), line).err(), Some(expected), "{line}");
+    }
+}
+
+#[test]
+fn words_are_kept_in_order(rt: HostRuntime) -> Result<(), Fail> {
+    let mut words = WordList::new(rt.alloc());
+    assert!(rt; words.is_empty());
+    words.push("PLAY")?;
+    words.push("")?;
+    assert_eq!(rt; words.len(), 2);
+    assert_eq!(rt; words.get(0), Some("PLAY"));
+    assert_eq!(rt; words.get(1), Some(""));
+    assert_eq!(rt; words.get(2), None);
     Ok(())
 }

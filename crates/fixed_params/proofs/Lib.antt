@@ -1,2 +1,5 @@
 pub mod Digits
 pub mod Values
+pub mod EndZeros
+pub mod Places
+pub mod ReadsBack

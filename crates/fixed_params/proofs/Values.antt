@@ -1,7 +1,9 @@
 -- The value of a text, by its sign and its digits.
-use Rattle.std.proofs.Common.{◌≡◌, ℕ, ◌+◌, ◌≤◌, zero, suc, Bool, true, false, cond, ◌&&◌, nat_le, List, ℤ, pos, neg_ℤ, ◌-ℤ◌, to_z, of_z, w64, refl, sym, ap, ◌∙◌, arith, inl, inr}
+use Rattle.std.proofs.Common.{◌≡◌, ℕ, ◌+◌, ◌≤◌, zero, suc, Bool, true, false, cond, ◌&&◌, nat_le, List, length, ◌/◌, ◌<◌, ◌^◌, ◌≤ℤ◌, lit<, ℤ, pos, negsuc, neg_ℤ, ◌-ℤ◌, to_z, of_z, w64, refl, sym, ap, ◌∙◌, arith, inl, inr}
 use Rattle.std.specs.Prelude.{Option, Some, None, unsigned_abs}
 use Rattle.std.specs.Option.{option_and_then, option_map}
+use Rattle.std.specs.Fmt.{decimal}
+use Rattle.std.proofs.lemmas.Fmt.{length-decimal-le}
 use Rattle.std.specs.Str.{IsUtf8, chars}
 use Rattle.std.specs.Str.Parse.{starts_with_minus, without_leading_sign}
 use Rattle.std.proofs.lemmas.Bool.{cases_Bool, and_parts, leb-true}
@@ -53,7 +55,7 @@ micro_of_text text unsigned r utf8 e read =
 pub within : (unsigned : List ℕ) (n : ℕ) → Some n ≡ unsigned_of unsigned → n ≤ 1000000000
 within unsigned n read =
     let found = cond_some (is_unsigned_decimal unsigned && nat_le (unsigned_micro unsigned) 1000000000) (unsigned_micro unsigned) n (sym read) in
-    let small : unsigned_micro unsigned ≤ 1000000000 = leb-true (unsigned_micro unsigned) 1000000000 ((and_parts _ _ found.0).1) in
+    let small : unsigned_micro unsigned ≤ 1000000000 = leb-true (unsigned_micro unsigned) 1000000000 ((and_parts (is_unsigned_decimal unsigned) (nat_le (unsigned_micro unsigned) 1000000000) found.0).1) in
     omega (arith, found.1, small)
 
 pub plus_value : (n : ℕ) (z : ℤ) → z ≡ pos n → n ≤ 1000000000 → to_z w64 (of_z w64 z) ≡ pos n
@@ -61,3 +63,7 @@ plus_value n z e small = omega (arith, ints)
 
 pub minus_value : (n : ℕ) (z : ℤ) → z ≡ pos n → n ≤ 1000000000 → to_z w64 (of_z w64 (pos 0 -ℤ to_z w64 (of_z w64 z))) ≡ neg_ℤ (pos n)
 minus_value n z e small = omega (arith, ints)
+
+-- the whole part has at most four digits
+pub whole_length : (n : ℕ) → n ≤ 1000000000 → length (decimal (n / 1000000)) ≤ 4
+whole_length n small = length-decimal-le 4 (n / 1000000) (lit< tt) (omega arith) (omega arith)

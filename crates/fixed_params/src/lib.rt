@@ -3,6 +3,11 @@
 //! A value lies within -1000 to 1000. What is printed reads back to the value. Both calls take no memory.
 #![tactic(auto)]
 
+mod print;
 mod read;
 
+pub use print::print_micro;
 pub use read::read_micro;
+
+#[cfg(test)]
+mod tests;

@@ -1,0 +1,36 @@
+-- A stream that a reader takes in pieces. However it is cut, the lines that were told are its first lines.
+use Rattle.std.proofs.Common.{◌≡◌, ℕ, List, [], ◌∷◌, ◌++◌, refl, sym, ap, ◌∙◌, append_assoc, append-nil}
+use Rattle.std.specs.Prelude.{Some}
+use Rattle.amcp_text.specs.Lines.{Line, lines_of}
+use Rattle.amcp_text.specs.Reader.{Tells, line_seen}
+use Rattle.amcp_text.specs.declared.line_reader.LineEvent.{LineEvent}
+
+-- of what was taken of a stream these lines were told, and the reader stands for the bytes after them
+pub record HasTold (taken : List ℕ) (lines : List Line) (bytes : List ℕ) : Type 0 where
+  pub first : (rest : List ℕ) → lines_of (taken ++ rest) ≡ lines ++ lines_of (bytes ++ rest)
+
+-- before the stream
+pub told_nothing : HasTold [] [] []
+told_nothing = record { first = λ rest. refl }
+
+-- more of the stream was taken
+pub told_more : (piece : List ℕ) {taken bytes : List ℕ} {lines : List Line} → HasTold taken lines bytes → HasTold (taken ++ piece) lines (bytes ++ piece)
+told_more piece {taken} {bytes} {lines} told = record {
+  first = λ rest.
+      ap lines_of (append_assoc taken piece rest) ∙ told.first (piece ++ rest)
+      ∙ ap (λ (bs : List ℕ). lines ++ lines_of bs) (sym (append_assoc bytes piece rest));
+}
+
+-- a line was told and dropped
+pub told_line : (event : LineEvent) {taken bytes : List ℕ} {lines : List Line} → HasTold taken lines bytes → Tells (Some event) bytes
+    → HasTold taken (lines ++ line_seen event ∷ []) []
+told_line event {lines = lines} told tells = record {
+  first = λ rest.
+      told.first rest ∙ ap (λ (ls : List Line). lines ++ ls) (tells rest) ∙ sym (append_assoc lines (line_seen event ∷ []) (lines_of rest));
+}
+
+-- at the end of the stream, where no line is held, all its lines were told
+pub told_all : {taken bytes : List ℕ} {lines : List Line} → HasTold taken lines bytes → lines_of bytes ≡ [] → lines_of taken ≡ lines
+told_all {taken} {bytes} {lines} told none =
+    ap lines_of (sym (append-nil taken)) ∙ told.first []
+    ∙ ap (λ (bs : List ℕ). lines ++ lines_of bs) (append-nil bytes) ∙ ap (λ (ls : List Line). lines ++ ls) none ∙ append-nil lines

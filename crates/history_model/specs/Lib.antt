@@ -25,3 +25,4 @@ pub mod Script
 pub mod ScriptInput
 pub mod ReplyText
 pub mod ScriptOutput
+pub mod ReplyText

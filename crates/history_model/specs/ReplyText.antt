@@ -1,6 +1,6 @@
 -- Replies as lines, and as the bytes that are sent.
-use Rattle.std.specs.Prelude.{◌⊎◌, ℕ, ◌+◌, ◌≤◌, ◌==◌, nat_lt, if◌then◌else◌, List, [], ◌∷◌, ◌++◌, map, take, flat_map, codes, decimal, encode_utf8_all}
-use Rattle.std.specs.List.{join_by}
+use Rattle.std.specs.Prelude.{◌≡◌, length, ◌⊎◌, ℕ, ◌≤◌, ◌==◌, nat_lt, if◌then◌else◌, List, [], ◌∷◌, ◌++◌, map, take, flat_map, codes, decimal, encode_utf8_all}
+use Rattle.std.specs.List.{join_by, zip, enumerate_from}
 use Rattle.play_types.specs.Answer.{MicrosView}
 use Rattle.play_types.specs.Config.{ChannelView, ConfigView}
 use Rattle.play_types.specs.Media.{MediaNameView}
@@ -62,12 +62,9 @@ unfoldable pub channel_line : ℕ → ChannelView → Status → List ℕ
 channel_line number channel state =
     decimal number ++ codes " " ++ size_text channel.width channel.height ++ codes " " ++ status_text state
 
--- a line for each channel that has a status, numbered from the first number on
-unfoldable pub channel_lines : ℕ → List ChannelView → List Status → List (List ℕ)
-channel_lines number [] states = []
-channel_lines number (channel ∷ channels) [] = []
-channel_lines number (channel ∷ channels) (state ∷ states) =
-    channel_line number channel state ∷ channel_lines (number + 1) channels states
+-- a line for each channel with its status, numbered from 1
+abbrev pub channel_lines : List ChannelView → List Status → List (List ℕ)
+channel_lines channels states = map (λ at. channel_line at.0 at.1.0 at.1.1) (enumerate_from 1 (zip channels states))
 
 -- a character of a name: a quotation mark, a backslash and a new line are escaped by a backslash
 abbrev pub escaped : ℕ → List ℕ
@@ -81,21 +78,24 @@ escaped c =
 unfoldable pub quoted : List ℕ → List ℕ
 quoted name = 34 ∷ flat_map escaped name ++ 34 ∷ []
 
--- what the line of a clip says after its name: its size, its frames and its stereo pairs
-unfoldable pub clip_text : MediaNameView → List ℕ
-clip_text clip = size_text clip.width clip.height ++ codes " " ++ decimal clip.frames ++ codes " " ++ decimal clip.pairs
+-- the size, the frames and the stereo pairs of a clip
+unfoldable pub numbers_text : MediaNameView → List ℕ
+numbers_text clip = size_text clip.width clip.height ++ codes " " ++ decimal clip.frames ++ codes " " ++ decimal clip.pairs
+
+-- what the line of a clip says after its name
+abbrev pub clip_text : MediaNameView → List ℕ
+clip_text clip = if clip.readable then numbers_text clip else codes "UNREADABLE"
 
 -- the line of a name of the media table
 unfoldable pub media_line : MediaNameView → List ℕ
-media_line clip =
-    encode_utf8_all (quoted clip.name) ++ codes " " ++ (if clip.readable then clip_text clip else codes "UNREADABLE")
+media_line clip = encode_utf8_all (quoted clip.name) ++ codes " " ++ clip_text clip
 
 -- the lines of a reply, without their ends
 abbrev pub reply_lines : ConfigView → List MediaNameView → Reply → List (List ℕ)
 reply_lines config media (reply.Done command) = code_line 202 command (codes "OK") ∷ []
 reply_lines config media (reply.Value micros) = codes "201 MIXER OK" ∷ values_line micros ∷ []
 reply_lines config media (reply.Info statuses) =
-    codes "200 INFO OK" ∷ channel_lines 1 config.channels (take statuses.count statuses.channels) ++ [] ∷ []
+    codes "200 INFO OK" ∷ channel_lines config.channels (take statuses.count statuses.channels) ++ [] ∷ []
 reply_lines config media reply.Cls = codes "200 CLS OK" ∷ map media_line media ++ [] ∷ []
 reply_lines config media reply.Version = codes "201 VERSION OK" ∷ codes "2.0 PLAYD" ∷ []
 reply_lines config media (reply.Unknown line) = codes "400 ERROR" ∷ encode_utf8_all line ∷ []
@@ -109,3 +109,14 @@ ended line = line ++ 13 ∷ 10 ∷ []
 -- the bytes of a reply
 unfoldable pub reply_bytes : ConfigView → List MediaNameView → Reply → List ℕ
 reply_bytes config media answer = flat_map ended (reply_lines config media answer)
+
+-- a reply to a configuration: an Info has a status for each channel, and a Refused one of its codes
+abbrev pub IsReplyTo : ConfigView → Reply → Type 0
+IsReplyTo config (reply.Done command) = Unit {0}
+IsReplyTo config (reply.Value micros) = Unit {0}
+IsReplyTo config (reply.Info statuses) = statuses.count ≡ length config.channels
+IsReplyTo config reply.Cls = Unit {0}
+IsReplyTo config reply.Version = Unit {0}
+IsReplyTo config (reply.Unknown line) = Unit {0}
+IsReplyTo config (reply.Refused code command) = IsRefusalCode code
+IsReplyTo config reply.NoMemory = Unit {0}

@@ -1,0 +1,4 @@
+mod Pieces
+mod Escapes
+mod Lines
+mod Values

@@ -1,0 +1,54 @@
+//! Names in quotation marks.
+ghost use Rattle.std.specs.Prelude.{◌≡◌, ◌∷◌, [], encode_utf8_all, chars, IfNone, IfSome};
+ghost use Rattle.std.specs.List.{flat_map};
+ghost use Rattle.history_model.specs.ReplyText.{escaped, quoted};
+ghost use Rattle.play_outside.specs.Sink.{Sends};
+
+use play_outside::{Sent, Sink, send};
+
+/// Writes a name in quotation marks, with its escapes.
+pub(crate) fn send_quoted<K: Sink>(name: &str, to: &mut K) -> Sent
+    ensures { Sends result (encode_utf8_all (quoted (chars name.now))) (K.state to.old) (K.state to.new) }
+{
+    match send(b"\"", to) {
+        Sent::All => {}
+        Sent::Failed => return Sent::Failed,
+    }
+    match send_escaped(name.as_bytes(), to) {
+        Sent::All => send(b"\"", to),
+        Sent::Failed => Sent::Failed,
+    }
+}
+
+/// Writes bytes, each that has an escape by its escape.
+fn send_escaped<K: Sink>(name: &[u8], to: &mut K) -> Sent
+    ensures { Sends result (flat_map escaped name.now) (K.state to.old) (K.state to.new) }
+{
+    let mut sent = 0;
+    for at in 0..name.len() {
+        if let Some(escape) = escape_of(name[at]) {
+            match send(&name[sent..at], to) {
+                Sent::All => {}
+                Sent::Failed => return Sent::Failed,
+            }
+            match send(escape, to) {
+                Sent::All => sent = at + 1,
+                Sent::Failed => return Sent::Failed,
+            }
+        }
+    }
+    send(&name[sent..], to)
+}
+
+/// The escape of a quotation mark, a backslash or a new line.
+fn escape_of(byte: u8) -> Option<&'static [u8]>
+    ensures none { IfNone result (escaped byte ≡ byte ∷ []) }
+    ensures some { IfSome result (λ escape. escape.now ≡ escaped byte) }
+{
+    match byte {
+        b'"' => Some(b"\\\""),
+        b'\\' => Some(b"\\\\"),
+        b'\n' => Some(b"\\n"),
+        _ => None,
+    }
+}

@@ -25,4 +25,3 @@ pub mod Script
 pub mod ScriptInput
 pub mod ReplyText
 pub mod ScriptOutput
-pub mod ReplyText

@@ -3,6 +3,7 @@ use Rattle.std.proofs.Common.{◌≡◌, ◌≢◌, ℕ, ◌+◌, ◌<◌, ◌�
 use Rattle.std.specs.List.{list_any, position_or_len}
 use Rattle.std.specs.Prelude.{Option, Some, None, Result, Ok, Err, IfOk, IfSome, IsSome, IsTrue, ◌↔◌}
 use Rattle.std.specs.declared.alloc.AllocError.{AllocError}
+use Rattle.std.specs.Option.{is_some}
 use Rattle.std.specs.Str.{chars}
 use Rattle.std.proofs.lemmas.Str.{chars-nil}
 use Rattle.std.proofs.lemmas.Bool.{false≢true}
@@ -97,8 +98,8 @@ asks_the_same (Err e) a b same is = tt
 
 -- what the held line asks for is what the text asks for
 pub asks_as_held : (line : Option LineEvent) (result : Result Request AllocError) (reader : ReaderState) (text : List ℕ) → HoldsFirst reader text
-    → (IsSome line ↔ IsTrue reader.held) → ((bytes : List ℕ) → StandsFor reader bytes → Tells line bytes)
+    → is_some line ≡ reader.held → ((bytes : List ℕ) → StandsFor reader bytes → Tells line bytes)
     → IfSome line (λ event. IfOk result (λ found. seen found ≡ asked_by_line (line_seen event))) → IfOk result (λ found. seen found ≡ asked text)
-asks_as_held None result reader text first there tells asks = absurd (false≢true (there.1 first.held))
+asks_as_held None result reader text first there tells asks = absurd (false≢true (there ∙ first.held))
 asks_as_held (Some event) result reader text first there tells asks =
     asks_the_same result (asked_by_line (line_seen event)) (asked text) (sym (asked_first reader text event first (tells first.bytes first.stands))) asks

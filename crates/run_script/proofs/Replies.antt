@@ -1,6 +1,8 @@
 -- The lines of a reply, written one by one.
 use Rattle.std.proofs.Common.{◌≡◌, ◌≢◌, ℕ, ◌+◌, ◌-◌, ◌<◌, ◌≤◌, false, eqb, List, [], ◌∷◌, ◌++◌, take, drop, get_or, length, refl, sym, ap, ◌∙◌, subst, arith, append-nil, append_assoc}
-use Rattle.std.specs.Prelude.{Result, Ok, Err, IfOk, if◌then◌else◌, flat_map, codes, encode_utf8_all}
+use Rattle.play_types.specs.declared.reply.Reply.{Reply}
+use Rattle.history_model.specs.Asked.{asked_reply}
+use Rattle.std.specs.Prelude.{Option, Some, None, Result, Ok, Err, IfOk, if◌then◌else◌, flat_map, codes, encode_utf8_all}
 use Rattle.std.specs.declared.alloc.AllocError.{AllocError}
 use Rattle.std.specs.Global.{Vec}
 use Rattle.std.specs.Fmt.{digits}
@@ -15,14 +17,14 @@ use Rattle.play_outside.specs.Sink.{Fails}
 use Rattle.play_outside.proofs.Taking.{after_taking-nil}
 use Rattle.play_outside.proofs.Sending.{taken_more, Fails-within}
 use Rattle.history_model.specs.ScriptInput.{ended_lines, unended}
-use Rattle.history_model.specs.ScriptOutput.{reply_line, tagged_lines}
+use Rattle.history_model.specs.ScriptOutput.{reply_line, tagged_lines, reply_output}
 use Rattle.history_model.specs.Asked as model
 use Rattle.history_model.specs.ReplyText.{ended, reply_bytes, code_line}
 use Rattle.play_types.specs.declared.reply.Name.TheVariants as name
 use Rattle.play_types.specs.declared.reply.Reply.TheVariants as reply
 use Rattle.run_script.specs.declared.request.Request.{Request}
 use Rattle.run_script.specs.Request.{seen}
-use Rattle.run_script.specs.Stage.{bytes_of}
+use Rattle.run_script.specs.Stage.{bytes_of, bytes_of_reply}
 use Rattle.history_model.proofs.Parts.{ended_lines-feed, unended-feed, ended_lines-other, unended-other, ended_lines-more}
 
 -- the bytes before a place are written up to their last line end, and the next line begins after it
@@ -140,3 +142,15 @@ pub replies_with : {E : Type 0} (result : Result (Vec ℕ) E) (request : Request
     → IfOk result (λ bytes. (width height : ℕ) → bytes.items ≡ bytes_of width height (seen request))
 replies_with (Ok bytes) request text is asks = λ width height. is ∙ sym (asks width height)
 replies_with (Err e) request text is asks = tt
+
+-- what is written for a reply is its lines, each after the tag
+pub reply_lines_of : (width height : ℕ) (tag : Tag) (reply : Option Reply) → tagged_lines tag (bytes_of_reply width height reply) ≡ reply_output width height tag reply
+unfolding tagged_lines ended_lines
+reply_lines_of width height tag None = refl
+reply_lines_of width height tag (Some reply) = refl
+
+-- what was written for a request is what is written for the text that it is read from
+pub request_written : (width height : ℕ) (tag : Tag) (request : Request) (what : model.Asked) (bytes : List ℕ) → bytes ≡ bytes_of width height (seen request) → seen request ≡ what
+    → tagged_lines tag bytes ≡ reply_output width height tag (asked_reply what)
+request_written width height tag request what bytes are is =
+    ap (tagged_lines tag) (are ∙ ap (bytes_of width height) is) ∙ reply_lines_of width height tag (asked_reply what)

@@ -7,6 +7,10 @@ mod line;
 mod numbers;
 mod reply;
 mod request;
+mod run;
+mod script;
 mod stage;
 mod words;
+
+pub use run::run_main;
 

@@ -6,6 +6,9 @@ ghost use Rattle.amcp_text.specs.Reader as reader;
 ghost use Rattle.history_model.specs.ColourHistory.{pixel_of_colour};
 ghost use Rattle.history_model.specs.FrameText.{frame_bytes};
 ghost use Rattle.history_model.specs.Script.{meaning};
+ghost use Rattle.std.specs.Option.{option_or};
+ghost use Rattle.history_model.specs.Asked.{asked_colour};
+ghost use Rattle.run_script.specs.Request.{seen};
 ghost use Rattle.run_script.specs.Stage.{StandsFor, Takes, Ticks, Answers, colour_frame};
 
 use crate::ending::Halt;
@@ -101,7 +104,8 @@ impl Stage {
         text: &[u8],
         out: &mut K,
     ) -> Result<(), Halt>
-        ensures { reader.StandsFor self.old.reader [] → Answers result tag text.now self.old self.new (K.state out.old) (K.state out.new) }
+        ensures ticks { self.new.ticks ≡ self.old.ticks }
+        ensures answers { reader.StandsFor self.old.reader [] → Answers result tag text.now self.old self.new (K.state out.old) (K.state out.new) }
     {
         let request = match request_of(alloc, &mut self.reader, text) {
             Ok(request) => request,
@@ -115,9 +119,17 @@ impl Stage {
             Sent::All => {}
             Sent::Failed => return Err(Halt::Write),
         }
-        if let Request::Plays(colour) = request {
-            self.colour = Some(colour);
-        }
+        self.colour = colour_after(&request, self.colour);
         Ok(())
+    }
+}
+
+/// The colour that is shown after a request, and this one before it.
+fn colour_after(request: &Request, colour: Option<u32>) -> Option<u32>
+    ensures { result ≡ option_or (asked_colour (seen request.now)) colour }
+{
+    match request {
+        Request::Plays(started) => Some(*started),
+        _ => colour,
     }
 }

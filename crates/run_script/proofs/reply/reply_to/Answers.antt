@@ -12,7 +12,7 @@ returns-in-Unknown c =
     replies_with c.two_lines.result c.args.request.now _ c.two_lines.ensures
     (λ width height. ap (λ request. bytes_of width height (seen request)) c.in-Unknown.is ∙ unknown_bytes width height c.in-Unknown.line
     ∙ ap (λ text. ended (codes "400 ERROR") ++ ended text)
-    (ap encode_utf8_all (sym c.as_str.ensures) ∙ sym (bytes_of_chars c.as_str.result.now c.as_str.utf8) ∙ sym c.as_bytes.ensures.value))
+    (sym (bytes_of_chars c.as_str.result.now c.in-Unknown.line c.as_str.utf8 c.as_str.ensures) ∙ sym c.as_bytes.ensures.value))
 
 pub returns-in-OtherChannel : goal.returns-in-OtherChannel
 returns-in-OtherChannel c =

@@ -14,3 +14,6 @@ mod status;
 mod value;
 
 pub use reply::send_reply;
+
+#[cfg(test)]
+mod tests;

@@ -1,10 +1,10 @@
 -- A whole run over an input that tells what it has.
-use Rattle.std.proofs.Common.{◌≡◌, ◌⊎◌, inl, inr, ℕ, ◌+◌, ◌<◌, ◌≤◌, Bool, true, false, List, [], ◌∷◌, ◌++◌, drop, take, length, refl, sym, ap, ◌∙◌, subst, arith, append-nil, append_assoc, length-append}
+use Rattle.std.proofs.Common.{◌≡◌, ◌⊎◌, inl, inr, ℕ, ◌+◌, ◌<◌, ◌≤◌, Bool, true, false, List, [], ◌∷◌, ◌++◌, drop, length, refl, sym, ap, ◌∙◌, subst, arith, append-nil, append_assoc, length-append}
 use Rattle.std.specs.Prelude.{Option, Some, None, IfSome}
 use Rattle.std.specs.List.{list_all}
 use Rattle.std.specs.Str.Lines.{lines}
 use Rattle.std.proofs.lemmas.Bool.{false≢true}
-use Rattle.std.proofs.lemmas.List.{take_all, take-append-drop}
+use Rattle.std.proofs.lemmas.List.{take-append-drop}
 use Rattle.play_outside.specs.Faults.{Rose}
 use Rattle.play_outside.specs.SourceState.{SourceState}
 use Rattle.play_outside.specs.Source.{Gives, IsAtEnd}
@@ -16,7 +16,7 @@ use Rattle.play_outside.proofs.Counting.{Rose-then, Rose-le}
 use Rattle.play_outside.proofs.Taking.{after_taking-nil}
 use Rattle.history_model.specs.Script.{NoForm, goes_on}
 use Rattle.history_model.specs.Script as script
-use Rattle.history_model.specs.ScriptInput.{ended_lines, received}
+use Rattle.history_model.specs.ScriptInput.{ended_lines}
 use Rattle.history_model.specs.ScriptOutput.{script_output}
 use Rattle.history_model.proofs.Parts.{ended_lines-more}
 use Rattle.run_script.specs.declared.ending.Ending.{Ending}
@@ -45,9 +45,11 @@ front_of read rest front ended true input parts at_end part =
     ([], parts ∙ ap (λ (l : List ℕ). read ++ l) (at_end whole.0) ∙ ap (λ (l : List ℕ). l ++ []) (sym whole.1), λ _. refl)
 front_of read rest front ended false input parts at_end part =
     let all : read ≡ front ++ (part.rest ++ drop limit read) =
-    sym (take-append-drop limit read) ∙ ap (λ (l : List ℕ). l ++ drop limit read) part.parts ∙ append_assoc front part.rest (drop limit read) in
-    ((part.rest ++ drop limit read) ++ rest,
-    parts ∙ ap (λ (l : List ℕ). l ++ rest) all ∙ append_assoc front (part.rest ++ drop limit read) rest, λ e. absurd (false≢true e))
+    sym (take-append-drop limit read) ∙ ap (λ (l : List ℕ). l ++ drop limit read) part.parts ∙ append_assoc front part.rest (drop limit read) in (
+      (part.rest ++ drop limit read) ++ rest,
+      parts ∙ ap (λ (l : List ℕ). l ++ rest) all ∙ append_assoc front (part.rest ++ drop limit read) rest,
+      λ e. absurd (false≢true e),
+    )
 
 -- the line at which a run stops stands among all lines of the input
 found_at : (width height number : ℕ) (what : script.ScriptLine) (front more : List ℕ) (at_end : Bool) (input : List ℕ) (first state : SinkState) → input ≡ front ++ more → (at_end ≡ true → more ≡ [])

@@ -1,16 +1,15 @@
 -- A text and an end of a line that are fed to a reader.
-use Rattle.std.proofs.Common.{◌≡◌, ◌≢◌, ℕ, ◌+◌, ◌<◌, ◌≤◌, min, Bool, true, false, cond, not, ◌||◌, eqb, suc, List, [], ◌∷◌, ◌++◌, take, drop, length, refl, sym, ap, ◌∙◌, subst, arith, append-nil, append_assoc}
+use Rattle.std.proofs.Common.{◌≡◌, ◌≢◌, ℕ, ◌+◌, ◌<◌, Bool, true, false, cond, not, ◌||◌, eqb, suc, List, [], ◌∷◌, ◌++◌, take, drop, length, refl, sym, ap, ◌∙◌, subst, arith, append-nil, append_assoc}
 use Rattle.std.specs.List.{list_any, position_or_len}
-use Rattle.std.specs.Prelude.{Option, Some, None, Result, Ok, Err, IfOk, IfSome, IsSome, IsTrue, ◌↔◌}
+use Rattle.std.specs.Prelude.{Option, Some, None, Result, Ok, Err, IfOk, IfSome}
 use Rattle.std.specs.declared.alloc.AllocError.{AllocError}
 use Rattle.std.specs.Option.{is_some}
 use Rattle.std.specs.Str.{chars}
 use Rattle.std.proofs.lemmas.Str.{chars-nil}
 use Rattle.std.proofs.lemmas.Bool.{false≢true}
-use Rattle.std.proofs.lemmas.Bool.Decides.{nat_tests}
 use Rattle.std.proofs.lemmas.List.{take_all, take-append-drop}
 use Rattle.std.proofs.lemmas.List.Folds.{list_any-append}
-use Rattle.amcp_text.specs.Lines.{Line, is_line_end, lines_of}
+use Rattle.amcp_text.specs.Lines.{is_line_end, lines_of}
 use Rattle.amcp_text.specs.Reader.{StandsFor, Tells, taken_len, line_seen}
 use Rattle.amcp_text.specs.ReaderState.{ReaderState}
 use Rattle.amcp_text.specs.declared.line_reader.LineEvent.{LineEvent}
@@ -46,7 +45,7 @@ end_within : (text : List ℕ) → position_or_len is_line_end text < length tex
 end_within [] inside = absurd (omega arith)
 end_within (c ∷ cs) inside =
     end_by (eqb c 10) c (position_or_len is_line_end cs) cs refl
-        (λ e. end_within cs (inside_by (eqb c 10) (position_or_len is_line_end cs) (length cs) inside e))
+    (λ e. end_within cs (inside_by (eqb c 10) (position_or_len is_line_end cs) (length cs) inside e))
 
 -- all of the text was taken, and then the end of the line where that was wanted
 fed_all_by : (held : Bool) (first second : ReaderState) (text : List ℕ) (more : ℕ) → first.held ≡ held → more ≡ taken_len held line_end
@@ -65,7 +64,7 @@ pub fed_all : (first second : ReaderState) (text : List ℕ) (taken more : ℕ) 
 fed_all first second text taken more whole count stands stands' =
     let all : take taken text ≡ text = take_all taken text (omega arith) in
     fed_all_by first.held first second text more refl count
-        (subst (λ l. StandsFor first l) all stands) (subst (λ l. StandsFor second (l ++ take more line_end)) all stands')
+    (subst (λ l. StandsFor first l) all stands) (subst (λ l. StandsFor second (l ++ take more line_end)) all stands')
 
 -- an end of a line stands in the text
 pub fed_front : (reader first : ReaderState) (text : List ℕ) (taken : ℕ) → StandsFor reader [] → taken ≡ taken_len reader.held text → taken ≢ length text

@@ -1,22 +1,21 @@
 -- The frames of ticks in a row.
-use Rattle.std.proofs.Common.{◌≡◌, ℕ, zero, suc, ◌+◌, ◌-◌, ◌<◌, ◌≤◌, List, [], ◌∷◌, ◌++◌, refl, sym, ap, ◌∙◌, subst, arith, append-nil, append_assoc, replicate}
-use Rattle.std.specs.Prelude.{Option, Err}
+use Rattle.std.proofs.Common.{◌≡◌, ℕ, zero, suc, ◌+◌, ◌-◌, ◌<◌, List, [], ◌++◌, refl, sym, ap, ◌∙◌, arith, append-nil, append_assoc}
+use Rattle.std.specs.Prelude.{Option}
 use Rattle.play_outside.specs.SinkState.{SinkState, after_taking}
 use Rattle.play_outside.specs.Sink.{Fails}
 use Rattle.play_outside.proofs.Taking.{after_taking-nil}
 use Rattle.play_outside.proofs.Sending.{taken_more, Fails-within}
 use Rattle.history_model.specs.ColourHistory.{pixel_of_colour}
 use Rattle.history_model.specs.FrameText.{frame_bytes}
-use Rattle.run_script.specs.declared.ending.Halt.TheVariants as halt
 use Rattle.run_script.specs.declared.stage.Stage.{Stage}
-use Rattle.run_script.specs.Stage.{colour_frame, colour_frames, Ticks}
+use Rattle.run_script.specs.Stage.{colour_frame, colour_frames}
 
 -- the frames of the ticks so far were written, and the stage is else as before
 pub record SoFar (old stage : Stage) (turn : ℕ) (first state : SinkState) : Type 0 where
   pub width : stage.width ≡ old.width
   pub height : stage.height ≡ old.height
   pub colour : stage.colour ≡ old.colour
-  pub reader : stage.reader ≡ old.reader
+  pub clients : stage.clients ≡ old.clients
   pub ticks : stage.ticks ≡ old.ticks + turn
   pub frame : stage.frame.items ≡ frame_bytes old.width old.height (λ x y. pixel_of_colour old.colour)
   pub written : state ≡ after_taking first (colour_frames old.width old.height old.ticks old.colour turn)
@@ -49,11 +48,12 @@ unfolding colour_frames
 colour_frames-more width height tick colour turn zero = ([], ap (colour_frames width height tick colour) (let same : turn + 0 ≡ turn = omega arith in same) ∙ sym (append-nil (colour_frames width height tick colour turn)))
 colour_frames-more width height tick colour turn (suc more) =
     let before = colour_frames-more width height tick colour turn more in
-    let last = colour_frame width height (tick + suc (turn + more)) colour in
-    (before.0 ++ last,
-    ap (colour_frames width height tick colour) (let same : turn + suc more ≡ suc (turn + more) = omega arith in same)
-    ∙ ap (λ (text : List ℕ). text ++ last) before.1
-    ∙ append_assoc (colour_frames width height tick colour turn) before.0 last)
+    let last = colour_frame width height (tick + suc (turn + more)) colour in (
+      before.0 ++ last,
+      ap (colour_frames width height tick colour) (let same : turn + suc more ≡ suc (turn + more) = omega arith in same)
+          ∙ ap (λ (text : List ℕ). text ++ last) before.1
+          ∙ append_assoc (colour_frames width height tick colour turn) before.0 last,
+    )
 
 -- a write of a frame failed
 pub one_failed : (width height tick : ℕ) (colour : Option ℕ) (turn count : ℕ) (first state after : SinkState) → turn < count

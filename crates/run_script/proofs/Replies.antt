@@ -1,12 +1,8 @@
 -- The lines of a reply, written one by one.
-use Rattle.std.proofs.Common.{◌≡◌, ◌≢◌, ℕ, ◌+◌, ◌-◌, ◌<◌, ◌≤◌, false, eqb, List, [], ◌∷◌, ◌++◌, take, drop, get_or, length, refl, sym, ap, ◌∙◌, subst, arith, append-nil, append_assoc}
+use Rattle.std.proofs.Common.{◌≡◌, ◌≢◌, ℕ, ◌+◌, ◌-◌, ◌<◌, ◌≤◌, false, eqb, List, [], ◌∷◌, ◌++◌, take, drop, get_or, length, refl, sym, ap, ap₂, ◌∙◌, arith, append-nil}
 use Rattle.play_types.specs.declared.reply.Reply.{Reply}
-use Rattle.history_model.specs.Asked.{asked_reply}
-use Rattle.std.specs.Prelude.{Option, Some, None, Result, Ok, Err, IfOk, if◌then◌else◌, flat_map, codes, encode_utf8_all}
-use Rattle.std.specs.declared.alloc.AllocError.{AllocError}
-use Rattle.std.specs.Global.{Vec}
-use Rattle.std.specs.Fmt.{digits}
-use Rattle.std.specs.Result.{is_ok}
+use Rattle.history_model.specs.Asked.{Asked, asked_reply}
+use Rattle.std.specs.Prelude.{Option, Some, None, flat_map}
 use Rattle.std.specs.Str.Lines.{strip_carriage_return}
 use Rattle.std.proofs.lemmas.Bool.Decides.{nat_tests}
 use Rattle.std.proofs.lemmas.Grind.{flat_map-append}
@@ -17,14 +13,9 @@ use Rattle.play_outside.specs.Sink.{Fails}
 use Rattle.play_outside.proofs.Taking.{after_taking-nil}
 use Rattle.play_outside.proofs.Sending.{taken_more, Fails-within}
 use Rattle.history_model.specs.ScriptInput.{ended_lines, unended}
-use Rattle.history_model.specs.ScriptOutput.{reply_line, tagged_lines, reply_output}
-use Rattle.history_model.specs.Asked as model
-use Rattle.history_model.specs.ReplyText.{ended, reply_bytes, code_line}
-use Rattle.play_types.specs.declared.reply.Name.TheVariants as name
-use Rattle.play_types.specs.declared.reply.Reply.TheVariants as reply
-use Rattle.run_script.specs.declared.request.Request.{Request}
-use Rattle.run_script.specs.Request.{seen}
-use Rattle.run_script.specs.Stage.{bytes_of, bytes_of_reply}
+use Rattle.history_model.specs.ScriptOutput.{plain_config, reply_line, tagged_lines, reply_output}
+use Rattle.run_script.specs.declared.clients.Clients.{Clients}
+use Rattle.run_script.specs.Stage.{bytes_of_reply, IsReady}
 use Rattle.history_model.proofs.Parts.{ended_lines-feed, unended-feed, ended_lines-other, unended-other, ended_lines-more}
 
 -- the bytes before a place are written up to their last line end, and the next line begins after it
@@ -58,9 +49,10 @@ tagged_lines-other tag bytes byte other = ap (flat_map (reply_line tag)) (ended_
 tagged_lines-more : (tag : Tag) (bytes rest : List ℕ) → (more : List ℕ) × (tagged_lines tag (bytes ++ rest) ≡ tagged_lines tag bytes ++ more)
 unfolding tagged_lines
 tagged_lines-more tag bytes rest =
-    let lines = ended_lines-more bytes rest in
-    (flat_map (reply_line tag) lines.0,
-    ap (flat_map (reply_line tag)) lines.1 ∙ flat_map-append (reply_line tag) (ended_lines bytes) lines.0)
+    let lines = ended_lines-more bytes rest in (
+      flat_map (reply_line tag) lines.0,
+      ap (flat_map (reply_line tag)) lines.1 ∙ flat_map-append (reply_line tag) (ended_lines bytes) lines.0,
+    )
 
 not_feed : (byte : ℕ) → byte ≢ 10 → eqb byte 10 ≡ false
 not_feed byte other = grind (arith, nat_tests)
@@ -117,40 +109,16 @@ line_failed tag bytes at start first state after inside feed so_far fails =
     ∙ ap (λ (text : List ℕ). text ++ more.0) (line_front tag bytes at start first state inside feed so_far))
     so_far.written fails
 
--- two texts that were added one after another
-pub both_added : (result : Result (Unit {0}) AllocError) (first second old middle new : List ℕ) → middle ≡ old ++ first → new ≡ (if is_ok result then middle ++ second else middle) → IfOk result (λ done. new ≡ old ++ (first ++ second))
-both_added (Ok done) first second old middle new before after =
-    after ∙ ap (λ (text : List ℕ). text ++ second) before ∙ append_assoc old first second
-both_added (Err e) first second old middle new before after = tt
-
--- the bytes of the replies that a run gives
-pub unknown_bytes : (width height : ℕ) (line : List ℕ) → bytes_of width height (model.Answer (reply.Unknown line)) ≡ ended (codes "400 ERROR") ++ ended (encode_utf8_all line)
-unfolding reply_bytes
-unknown_bytes width height line = ap (λ (text : List ℕ). ended (codes "400 ERROR") ++ text) (append-nil (ended (encode_utf8_all line)))
-
-pub other_bytes : (width height : ℕ) → bytes_of width height (model.Answer (reply.Refused 401 name.Play)) ≡ ended (codes "401 PLAY ERROR")
-unfolding reply_bytes code_line digits
-other_bytes width height = append-nil (ended (codes "401 PLAY ERROR"))
-
-pub play_bytes : (width height colour : ℕ) → bytes_of width height (model.Plays colour) ≡ ended (codes "202 PLAY OK")
-unfolding reply_bytes code_line digits
-play_bytes width height colour = append-nil (ended (codes "202 PLAY OK"))
-
--- a reply whose bytes are those of what was asked for
-pub replies_with : {E : Type 0} (result : Result (Vec ℕ) E) (request : Request) (text : List ℕ) → IfOk result (λ bytes. bytes.items ≡ text)
-    → ((width height : ℕ) → bytes_of width height (seen request) ≡ text)
-    → IfOk result (λ bytes. (width height : ℕ) → bytes.items ≡ bytes_of width height (seen request))
-replies_with (Ok bytes) request text is asks = λ width height. is ∙ sym (asks width height)
-replies_with (Err e) request text is asks = tt
-
 -- what is written for a reply is its lines, each after the tag
-pub reply_lines_of : (width height : ℕ) (tag : Tag) (reply : Option Reply) → tagged_lines tag (bytes_of_reply width height reply) ≡ reply_output width height tag reply
+pub reply_lines_of : (width height : ℕ) (tag : Tag) (reply : Option Reply) → tagged_lines tag (bytes_of_reply (plain_config width height) [] reply) ≡ reply_output width height tag reply
 unfolding tagged_lines ended_lines
 reply_lines_of width height tag None = refl
 reply_lines_of width height tag (Some reply) = refl
 
 -- what was written for a request is what is written for the text that it is read from
-pub request_written : (width height : ℕ) (tag : Tag) (request : Request) (what : model.Asked) (bytes : List ℕ) → bytes ≡ bytes_of width height (seen request) → seen request ≡ what
-    → tagged_lines tag bytes ≡ reply_output width height tag (asked_reply what)
-request_written width height tag request what bytes are is =
-    ap (tagged_lines tag) (are ∙ ap (bytes_of width height) is) ∙ reply_lines_of width height tag (asked_reply what)
+pub request_written : (width height : ℕ) (tag : Tag) (clients : Clients) (what asks : Asked) (bytes : List ℕ) → IsReady width height clients → bytes ≡ bytes_of_reply clients.config clients.media (asked_reply what) → what ≡ asks
+    → tagged_lines tag bytes ≡ reply_output width height tag (asked_reply asks)
+request_written width height tag clients what asks bytes ready are is =
+    ap (tagged_lines tag) (are ∙ ap₂ (λ config media. bytes_of_reply config media (asked_reply what)) ready.config ready.media
+    ∙ ap (λ w. bytes_of_reply (plain_config width height) [] (asked_reply w)) is)
+    ∙ reply_lines_of width height tag (asked_reply asks)

@@ -1,6 +1,5 @@
 -- A whole run over an input.
 use Rattle.std.specs.Prelude.{◌≡◌, ℕ, ◌+◌, ◌^◌, ◌<◌, ◌≤◌, Bool, true, false, Result, Ok, Err, List, ◌++◌, length, take}
-use Rattle.std.specs.Str.Lines.{lines}
 use Rattle.play_outside.specs.Faults.{Rose}
 use Rattle.play_outside.specs.SourceState.{SourceState}
 use Rattle.play_outside.specs.Source.{Gives, IsAtEnd}

@@ -8,7 +8,10 @@ use Rattle.play_types.specs.declared.reply.Reply.{Reply}
 use Rattle.play_outside.specs.SinkState.{SinkState, after_taking}
 use Rattle.play_outside.specs.Sink.{Fails}
 use Rattle.std.specs.Option.{option_or}
-use Rattle.history_model.specs.Asked.{Asked, asked, asked_colour, asked_reply}
+use Rattle.play_types.specs.Config.{ConfigView}
+use Rattle.play_types.specs.Media.{MediaNameView}
+use Rattle.run_script.specs.declared.clients.Clients.{Clients}
+use Rattle.history_model.specs.Asked.{asked, asked_colour, asked_reply}
 use Rattle.history_model.specs.ColourHistory.{IsColourHistory, last_colour, pixel_of_colour}
 use Rattle.history_model.specs.FrameText.{frame_bytes, frame_lines}
 use Rattle.history_model.specs.ReplyText.{reply_bytes}
@@ -19,21 +22,23 @@ use Rattle.run_script.specs.declared.ending.Halt.{Halt}
 use Rattle.run_script.specs.declared.ending.Halt.TheVariants as halt
 use Rattle.run_script.specs.declared.stage.Stage.{Stage}
 
--- the events only play colours and tick, the stage stands where they put it, and no line is being read
+-- no line is being read, and replies speak of one channel of this width and height and of no clips
+pub record IsReady (width height : ℕ) (clients : Clients) : Type 0 where
+  pub reader : reader.StandsFor clients.reader []
+  pub config : clients.config ≡ plain_config width height
+  pub media : clients.media ≡ []
+
+-- the bytes of a reply, where there is one
+abbrev pub bytes_of_reply : ConfigView → List MediaNameView → Option Reply → List ℕ
+bytes_of_reply config media None = []
+bytes_of_reply config media (Some reply) = reply_bytes config media reply
+
+-- the events only play colours and tick, the stage stands where they put it, and it is ready for a line
 pub record StandsFor (stage : Stage) (events : List Event) : Type 0 where
   pub colours : IsColourHistory events
   pub colour : stage.colour ≡ last_colour events
   pub ticks : stage.ticks ≡ ticks events
-  pub reader : reader.StandsFor stage.reader []
-
--- the bytes of a reply on a channel of this width and height, where there is one
-abbrev pub bytes_of_reply : ℕ → ℕ → Option Reply → List ℕ
-bytes_of_reply width height None = []
-bytes_of_reply width height (Some reply) = reply_bytes (plain_config width height) [] reply
-
--- the bytes of the reply to what is asked for
-abbrev pub bytes_of : ℕ → ℕ → Asked → List ℕ
-bytes_of width height what = bytes_of_reply width height (asked_reply what)
+  pub clients : IsReady stage.width stage.height stage.clients
 
 -- the text was written, or memory ran out before it, or a write of it failed
 abbrev pub Writes : Result (Unit {0}) Halt → List ℕ → SinkState → SinkState → Type 0
@@ -63,7 +68,7 @@ pub record SameSize (old new : Stage) : Type 0 where
 pub record Ticks (result : Result (Unit {0}) Halt) (count : ℕ) (old new : Stage) (before after : SinkState) : Type 0 where
   pub size : SameSize old new
   pub colour : new.colour ≡ old.colour
-  pub reader : new.reader ≡ old.reader
+  pub clients : new.clients ≡ old.clients
   pub ticks : IfOk result (λ done. new.ticks ≡ old.ticks + count)
   pub grows : new.ticks ≤ old.ticks + count
   pub written : Writes result (colour_frames old.width old.height old.ticks old.colour count) before after
@@ -72,7 +77,7 @@ pub record Ticks (result : Result (Unit {0}) Halt) (count : ℕ) (old new : Stag
 pub record Answers (result : Result (Unit {0}) Halt) (tag : Tag) (text : List ℕ) (old new : Stage) (before after : SinkState) : Type 0 where
   pub size : SameSize old new
   pub ticks : new.ticks ≡ old.ticks
-  pub reader : reader.StandsFor new.reader []
+  pub clients : IsReady old.width old.height new.clients
   pub colour : IfOk result (λ done. new.colour ≡ option_or (asked_colour (asked text)) old.colour)
   pub written : Writes result (reply_output old.width old.height tag (asked_reply (asked text))) before after
 

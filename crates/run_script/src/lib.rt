@@ -1,6 +1,8 @@
 //! The whole of `playrun`: a script of interleaved connections and ticks in, replies and frames out.
 #![tactic(auto)]
 
+mod answer;
+mod clients;
 mod ending;
 mod frame;
 mod line;
@@ -13,4 +15,3 @@ mod stage;
 mod words;
 
 pub use run::run_main;
-

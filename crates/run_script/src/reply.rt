@@ -1,54 +1,11 @@
 //! Replies, each line after the tag of its connection.
-ghost use Rattle.std.specs.Prelude.{◌≡◌, ◌++◌, ◌∷◌, ℕ, List, [], IfOk, string_bytes};
+ghost use Rattle.std.specs.Prelude.{◌≡◌};
 ghost use Rattle.std.specs.Str.Lines.{strip_carriage_return};
 ghost use Rattle.play_outside.specs.Sink.{Sends};
-ghost use Rattle.history_model.specs.ReplyText.{ended};
 ghost use Rattle.history_model.specs.ScriptOutput.{tag_text, reply_line, tagged_lines};
-ghost use Rattle.run_script.specs.Request.{seen};
-ghost use Rattle.run_script.specs.Stage.{bytes_of};
 
-use crate::request::Request;
 use play_outside::{Sent, Sink, send, send_number};
 use play_types::Tag;
-use std::alloc::{AllocError, Global};
-
-/// The bytes of the reply to a request: none where nothing was asked for.
-pub fn reply_to(alloc: Global, request: &Request) -> Result<Vec<u8>, AllocError>
-    ensures { IfOk result (λ bytes. (width height : ℕ) → bytes.items ≡ bytes_of width height (seen request.now)) }
-{
-    match request {
-        Request::Silence => Ok(Vec::new(alloc)),
-        Request::Unknown(line) => two_lines(alloc, b"400 ERROR", line.as_str().as_bytes()),
-        Request::OtherChannel => one_line(alloc, b"401 PLAY ERROR"),
-        Request::Plays(_) => one_line(alloc, b"202 PLAY OK"),
-    }
-}
-
-/// A reply of one line.
-fn one_line(alloc: Global, line: &[u8]) -> Result<Vec<u8>, AllocError>
-    ensures { IfOk result (λ bytes. bytes.items ≡ ended line.now) }
-{
-    let mut bytes = Vec::new(alloc);
-    add_line(&mut bytes, line)?;
-    Ok(bytes)
-}
-
-/// A reply of two lines.
-fn two_lines(alloc: Global, first: &[u8], second: &[u8]) -> Result<Vec<u8>, AllocError>
-    ensures { IfOk result (λ bytes. bytes.items ≡ ended first.now ++ ended second.now) }
-{
-    let mut bytes = one_line(alloc, first)?;
-    add_line(&mut bytes, second)?;
-    Ok(bytes)
-}
-
-/// Adds a line and its end, CR LF.
-fn add_line(bytes: &mut Vec<u8>, line: &[u8]) -> Result<(), AllocError>
-    ensures { IfOk result (λ _. bytes.new.items ≡ bytes.old.items ++ ended line.now) }
-{
-    bytes.extend_from_slice(line)?;
-    bytes.extend_from_slice(b"\r\n")
-}
 
 /// Writes the lines of a reply, each after the tag.
 pub fn write_reply<K: Sink>(tag: Tag, bytes: &[u8], out: &mut K) -> Sent

@@ -1,5 +1,6 @@
 //! A whole run: the words, the input, the output and the exit status.
 ghost use Rattle.std.specs.Prelude.{◌≡◌, ◌+◌, ◌*◌, ◌<◌, ◌≤◌, ◌^◌, ◌++◌, ◌↔◌, ◌⊎◌, ℕ, List, length, map, string_bytes, IfSome, MatchOption};
+ghost use Rattle.play_types.specs.Geometry.{IsSize};
 ghost use Rattle.play_outside.specs.Faults.{Rose};
 ghost use Rattle.play_outside.specs.SinkState.{SinkState};
 ghost use Rattle.run_script.specs.Script.{HasTaken, IsWritten};
@@ -103,6 +104,7 @@ fn take_piece<K: Sink>(
 
 /// Reads a script to its end and does what its lines say, on one channel of this size.
 pub fn run<I: Source, K: Sink>(alloc: Global, size: Geometry, input: &mut I, out: &mut K) -> Ending
+    requires { IsSize size.width size.height 0 }
     ensures { Runs size.width size.height result (I.state input.old) (I.state input.new) (K.state out.old) (K.state out.new) }
 {
     let mut script = match Script::new(alloc, size.width, size.height) {
@@ -113,7 +115,13 @@ pub fn run<I: Source, K: Sink>(alloc: Global, size: Geometry, input: &mut I, out
     let mut buffer = [0u8; PIECE];
     for _turn in 0..LIMIT + 1 {
         match input.read(&mut buffer) {
-            ReadStep::Got(count) => match take_piece(&mut script, alloc, left, &buffer[..count], out) {
+            ReadStep::Got(count) => match take_piece(
+                &mut script,
+                alloc,
+                left,
+                &buffer[..count],
+                out,
+            ) {
                 Ok(rest) => left = rest,
                 Err(ending) => return ending,
             },

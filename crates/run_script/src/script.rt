@@ -1,13 +1,14 @@
 //! The lines of a script, byte by byte.
 ghost use Rattle.std.specs.Prelude.{◌≡◌, ◌≢◌, ◌+◌, ◌*◌, ◌<◌, ◌≤◌, ◌^◌, ◌∷◌, ◌++◌, ℕ, List, [], length, true, IfOk};
+ghost use Rattle.play_types.specs.Geometry.{IsSize};
 ghost use Rattle.play_outside.specs.SinkState.{SinkState};
 ghost use Rattle.run_script.specs.Run.{Ends, limit};
 ghost use Rattle.run_script.specs.Script.{HasTaken, IsWritten, Goes, GoesOver};
 
+use crate::clients::Clients;
 use crate::ending::{Ending, Halt};
 use crate::reply::without_return;
 use crate::stage::Stage;
-use amcp_text::LineReader;
 use play_outside::Sink;
 use std::alloc::{AllocError, Global};
 
@@ -26,10 +27,11 @@ pub struct Script {
 impl Script {
     /// Nothing was taken yet, on a channel of this width and height.
     pub fn new(alloc: Global, width: u16, height: u16) -> Result<Script, AllocError>
+        requires { IsSize width height 0 }
         ensures small { IfOk result (λ script. (script.stage.ticks ≡ 0) × (script.lines ≡ 0)) }
         ensures taken { IfOk result (λ script. HasTaken width height script []) }
     {
-        let reader = LineReader::new(alloc)?;
+        let clients = Clients::new(alloc, width, height)?;
         Ok(Script {
             waiting: Vec::new(alloc),
             lines: 0,
@@ -39,7 +41,7 @@ impl Script {
                 colour: None,
                 ticks: 0,
                 frame: Vec::new(alloc),
-                reader,
+                clients,
             },
         })
     }

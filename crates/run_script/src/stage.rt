@@ -1,30 +1,30 @@
 //! The stage of the one channel: what is shown, and how many ticks there were.
-ghost use Rattle.std.specs.Prelude.{◌≡◌, ◌+◌, ◌<◌, ◌≤◌, ◌^◌, [], List};
+ghost use Rattle.std.specs.Prelude.{◌≡◌, ◌+◌, ◌<◌, ◌≤◌, ◌^◌, List};
 ghost use Rattle.play_types.specs.declared.event.Event.{Event};
 ghost use Rattle.play_outside.specs.Sink.{Sends};
-ghost use Rattle.amcp_text.specs.Reader as reader;
 ghost use Rattle.history_model.specs.ColourHistory.{pixel_of_colour};
 ghost use Rattle.history_model.specs.FrameText.{frame_bytes};
 ghost use Rattle.history_model.specs.Script.{meaning};
 ghost use Rattle.std.specs.Option.{option_or};
 ghost use Rattle.history_model.specs.Asked.{asked_colour};
 ghost use Rattle.run_script.specs.Request.{seen};
-ghost use Rattle.run_script.specs.Stage.{StandsFor, Takes, Ticks, Answers, colour_frame};
+ghost use Rattle.run_script.specs.Stage.{StandsFor, Takes, Ticks, Answers, IsReady, colour_frame};
 
+use crate::answer::answer_to;
+use crate::clients::Clients;
 use crate::ending::Halt;
 use crate::frame::paint;
 use crate::line::{Line, meaning};
-use crate::reply::{reply_to, write_reply};
+use crate::reply::write_reply;
 use crate::request::{Request, request_of};
-use amcp_text::LineReader;
 use frame_writer::write_hex;
 use pixel_math::Pixel;
 use play_outside::{Sent, Sink};
 use play_types::{Geometry, Tag};
 use std::alloc::Global;
 
-/// The width and height of the channel, the colour on its layer 0, the number of ticks, room for one frame, and the
-/// reader of a connection's line.
+/// The width and height of the channel, the colour on its layer 0, the number of ticks, room for one frame, and what
+/// clients are read and answered with.
 #[derive(Drop)]
 pub struct Stage {
     pub width: u16,
@@ -32,12 +32,17 @@ pub struct Stage {
     pub colour: Option<u32>,
     pub ticks: u64,
     pub frame: Vec<u8>,
-    pub reader: LineReader,
+    pub clients: Clients,
 }
 
 impl Stage {
     /// Does what a line says, its end left out.
-    pub fn take_line<K: Sink>(&mut self, alloc: Global, line: &[u8], out: &mut K) -> Result<(), Halt>
+    pub fn take_line<K: Sink>(
+        &mut self,
+        alloc: Global,
+        line: &[u8],
+        out: &mut K,
+    ) -> Result<(), Halt>
         requires { self.old.ticks < 2 ^ 63 }
         ensures grows { self.new.ticks ≤ self.old.ticks + 100000 }
         ensures taken { (events : List Event) → StandsFor self.old events
@@ -105,13 +110,15 @@ impl Stage {
         out: &mut K,
     ) -> Result<(), Halt>
         ensures ticks { self.new.ticks ≡ self.old.ticks }
-        ensures answers { reader.StandsFor self.old.reader [] → Answers result tag text.now self.old self.new (K.state out.old) (K.state out.new) }
+        ensures answers { IsReady self.old.width self.old.height self.old.clients
+            → Answers result tag text.now self.old self.new (K.state out.old) (K.state out.new) }
     {
-        let request = match request_of(alloc, &mut self.reader, text) {
+        let request = match request_of(alloc, &mut self.clients.reader, text) {
             Ok(request) => request,
             Err(_) => return Err(Halt::Memory),
         };
-        let reply = match reply_to(alloc, &request) {
+        let colour = colour_after(&request, self.colour);
+        let reply = match answer_to(alloc, request, &self.clients.config, &self.clients.media) {
             Ok(reply) => reply,
             Err(_) => return Err(Halt::Memory),
         };
@@ -119,7 +126,7 @@ impl Stage {
             Sent::All => {}
             Sent::Failed => return Err(Halt::Write),
         }
-        self.colour = colour_after(&request, self.colour);
+        self.colour = colour;
         Ok(())
     }
 }

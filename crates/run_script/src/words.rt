@@ -1,5 +1,6 @@
 //! The words of the command line.
-ghost use Rattle.std.specs.Prelude.{◌≡◌, map, option_map, string_bytes};
+ghost use Rattle.std.specs.Prelude.{◌≡◌, map, option_map, string_bytes, IfSome};
+ghost use Rattle.play_types.specs.Geometry.{IsSize};
 ghost use Rattle.run_script.specs.Words.{size_of, geometry};
 
 use crate::numbers::number_within;
@@ -10,7 +11,8 @@ const MOST: u32 = 4096;
 
 /// The size of the frames that `run W H` names, each number from 1 to 4,096.
 pub fn size_of(words: &[String]) -> Option<Geometry>
-    ensures { result ≡ size_of (map string_bytes words.now) }
+    ensures size { result ≡ size_of (map string_bytes words.now) }
+    ensures range { IfSome result (λ size. IsSize size.width size.height 0) }
 {
     if words.len() != 3 || words[0].as_str() != "run" {
         return None;

@@ -1,5 +1,6 @@
-use Rattle.std.proofs.Common.{refl}
-use Rattle.run_script.proofs.Progress.{nothing_read, none_read, piece_ends}
+use Rattle.std.proofs.Common.{◌≡◌, take, length, refl, arith, rules}
+use Rattle.std.proofs.lemmas.List.{length-take-le}
+use Rattle.run_script.proofs.Progress.{nothing_read, none_read, piece_read, piece_ends}
 use Rattle.run_script.proofs.run.run.Goals as goal
 
 pub loop-turn-init : goal.loop-turn-init
@@ -16,3 +17,17 @@ returns-in-Err-take_piece g c =
     let before = c.loop-turn.invariant.progress in
     piece_ends _ _ _ _ _ c.take_piece.new.script _ _ _ _ _ _ _ _ before c.in-Got.ensures.2
     (c.in-Err-take_piece.ensures.taken _ _ before.read _ before.taken before.written before.allowed)
+
+pub loop-turn-preserved : goal.loop-turn-preserved
+loop-turn-preserved g c =
+    let before = c.loop-turn.invariant.progress in
+    let count = c.in-Got.count in
+    let piece = take count c.read.new.buf in
+    let got = c.in-Got.ensures in
+    let size : length piece ≡ count = length-take-le count c.read.new.buf got.1 in
+    record {
+      buffer = search rules;
+      progress = piece_read _ _ _ _ _ _ c.take_piece.new.script piece _ _ _ _ _ _ before
+          (omega (arith, size, got.0)) got.2 c.in-Ok-take_piece.ensures.ticks c.in-Ok-take_piece.ensures.lines
+          (c.in-Ok-take_piece.ensures.taken _ _ before.read _ before.taken before.written before.allowed);
+    }

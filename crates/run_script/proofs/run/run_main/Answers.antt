@@ -21,7 +21,7 @@ returns-in-Some-clause-finished g c = λ good.
     } in
     subst
     (λ (o : _). IfSome o (λ (size : Geometry). IsPlayed size.width size.height source source' sink sink'))
-    c.in-Some.ensures
+    c.in-Some.ensures.size
     (is_played c.in-Some.size.width c.in-Some.size.height c.status.result source source' sink sink' run good)
 
 pub returns-in-Some-clause-complete : goal.returns-in-Some-clause-complete
@@ -39,5 +39,5 @@ returns-in-Some-clause-complete g c =
     } in
     subst
     (λ (o : _). IfSome o (λ (size : Geometry). IsValid source → (Rose source.faults source'.faults → ⊥) → (Rose sink.faults sink'.faults → ⊥) → (c.status.result ≡ 0) ⊎ (c.status.result ≡ 5)))
-    c.in-Some.ensures
+    c.in-Some.ensures.size
     (λ valid read_well wrote_well. completes_run c.in-Some.size.width c.in-Some.size.height c.status.result source source' sink sink' run valid read_well wrote_well)

@@ -8,4 +8,4 @@ pub returns-in-Ticks-clause-taken : goal.returns-in-Ticks-clause-taken
 returns-in-Ticks-clause-taken g c = λ events stands. ticks_taken _ _ _ _ _ _ _ _ c.in-Ticks.ensures stands c.tick.ensures
 
 pub returns-in-Said-clause-taken : goal.returns-in-Said-clause-taken
-returns-in-Said-clause-taken g c = λ events stands. said_taken _ _ _ _ _ _ _ _ _ c.in-Said.ensures stands (c.answer.ensures.answers stands.reader)
+returns-in-Said-clause-taken g c = λ events stands. said_taken _ _ _ _ _ _ _ _ _ c.in-Said.ensures stands (c.answer.ensures.answers stands.clients)

@@ -1,4 +1,4 @@
-use Rattle.std.proofs.Common.{◌≡◌, ◌+◌, ◌∙◌, refl, ap, sym, subst, arith, rules}
+use Rattle.std.proofs.Common.{◌∙◌, refl, ap, subst, arith}
 use Rattle.play_outside.specs.SinkState.{after_taking}
 use Rattle.play_outside.specs.Sink.{Fails}
 use Rattle.history_model.specs.FrameText.{frame_bytes}
@@ -10,7 +10,7 @@ loop-turn-init g c = record {
   width = refl;
   height = refl;
   colour = refl;
-  reader = refl;
+  clients = refl;
   ticks = omega arith;
   frame = c.in-Ok.ensures ∙ ap (λ p. frame_bytes c.args.self.now.width c.args.self.now.height (λ x y. p)) c.pixel-pixel.ensures;
   written = none_written _ _ _ _ _;
@@ -23,7 +23,7 @@ returns-in-Failed g c =
     record {
       size = record { width = so_far.width; height = so_far.height };
       colour = so_far.colour;
-      reader = so_far.reader;
+      clients = so_far.clients;
       ticks = tt;
       grows = omega (arith, so_far.ticks, c.loop-turn-test.true);
       written = one_failed old.width old.height old.ticks old.colour c.loop-turn._turn c.args.count _ (g.K.Sink.state c.loop-turn.out) _ c.loop-turn-test.true so_far.written
@@ -38,7 +38,7 @@ loop-turn-preserved g c =
       width = so_far.width;
       height = so_far.height;
       colour = so_far.colour;
-      reader = so_far.reader;
+      clients = so_far.clients;
       ticks = omega (arith, so_far.ticks);
       frame = so_far.frame;
       written = one_written old.width old.height old.ticks old.colour c.loop-turn._turn _ (g.K.Sink.state c.loop-turn.out) _ so_far.written

@@ -1,0 +1,67 @@
+//! What a run keeps to read its clients' lines and to answer them.
+ghost use Rattle.std.specs.Prelude.{◌≡◌, IfOk, codes};
+ghost use Rattle.play_types.specs.Geometry.{IsSize};
+ghost use Rattle.history_model.specs.ScriptOutput.{plain_config};
+ghost use Rattle.run_script.specs.Stage.{IsReady};
+
+use amcp_text::LineReader;
+use play_types::{Channel, ChannelList, Config, MediaNames, Text};
+use std::alloc::{AllocError, Global};
+
+/// The reader of a client's line, and what replies speak of: the configuration and the names of the media table.
+#[derive(Drop)]
+pub struct Clients {
+    pub reader: LineReader,
+    pub config: Config,
+    pub media: MediaNames,
+}
+
+impl Clients {
+    /// No line is being read, on one channel of this width and height and without clips.
+    pub fn new(alloc: Global, width: u16, height: u16) -> Result<Clients, AllocError>
+        requires { IsSize width height 0 }
+        ensures { IfOk result (λ clients. IsReady width height clients) }
+    {
+        Ok(Clients {
+            reader: LineReader::new(alloc)?,
+            config: plain_config(alloc, width, height)?,
+            media: MediaNames::new(alloc),
+        })
+    }
+}
+
+/// The configuration of a run that names a width and a height alone.
+fn plain_config(alloc: Global, width: u16, height: u16) -> Result<Config, AllocError>
+    requires { IsSize width height 0 }
+    ensures { IfOk result (λ config. config ≡ plain_config width height) }
+{
+    let listen = none(alloc)?;
+    let media = none(alloc)?;
+    let channels = one_channel(alloc, width, height)?;
+    match Config::new(listen, media, 25, 4, 4_194_304, channels) {
+        Some(config) => Ok(config),
+        None => unreachable!(),
+    }
+}
+
+/// One channel of this width and height, without sound.
+fn one_channel(alloc: Global, width: u16, height: u16) -> Result<ChannelList, AllocError>
+    requires { IsSize width height 0 }
+    ensures { IfOk result (λ channels. channels ≡ (plain_config width height).channels) }
+{
+    let output = none(alloc)?;
+    let channel = match Channel::new(width, height, 0, output) {
+        Some(channel) => channel,
+        None => unreachable!(),
+    };
+    let mut channels = ChannelList::new(alloc);
+    channels.push(channel)?;
+    Ok(channels)
+}
+
+/// The text that stands where there is no address, folder or output.
+fn none(alloc: Global) -> Result<Text, AllocError>
+    ensures { IfOk result (λ text. text ≡ codes "none") }
+{
+    Text::copy(alloc, "none")
+}

@@ -4,7 +4,7 @@ ghost use Rattle.std.specs.List.{flat_map};
 ghost use Rattle.play_outside.specs.Sink.{Sends};
 ghost use Rattle.history_model.specs.ReplyText.{IsReplyTo, refusal_word, values_line, channel_lines, media_line, ended, reply_bytes};
 
-use crate::line::send_line;
+use crate::line::{send_empty_line, send_line};
 use crate::media::send_names;
 use crate::name::send_code;
 use crate::status::send_statuses;
@@ -50,7 +50,7 @@ fn send_info<K: Sink>(channels: &ChannelList, statuses: StatusList, to: &mut K) 
         Sent::Failed => return Sent::Failed,
     }
     match send_statuses(channels, statuses, to) {
-        Sent::All => send_line(&[], to),
+        Sent::All => send_empty_line(to),
         Sent::Failed => Sent::Failed,
     }
 }
@@ -64,7 +64,7 @@ fn send_cls<K: Sink>(media: &MediaNames, to: &mut K) -> Sent
         Sent::Failed => return Sent::Failed,
     }
     match send_names(media, to) {
-        Sent::All => send_line(&[], to),
+        Sent::All => send_empty_line(to),
         Sent::Failed => Sent::Failed,
     }
 }

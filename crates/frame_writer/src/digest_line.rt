@@ -4,8 +4,7 @@ ghost use Rattle.sha2.specs.Sha256.{sha256};
 ghost use Rattle.play_outside.specs.Sink.{Sends};
 ghost use Rattle.frame_writer.specs.DigestText.{digest_line};
 
-use crate::hex_lines::write_line;
-use crate::label::send_label;
+use crate::line::{send_label, write_line};
 use play_outside::{Sent, Sink, send};
 use sha2::{Digest, Sha256};
 

@@ -1,18 +1,14 @@
 //! Frames as lines of hexadecimal.
-ghost use Rattle.std.specs.Prelude.{◌≡◌, ◌≤◌, ◌*◌, ◌∷◌, ◌++◌, [], length};
-ghost use Rattle.hex.specs.Hex.{encode_lower};
+ghost use Rattle.std.specs.Prelude.{◌≡◌, ◌*◌, length};
 ghost use Rattle.play_outside.specs.Sink.{Sends};
-ghost use Rattle.history_model.specs.FrameText.{frame_lines, head_line, row_lines, sound_line};
+ghost use Rattle.history_model.specs.FrameText.{frame_lines, head_line, row_lines};
 
-use crate::label::send_label;
+use crate::line::{send_label, write_line};
 use play_outside::{Sent, Sink, send};
 use play_types::Geometry;
 
-/// How many bytes are turned into text at a time.
-const PIECE: usize = 2048;
-
-/// Writes a frame as lines: `F`, the channel and the tick, then each row in lower-case hexadecimal, then the sound
-/// where the channel has sound.
+/// Writes a frame as lines: `F`, the channel and the tick; then each row from the top, in lower-case hexadecimal; then
+/// the sound, in the same digits, where the channel has sound. A pixel has four bytes, and so has a pair of sound.
 pub fn write_hex<K: Sink>(
     channel: u8,
     tick: u64,
@@ -63,44 +59,4 @@ fn write_rows<K: Sink>(row_length: usize, rows: u16, frame: &[u8], to: &mut K) -
         }
     }
     Sent::All
-}
-
-/// Writes bytes in hexadecimal, and a line feed.
-pub(crate) fn write_line<K: Sink>(bytes: &[u8], to: &mut K) -> Sent
-    ensures { Sends result (encode_lower bytes.now ++ 10 ∷ []) (K.state to.old) (K.state to.new) }
-{
-    match write_digits(bytes, to) {
-        Sent::All => {}
-        Sent::Failed => return Sent::Failed,
-    }
-    send(b"\n", to)
-}
-
-/// Writes bytes in hexadecimal.
-fn write_digits<K: Sink>(bytes: &[u8], to: &mut K) -> Sent
-    ensures { Sends result (encode_lower bytes.now) (K.state to.old) (K.state to.new) }
-{
-    let mut at = 0;
-    while at < bytes.len() {
-        let count = (bytes.len() - at).min(PIECE);
-        match write_piece(&bytes[at..at + count], to) {
-            Sent::All => {}
-            Sent::Failed => return Sent::Failed,
-        }
-        at += count;
-    }
-    Sent::All
-}
-
-/// Writes at most `PIECE` bytes in hexadecimal.
-fn write_piece<K: Sink>(bytes: &[u8], to: &mut K) -> Sent
-    requires { length bytes.now ≤ PIECE }
-    ensures { Sends result (encode_lower bytes.now) (K.state to.old) (K.state to.new) }
-{
-    let mut digits = [0u8; 2 * PIECE];
-    let text = &mut digits[..2 * bytes.len()];
-    match hex::encode_to_slice(bytes, text) {
-        Ok(()) => send(text, to),
-        Err(_) => unreachable!(),
-    }
 }

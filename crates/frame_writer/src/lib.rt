@@ -1,13 +1,17 @@
 //! Writes frames: raw, as lines of hexadecimal, or as digests.
 //!
-//! A writer takes no memory. It answers `Failed` only where the sink failed, and then a front of the text went out.
+//! A writer takes no memory. It answers `Failed` only where the sink failed, and then a front of the text went out, but
+//! not all of it. Channels and ticks are counted from 1.
 #![tactic(auto)]
 
 mod digest_line;
 mod hex_lines;
-mod label;
+mod line;
 mod raw;
 
 pub use digest_line::write_digest;
 pub use hex_lines::write_hex;
 pub use raw::write_raw;
+
+#[cfg(test)]
+mod tests;

@@ -3,7 +3,7 @@ use Rattle.std.proofs.lemmas.Grind.{common_steps}
 use Rattle.play_outside.proofs.Taking.{after_taking-nil}
 use Rattle.play_outside.proofs.Sending.{taken_more, Fails-within}
 use Rattle.frame_writer.proofs.Digits.{encode_lower-nil, encode_lower-more, encode_lower-parts}
-use Rattle.frame_writer.proofs.hex_lines.write_digits.Goals as goal
+use Rattle.frame_writer.proofs.line.write_digits.Goals as goal
 
 pub loop-at-init : goal.loop-at-init
 loop-at-init g c = record {

@@ -1,7 +1,7 @@
 use Rattle.std.proofs.Common.{◌≡◌, ℕ, List, [], ◌∷◌, ◌++◌, sym, append_assoc, append-nil}
 use Rattle.std.specs.Prelude.{decimal}
 use Rattle.play_outside.proofs.Sending.{taken_more, Fails-before, Fails-within, Sends-last}
-use Rattle.frame_writer.proofs.label.send_label.Goals as goal
+use Rattle.frame_writer.proofs.line.send_label.Goals as goal
 
 -- the blank as a part of its own
 label-parts : (label channel tick : List ℕ) → label ++ channel ++ 32 ∷ tick ≡ ((label ++ channel) ++ 32 ∷ []) ++ tick

@@ -1,7 +1,7 @@
 use Rattle.std.proofs.Common.{length, ◌-◌, ◌≡◌, ◌≤◌, take}
 use Rattle.hex.specs.Hex.{encode_lower}
 use Rattle.play_outside.specs.SinkState.{after_taking}
-use Rattle.frame_writer.proofs.hex_lines.write_digits.Given as goal
+use Rattle.frame_writer.proofs.line.write_digits.Given as goal
 
 -- the bytes before the place were written
 abbrev pub invariant-loop-at : goal.invariant-loop-at

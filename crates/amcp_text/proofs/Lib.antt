@@ -7,3 +7,4 @@ pub mod Roles
 pub mod Reading
 pub mod ReadingText
 pub mod TextLaws
+pub mod Examples

@@ -1,5 +1,5 @@
 -- The lines of a stream, taken from its front.
-use Rattle.std.proofs.Common.{◌≡◌, ℕ, ◌+◌, ◌-◌, ◌<◌, ◌≤◌, suc, Bool, true, false, List, [], ◌∷◌, ◌++◌, map, take, length, refl, sym, ap, ◌∙◌, arith, inl, inr, append_assoc, append-nil}
+use Rattle.std.proofs.Common.{◌≡◌, ℕ, ◌-◌, ◌<◌, ◌≤◌, suc, true, false, List, [], ◌∷◌, ◌++◌, map, take, length, refl, sym, ap, ◌∙◌, arith, inl, inr, append_assoc, append-nil}
 use Rattle.std.specs.List.{list_any, slice_split}
 use Rattle.std.specs.Str.{chars, is_utf8, IsUtf8}
 use Rattle.std.proofs.lemmas.Bool.{or_parts, or_from, cases_Bool, le-ltb, false_from_ne_true}
@@ -7,7 +7,7 @@ use Rattle.std.proofs.lemmas.List.{map-append, length-append, get_or_push, take_
 use Rattle.std.proofs.lemmas.List.Folds.{list_any-append}
 use Rattle.std.proofs.lemmas.List.Splits.{length-slice_split}
 use Rattle.std.proofs.lemmas.Str.{IsUtf8-from_is_utf8, is_utf8-from_IsUtf8}
-use Rattle.amcp_text.specs.Lines.{Line, Text, TooLong, NotUtf8, is_line_end, line_of_text, line_of, ended_parts, lines_of, IsEnded}
+use Rattle.amcp_text.specs.Lines.{Line, Text, NotUtf8, is_line_end, line_of_text, line_of, ended_parts, lines_of, IsEnded}
 
 pub line_of_text_utf8 : (text : List ℕ) → length text ≤ 4096 → IsUtf8 text → Text (chars text) ≡ line_of_text text
 line_of_text_utf8 text short utf8 = rw (le-ltb 4096 (length text) short, is_utf8-from_IsUtf8 text utf8) refl

@@ -1,15 +1,15 @@
 -- What a line reader keeps, and the bytes that it stands for.
-use Rattle.std.proofs.Common.{◌≡◌, ℕ, ◌+◌, ◌-◌, ◌<◌, ◌≤◌, min, Bool, true, false, cond, ◌||◌, List, [], ◌∷◌, ◌++◌, take, drop, length, get_or, refl, sym, ap, ◌∙◌, arith, inl, inr, append_assoc}
-use Rattle.std.specs.Prelude.{Option, Some, None, nat_lt, ◌==◌, slice_get, slice_index}
+use Rattle.std.proofs.Common.{◌≡◌, ℕ, ◌+◌, ◌-◌, ◌<◌, ◌≤◌, min, Bool, true, false, cond, ◌||◌, List, [], ◌∷◌, ◌++◌, take, length, get_or, refl, sym, ap, ◌∙◌, arith, inl, inr, append_assoc}
+use Rattle.std.specs.Prelude.{Some, None, nat_lt, ◌==◌, slice_index}
 use Rattle.std.specs.List.{list_any, before_first, after_first, position}
 use Rattle.std.specs.Str.Lines.{strip_carriage_return}
 use Rattle.std.proofs.Math.Seq.{take-append-add}
-use Rattle.std.proofs.lemmas.Bool.{or_from, or_right, cases_Bool, cases_lt, lt-ltb, le-ltb, ltb-true, ltb-false, eqb-true, cond_both}
+use Rattle.std.proofs.lemmas.Bool.{or_from, or_right, cases_lt, lt-ltb, le-ltb, eqb-true, cond_both}
 use Rattle.std.proofs.lemmas.Bool.Decides.{nat_tests}
 use Rattle.std.proofs.lemmas.List.{take_min, take_all, take-take, take-append-le, take_more, length-take, length-append}
 use Rattle.std.proofs.lemmas.List.Folds.{list_any-append}
 use Rattle.std.proofs.lemmas.List.Quantifiers.{position-Some}
-use Rattle.amcp_text.specs.Lines.{Line, Text, TooLong, NotUtf8, is_line_end, line_of_text, line_of, lines_of, IsEnded}
+use Rattle.amcp_text.specs.Lines.{Line, TooLong, is_line_end, line_of, lines_of, IsEnded}
 use Rattle.amcp_text.specs.ReaderState.{ReaderState}
 use Rattle.amcp_text.specs.Reader.{StandsFor, with_text, line_kept}
 use Rattle.amcp_text.proofs.FirstEnd.{before_first_none, after_first_none, before_first_at, after_first_at, cut_at_first, list_any-before_first, list_any_from_position, list_any-take_position}

@@ -1,6 +1,6 @@
 -- A line that is read from its front: what the parts that are left give, after those that were read.
-use Rattle.std.proofs.Common.{◌≡◌, ℕ, ◌+◌, ◌-◌, ◌<◌, ◌≤◌, Bool, true, false, cond, not, ◌||◌, ◌&&◌, List, [], ◌∷◌, ◌++◌, map, take, length, Result, Ok, Err, refl, sym, ap, ◌∙◌, arith, inl, inr, append_assoc, append-nil, add_assoc, add-zero, zero-add}
-use Rattle.std.specs.Prelude.{Option, Some, None, is_some, unwrap_or, nat_lt, ◌==◌, filter, sum_by}
+use Rattle.std.proofs.Common.{◌≡◌, ℕ, ◌+◌, Bool, true, false, cond, not, ◌&&◌, List, [], ◌∷◌, ◌++◌, map, length, Result, Ok, Err, refl, sym, ap, ◌∙◌, arith, inl, inr, append_assoc, append-nil, add_assoc, add-zero, zero-add}
+use Rattle.std.specs.Prelude.{Option, Some, None, is_some, nat_lt, ◌==◌, filter, sum_by}
 use Rattle.std.specs.List.{before_first, before_last, list_any, slice_split, onto_first, filter_map, position_or_len}
 use Rattle.std.specs.Option.{option_to_list}
 use Rattle.std.specs.Char.{len_utf8}
@@ -8,12 +8,12 @@ use Rattle.std.proofs.Math.Numerals.{one-add}
 use Rattle.std.proofs.Math.Bool.{xor}
 use Rattle.std.proofs.lemmas.Bool.{cases_Bool, lt-ltb}
 use Rattle.std.proofs.lemmas.List.Sums.{sum_by-cons}
-use Rattle.amcp_text.specs.Words.{Part, Plain, Escape, Bad, Role, Gap, Mark, Letter, byte_len, is_mark, is_bad, is_unclosed, is_gap, is_blank, letter_of, role_of, roles_of, words_between}
+use Rattle.amcp_text.specs.Words.{Part, Plain, Escape, Bad, Role, Mark, Letter, byte_len, is_mark, is_bad, is_unclosed, is_gap, is_blank, letter_of}
 use Rattle.amcp_text.specs.Tokens.{words_of_parts}
 use Rattle.amcp_text.specs.declared.token.TokenFault.{TokenFault}
 use Rattle.amcp_text.specs.declared.token.TokenFault.TheVariants.{OpenQuote, BadEscape}
 use Rattle.amcp_text.proofs.LastMark.{before_last-cons}
-use Rattle.amcp_text.proofs.Roles.{quoted_after, roles_from, roles_of_is, is_unclosed-cons, is_unclosed_none}
+use Rattle.amcp_text.proofs.Roles.{roles_from, roles_of_is, is_unclosed-cons, is_unclosed_none}
 
 -- what was read of a line: its words, the word that has begun, the mark of quotes that are open, and where the rest begins
 pub record Read : Type 0 where

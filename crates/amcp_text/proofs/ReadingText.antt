@@ -1,5 +1,5 @@
 -- A line's text that is read character by character.
-use Rattle.std.proofs.Common.{◌≡◌, ℕ, ◌+◌, ◌-◌, ◌<◌, ◌≤◌, Bool, true, false, cond, not, ◌&&◌, List, [], ◌∷◌, ◌++◌, length, Ok, Err, refl, sym, ap, ◌∙◌, arith, inl, inr, append-nil, lit≤}
+use Rattle.std.proofs.Common.{◌≡◌, ℕ, ◌+◌, ◌<◌, ◌≤◌, Bool, true, false, cond, not, ◌&&◌, List, [], ◌∷◌, ◌++◌, length, Ok, Err, refl, sym, ap, ◌∙◌, arith, inl, inr, append-nil, lit≤}
 use Rattle.std.specs.Prelude.{Option, Some, None, is_some, unwrap_or, IfSome, ◌==◌, encode_utf8}
 use Rattle.std.specs.Option.{option_to_list}
 use Rattle.std.specs.Str.{IsUtf8, chars, all_scalars}
@@ -7,9 +7,8 @@ use Rattle.std.specs.Char.{len_utf8}
 use Rattle.std.proofs.lemmas.Bool.{cases_Bool, eqb-true, and_parts, and_from, and_left, and_right, or_cases, ne_eqb, true≢false}
 use Rattle.std.proofs.lemmas.List.{nil_from_length}
 use Rattle.std.proofs.lemmas.Str.{chars-nil, chars-append, chars-encodes, chars_past_char, IsUtf8-past_char, scalars-chars, length-encode, len_utf8_ascii}
-use Rattle.amcp_text.specs.Words.{Part, Plain, Escape, Bad, escape_with, parts_of, is_blank}
+use Rattle.amcp_text.specs.Words.{Plain, Escape, Bad, escape_with, parts_of, is_blank}
 use Rattle.amcp_text.specs.Tokens.{words_of}
-use Rattle.amcp_text.specs.declared.token.TokenFault.{TokenFault}
 use Rattle.amcp_text.specs.declared.token.TokenFault.TheVariants.{OpenQuote, BadEscape}
 use Rattle.amcp_text.proofs.Reading.{Read, answer, begun, turned, answer_start, answer_mark, answer_letter, answer_escape, answer_gap, answer_end, answer_open, answer_bad}
 

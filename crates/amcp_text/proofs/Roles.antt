@@ -1,6 +1,6 @@
 -- The roles of a line's parts, from its front.
-use Rattle.std.proofs.Common.{◌≡◌, ℕ, ◌+◌, ◌-◌, ◌*◌, ◌/◌, ◌%◌, ◌<◌, ◌≤◌, Bool, true, false, cond, not, ◌||◌, eqb, List, [], ◌∷◌, ◌++◌, map, take, length, refl, sym, ap, ◌∙◌, arith, inl, inr, append_assoc, zero-add}
-use Rattle.std.specs.Prelude.{◌==◌, count_by, sum_by}
+use Rattle.std.proofs.Common.{◌≡◌, ℕ, ◌+◌, ◌%◌, Bool, true, false, cond, not, List, [], ◌∷◌, ◌++◌, map, take, length, refl, arith, inl, inr, append_assoc, zero-add}
+use Rattle.std.specs.Prelude.{◌==◌, count_by}
 use Rattle.std.specs.List.{enumerate_from, list_any}
 use Rattle.std.proofs.lemmas.Bool.{cases_eq, ne_eqb, or_parts}
 use Rattle.std.proofs.lemmas.List.{take_at, length-append}

@@ -28,7 +28,7 @@ printed_unsigned micros =
     decimal (micros / 1000000)
     ++ (if micros % 1000000 == 0 then [] else 46 ∷ without_end_zeros (last_digits 6 (micros % 1000000)))
 
--- the text of a value
+-- a value: a minus where it is negative, and its number without the sign
 abbrev pub printed_micro : ℤ → List ℕ
 printed_micro (pos micros) = printed_unsigned micros
 printed_micro (negsuc before) = 45 ∷ printed_unsigned (suc before)

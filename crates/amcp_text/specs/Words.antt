@@ -1,5 +1,5 @@
 -- The words of a line of characters.
-use Rattle.std.specs.Prelude.{ℕ, ◌+◌, ◌%◌, ◌==◌, nat_lt, Bool, true, false, not, ◌&&◌, ◌||◌, if◌then◌else◌, Option, Some, None, List, [], ◌∷◌, map, filter, length, take, count_by, sum_by}
+use Rattle.std.specs.Prelude.{ℕ, ◌%◌, ◌==◌, nat_lt, Bool, true, false, not, ◌&&◌, ◌||◌, if◌then◌else◌, Option, Some, None, List, [], ◌∷◌, map, filter, length, take, count_by}
 use Rattle.std.specs.List.{slice_split, filter_map, enumerate_from}
 use Rattle.std.specs.Char.{len_utf8}
 
@@ -50,7 +50,7 @@ pub data Role : Type 0 where
   Mark : Role
   Letter : ℕ → Role
 
--- a blank parts words outside quotes alone
+-- a blank parts words outside quotes alone (a bad escape gives no character, since its line has no words)
 abbrev pub role_of : Part → Bool → Role
 role_of (Plain c) quoted = if c == 34 then Mark else (if is_blank c && not quoted then Gap else Letter c)
 role_of (Escape c) quoted = Letter c

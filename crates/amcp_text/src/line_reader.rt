@@ -66,7 +66,8 @@ impl LineReader {
     /// the piece is empty. It takes no memory.
     pub fn feed(&mut self, piece: &[u8]) -> usize
         ensures count { result ≡ taken_len self.old.held piece.now }
-        ensures stands { (bytes : List ℕ) → StandsFor self.old bytes → StandsFor self.new (bytes ++ take result piece.now) }
+        ensures stands { (bytes : List ℕ)
+            → StandsFor self.old bytes → StandsFor self.new (bytes ++ take result piece.now) }
     {
         if self.held {
             return 0;

@@ -28,11 +28,12 @@ impl From<AllocError> for TokenFault {
     }
 }
 
-/// The words of a line.
+/// The words of a line, each the list of its characters.
 ///
 /// Spaces and tabs outside quotes part words. A quotation mark that is not escaped opens or closes quotes at any place
 /// of a word, and is no part of it, so `""` is the empty word. The escapes, inside quotes and outside, are `\"`, `\\`
-/// and `\n`, the new line. The first bad escape is answered, and open quotes only where there is none.
+/// and `\n`, the new line. A line of blanks has no word. The first bad escape from the left is answered, and open
+/// quotes only where there is none.
 pub fn tokens(alloc: Global, line: &str) -> Result<WordList, TokenFault>
     ensures { AreTokens (chars line.now) result }
 {

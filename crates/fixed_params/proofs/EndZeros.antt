@@ -1,9 +1,9 @@
 -- The zeros at the end of digits.
-use Rattle.std.proofs.Common.{◌≡◌, ℕ, ◌+◌, ◌-◌, ◌<◌, ◌≤◌, suc, Bool, true, false, cond, ◌&&◌, eqb, List, [], ◌∷◌, ◌++◌, take, length, replicate, refl, sym, ap, ◌∙◌, arith, inl, inr, add-one}
+use Rattle.std.proofs.Common.{◌≡◌, ℕ, ◌-◌, ◌<◌, suc, Bool, true, false, ◌&&◌, List, [], ◌∷◌, ◌++◌, take, length, replicate, refl, sym, ap, ◌∙◌, arith, inl, inr, add-one}
 use Rattle.std.specs.Prelude.{◌==◌}
-use Rattle.std.specs.List.{list_all, prefix_len, suffix_len}
-use Rattle.std.proofs.lemmas.Bool.{cases_Bool, and_parts, and_cases, eq-eqb, ne_eqb, eqb-true}
-use Rattle.std.proofs.lemmas.List.{replicate_more, take-append-le, take_all, length-append, length-replicate, append_assoc}
+use Rattle.std.specs.List.{list_all, suffix_len}
+use Rattle.std.proofs.lemmas.Bool.{cases_Bool, and_parts, eq-eqb, ne_eqb, eqb-true}
+use Rattle.std.proofs.lemmas.List.{replicate_more, take-append-le, length-append, length-replicate, append_assoc}
 use Rattle.amcp_text.specs.Micros.{without_end_zeros}
 use Rattle.amcp_text.proofs.LastMark.{suffix_len-cons}
 

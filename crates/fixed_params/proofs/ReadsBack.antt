@@ -1,14 +1,14 @@
 -- What is printed reads back to the value.
-use Rattle.std.proofs.Common.{◌≡◌, ℕ, ◌+◌, ◌-◌, ◌*◌, ◌/◌, ◌%◌, ◌^◌, ◌<◌, ◌≤◌, zero, suc, Bool, true, false, cond, ◌&&◌, List, [], ◌∷◌, ◌++◌, take, length, get_or, replicate, ℤ, pos, negsuc, neg_ℤ, ◌≤ℤ◌, refl, sym, ap, ◌∙◌, subst, arith, inl, inr, append-nil, lit<}
-use Rattle.std.specs.Prelude.{Option, Some, None, ◌==◌, nat_lt, nat_le}
+use Rattle.std.proofs.Common.{◌≡◌, ℕ, ◌+◌, ◌-◌, ◌*◌, ◌/◌, ◌%◌, ◌^◌, ◌<◌, ◌≤◌, zero, suc, true, false, List, [], ◌∷◌, ◌++◌, take, length, get_or, replicate, ℤ, pos, negsuc, neg_ℤ, ◌≤ℤ◌, refl, ap, ◌∙◌, subst, arith, inl, inr, append-nil, lit<}
+use Rattle.std.specs.Prelude.{Some, ◌==◌, nat_le}
 use Rattle.std.specs.List.{before_first, after_first, list_any, list_all, suffix_len}
 use Rattle.std.specs.Char.{is_ascii_digit}
 use Rattle.std.specs.Fmt.{decimal}
 use Rattle.std.specs.Str.Parse.{digits_value, starts_with_minus, without_leading_sign}
 use Rattle.std.proofs.Math.Nat.{mod-eq_of_lt}
-use Rattle.std.proofs.lemmas.Bool.{cases_eq, and_parts, and_from, or_from, ne_eqb, eq-eqb, leb-true, lt-ltb, le-leb}
+use Rattle.std.proofs.lemmas.Bool.{cases_eq, and_parts, and_from, or_from, ne_eqb, leb-true, lt-ltb, le-leb}
 use Rattle.std.proofs.lemmas.Int.{ints}
-use Rattle.std.proofs.lemmas.Nat.{div-add-mod', mod_below, div_below}
+use Rattle.std.proofs.lemmas.Nat.{mod_below}
 use Rattle.std.proofs.lemmas.List.{get_or_append_left}
 use Rattle.std.proofs.lemmas.Fmt.{digits_decimal, digits_value-decimal, decimal_nonempty}
 use Rattle.amcp_text.specs.Numbers.{are_digits, is_point, is_unsigned_decimal, six_places, unsigned_micro}
@@ -17,7 +17,7 @@ use Rattle.amcp_text.proofs.FirstEnd.{before_first_none, after_first_none, befor
 use Rattle.fixed_params.proofs.Digits.{own, digit_here}
 use Rattle.fixed_params.proofs.EndZeros.{is_zero, with_end_zeros}
 use Rattle.fixed_params.proofs.Places.{length-last_digits, are_digits-last_digits, digits_value-last_digits}
-use Rattle.fixed_params.proofs.Values.{signed, micro_of_signed}
+use Rattle.fixed_params.proofs.Values.{micro_of_signed}
 
 -- no digit is a point
 no_point : (ds : List ℕ) → are_digits ds ≡ true → list_any is_point ds ≡ false

@@ -1,5 +1,5 @@
 -- The value of a text, by its sign and its digits.
-use Rattle.std.proofs.Common.{◌≡◌, ℕ, ◌+◌, ◌≤◌, zero, suc, Bool, true, false, cond, ◌&&◌, nat_le, List, length, ◌/◌, ◌<◌, ◌^◌, ◌≤ℤ◌, lit<, ℤ, pos, negsuc, neg_ℤ, ◌-ℤ◌, to_z, of_z, w64, refl, sym, ap, ◌∙◌, arith, inl, inr}
+use Rattle.std.proofs.Common.{◌≡◌, ℕ, ◌≤◌, zero, suc, Bool, true, false, cond, ◌&&◌, nat_le, List, length, ◌/◌, lit<, ℤ, pos, neg_ℤ, ◌-ℤ◌, to_z, of_z, w64, refl, sym, ap, ◌∙◌, arith, inl, inr}
 use Rattle.std.specs.Prelude.{Option, Some, None, unsigned_abs}
 use Rattle.std.specs.Option.{option_and_then, option_map}
 use Rattle.std.specs.Fmt.{decimal}
@@ -9,7 +9,7 @@ use Rattle.std.specs.Str.Parse.{starts_with_minus, without_leading_sign}
 use Rattle.std.proofs.lemmas.Bool.{cases_Bool, and_parts, leb-true}
 use Rattle.std.proofs.lemmas.Option.{cond_some}
 use Rattle.std.proofs.lemmas.Int.{ints}
-use Rattle.amcp_text.specs.Numbers.{is_unsigned_decimal, unsigned_micro, decimal_micro}
+use Rattle.amcp_text.specs.Numbers.{is_unsigned_decimal, unsigned_micro}
 use Rattle.amcp_text.specs.Micros.{is_wide, micro_of}
 use Rattle.amcp_text.proofs.TextLaws.{decimal_micro-chars}
 

@@ -1,5 +1,5 @@
 //! Printing a value.
-ghost use Rattle.std.specs.Prelude.{◌≡◌, ◌+◌, ◌<◌, ◌≤◌, ◌^◌, [], ◌∷◌, ◌++◌, length, Some, pos, neg_ℤ, ◌≤ℤ◌};
+ghost use Rattle.std.specs.Prelude.{◌≡◌, ◌+◌, ◌<◌, ◌≤◌, [], ◌∷◌, ◌++◌, length, Some, pos, neg_ℤ, ◌≤ℤ◌};
 ghost use Rattle.std.specs.Fmt.{decimal};
 ghost use Rattle.amcp_text.specs.Micros.{micro_of, last_digits, without_end_zeros, printed_unsigned, printed_micro};
 ghost use Rattle.play_outside.specs.Sink.{Sends};
@@ -10,8 +10,8 @@ use std::marker::Model;
 /// The longest text of a value, in bytes: a sign, four digits, a point and six digits.
 const ROOM: usize = 12;
 
-/// Writes the shortest text of a value in millionths: a minus where it is negative, the whole part, and where the rest
-/// is not zero a point and the rest without zeros at its end. It takes no memory.
+/// Writes a value in millionths: a minus where it is negative, the whole part, and where the rest is not zero a point
+/// and the rest without zeros at its end. What is written reads back to the value. It takes no memory.
 pub fn print_micro<K: Sink>(value: i64, to: &mut K) -> Sent
     requires low { neg_ℤ (pos 1000000000) ≤ℤ value }
     requires high { value ≤ℤ pos 1000000000 }

@@ -1,5 +1,5 @@
 //! Reading a decimal.
-ghost use Rattle.std.specs.Prelude.{◌≡◌, ◌*◌, ◌+◌, ◌<◌, min, nat_le, ◌&&◌, if◌then◌else◌, Some, None, IfSome, IsTrue, pos, neg_ℤ, ◌≤ℤ◌};
+ghost use Rattle.std.specs.Prelude.{◌≡◌, ◌<◌, min, nat_le, ◌&&◌, if◌then◌else◌, Some, None, IfSome, IsTrue, pos, neg_ℤ, ◌≤ℤ◌};
 ghost use Rattle.std.specs.List.{before_first, after_first, position};
 ghost use Rattle.std.specs.Str.{chars};
 ghost use Rattle.std.specs.Str.Parse.{digits_value, starts_with_minus, without_leading_sign};
@@ -15,7 +15,8 @@ const LIMIT: u32 = 1_000_000_000;
 /// exactly where the text is no decimal, or its value is outside -1000 to 1000. It takes no memory.
 pub fn read_micro(text: &str) -> Option<i64>
     ensures value { result ≡ micro_of (chars text.now) }
-    ensures range { IfSome result (λ value. (neg_ℤ (pos 1000000000) ≤ℤ value) × (value ≤ℤ pos 1000000000)) }
+    ensures range { IfSome result
+        (λ value. (neg_ℤ (pos 1000000000) ≤ℤ value) × (value ≤ℤ pos 1000000000)) }
 {
     let text = text.as_bytes();
     let micros = i64::from(read_unsigned(without_sign(text))?);
@@ -24,7 +25,8 @@ pub fn read_micro(text: &str) -> Option<i64>
 
 /// The value of a decimal without a sign, where it is at most 1000.
 fn read_unsigned(text: &[u8]) -> Option<u32>
-    ensures { result ≡ (if is_unsigned_decimal text.now && nat_le (unsigned_micro text.now) 1000000000 then Some (unsigned_micro text.now) else None) }
+    ensures { let micros = unsigned_micro text.now in
+        result ≡ (if is_unsigned_decimal text.now && nat_le micros 1000000000 then Some micros else None) }
 {
     let (whole, places) = split_at_point(text);
     if whole.is_empty() && places.is_empty() || !all_digits(whole) || !all_digits(places) {

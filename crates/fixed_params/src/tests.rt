@@ -1,7 +1,7 @@
 //! Decimals by hand.
 
 use super::*;
-use play_outside::{Sent, Sink, WriteStep};
+use play_outside::{MemSink, Sent};
 use std::test::Fail;
 
 #[test]
@@ -44,25 +44,6 @@ fn decimals_are_read(rt: HostRuntime) {
     }
 }
 
-/// Keeps what it takes.
-#[derive(Drop)]
-struct Kept {
-    bytes: Vec<u8>,
-}
-
-impl Sink for Kept {
-    ghost use Rattle.std.specs.Prelude.{◌-◌, ◌^◌, None};
-
-    ghost state = { λ _. record { taken = None; faults = 2 ^ 64 - 1; mark = 0 } };
-
-    fn write(&mut self, piece: &[u8]) -> WriteStep {
-        match self.bytes.extend_from_slice(piece) {
-            Ok(()) => WriteStep::Took(piece.len()),
-            Err(_) => WriteStep::Failed,
-        }
-    }
-}
-
 #[test]
 fn values_are_printed_without_zeros_at_the_end(rt: HostRuntime) -> Result<(), Fail> {
     let rows = [
@@ -80,11 +61,9 @@ fn values_are_printed_without_zeros_at_the_end(rt: HostRuntime) -> Result<(), Fa
         (-1_000_000_000, "-1000"),
     ];
     for (value, expected) in rows {
-        let mut kept = Kept {
-            bytes: Vec::new(rt.alloc()),
-        };
-        assert_eq!(rt; print_micro(value, &mut kept), Sent::All, "{expected}");
-        assert_eq!(rt; kept.bytes.as_slice(), expected.as_bytes());
+        let mut sink = MemSink::new(rt.alloc(), 0, 16, 3, Vec::new(rt.alloc()))?;
+        assert_eq!(rt; print_micro(value, &mut sink), Sent::All, "{expected}");
+        assert_eq!(rt; sink.taken(), expected.as_bytes());
     }
     Ok(())
 }

@@ -1,4 +1,4 @@
-use Rattle.std.proofs.Common.{rules, ◌≡◌, sym, ap, ◌∙◌}
+use Rattle.std.proofs.Common.{ap, ◌∙◌}
 use Rattle.std.specs.Str.{chars}
 use Rattle.amcp_text.specs.Lines.{Text}
 use Rattle.amcp_text.proofs.LineLaws.{line_of_text_utf8, line_of_text_not_utf8}

@@ -1,10 +1,10 @@
-use Rattle.std.proofs.Common.{rules, ◌≡◌, ℕ, Bool, false, true, cond, not, ◌&&◌, List, [], ◌∷◌, ◌++◌, Ok, refl, sym, ap, ◌∙◌, append-nil}
-use Rattle.std.specs.Prelude.{Option, Some, None, is_some, string_bytes}
+use Rattle.std.proofs.Common.{rules, ◌≡◌, false, cond, not, ◌&&◌, ◌++◌, Ok, refl, sym, ap, ◌∙◌, append-nil}
+use Rattle.std.specs.Prelude.{Some, None, is_some, string_bytes}
 use Rattle.std.specs.Option.{option_to_list}
 use Rattle.std.specs.Str.{chars}
 use Rattle.std.proofs.lemmas.Bool.{ne_eqb}
 use Rattle.std.proofs.lemmas.Str.{IsUtf8-string_bytes}
-use Rattle.amcp_text.proofs.ReadingText.{Reads, turned_none, turned_some, none_from_test, no_gap_in_quotes, no_gap_at_letter, read_nothing, read_bad, read_escape, read_backslash, read_mark, read_gap, read_letter, end_in_escape, end_in_quotes, end_of_words}
+use Rattle.amcp_text.proofs.ReadingText.{turned_none, turned_some, none_from_test, no_gap_in_quotes, no_gap_at_letter, read_nothing, read_bad, read_escape, read_backslash, read_mark, read_gap, read_letter, end_in_escape, end_in_quotes, end_of_words}
 use Rattle.amcp_text.specs.Words.{is_blank}
 use Rattle.amcp_text.proofs.token.tokens.Goals as goal
 use Rattle.amcp_text.proofs.token.tokens.Goals.{then-begun+in_ok-push, else-begun, else-is_blank-via-then-is_blank+else-is_none-2, else-is_blank-via-else-is_blank, then-begun-2+in_ok-push-3, else-begun-2}

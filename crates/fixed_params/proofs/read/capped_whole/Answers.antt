@@ -1,4 +1,3 @@
-use Rattle.std.proofs.Common.{◌∙◌}
 use Rattle.fixed_params.proofs.Digits.{capped_more}
 use Rattle.fixed_params.proofs.read.capped_whole.Goals as goal
 

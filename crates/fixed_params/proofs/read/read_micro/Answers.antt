@@ -1,5 +1,4 @@
 use Rattle.std.proofs.Common.{◌≡◌, true, false, Some, sym, ap, ◌∙◌}
-use Rattle.std.specs.Prelude.{pos}
 use Rattle.std.specs.Str.Parse.{starts_with_minus, without_leading_sign}
 use Rattle.fixed_params.proofs.Values.{signed, micro_of_text, within, plus_value, minus_value}
 use Rattle.fixed_params.proofs.read.read_micro.Goals as goal

@@ -1,4 +1,4 @@
-use Rattle.std.proofs.Common.{rules, arith}
+use Rattle.std.proofs.Common.{arith}
 use Rattle.std.proofs.lemmas.Grind.{common_steps}
 use Rattle.amcp_text.proofs.ReaderLaws.{with_text_whole, with_text_over}
 use Rattle.amcp_text.proofs.line_reader.LineReader.keep.Goals as goal

@@ -1,4 +1,4 @@
-use Rattle.std.proofs.Common.{◌≡◌, true, false, List, ◌∷◌, sym, ap, ◌∙◌}
+use Rattle.std.proofs.Common.{◌≡◌, true, false, ◌∷◌, sym, ap, ◌∙◌}
 use Rattle.amcp_text.specs.Lines.{Line, lines_of}
 use Rattle.amcp_text.proofs.ReaderLaws.{lines_unheld, lines_held}
 use Rattle.amcp_text.proofs.line_reader.LineReader.line.Goals as goal

@@ -1,5 +1,5 @@
-use Rattle.std.proofs.Common.{rules, arith}
-use Rattle.fixed_params.proofs.Places.{places_start, weight_above, digit_below, room_left, places_next, places_end}
+use Rattle.std.proofs.Common.{arith}
+use Rattle.fixed_params.proofs.Places.{places_start, weight_above, places_next, places_end}
 use Rattle.fixed_params.proofs.print.ShortText.push_places.Goals as goal
 
 pub loop-rest-init : goal.loop-rest-init

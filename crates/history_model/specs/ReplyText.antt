@@ -32,7 +32,7 @@ name_text name.Version = codes "VERSION"
 name_text name.Bye = codes "BYE"
 name_text name.Kill = codes "KILL"
 
--- a code with the name that it is about and a word
+-- a code, the name of a command, and a word that says what became of it
 unfoldable pub code_line : ℕ → Name → List ℕ → List ℕ
 code_line code command word = decimal code ++ 32 ∷ name_text command ++ 32 ∷ word
 
@@ -52,6 +52,7 @@ values_line micros = join_by printed_micro (codes " ") (take micros.count micros
 unfoldable pub size_text : ℕ → ℕ → List ℕ
 size_text width height = decimal width ++ codes "x" ++ decimal height
 
+-- the word of a channel's status
 abbrev pub status_text : Status → List ℕ
 status_text status.Empty = codes "EMPTY"
 status_text status.Paused = codes "PAUSED"
@@ -110,7 +111,7 @@ ended line = line ++ 13 ∷ 10 ∷ []
 unfoldable pub reply_bytes : ConfigView → List MediaNameView → Reply → List ℕ
 reply_bytes config media answer = flat_map ended (reply_lines config media answer)
 
--- a reply to a configuration: an Info has a status for each channel, and a Refused one of its codes
+-- a reply that a server of this configuration gives: an Info has a status for each channel, and a Refused one of its codes
 abbrev pub IsReplyTo : ConfigView → Reply → Type 0
 IsReplyTo config (reply.Done command) = Unit {0}
 IsReplyTo config (reply.Value micros) = Unit {0}

@@ -42,6 +42,7 @@ media_line-parts clip = simp append_assoc
 abbrev pub numbered_line : ℕ × (ChannelView × Status) → List ℕ
 numbered_line at = ended (channel_line at.0 at.1.0 at.1.1)
 
+-- what follows the name of a readable clip, and of another one
 pub clip_text-readable : (clip : MediaNameView) → clip.readable ≡ true → clip_text clip ≡ numbers_text clip
 clip_text-readable clip readable = rw readable refl
 
@@ -67,6 +68,7 @@ numbered-at channels states at channel state channel_there state_there found =
       number,
     ) refl
 
+-- as many lines as channels
 pub length-numbered : (channels : List ChannelView) (states : List Status) → length states ≡ length channels
     → length (enumerate_from 1 (zip channels states)) ≡ length channels
 length-numbered channels states same = rw (length-enumerate_from 1 (zip channels states), length-zip channels states) (omega arith)

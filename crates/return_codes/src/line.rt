@@ -1,4 +1,5 @@
 //! Lines that come in parts.
+ghost use Rattle.std.specs.Prelude.{[]};
 ghost use Rattle.std.specs.List.{flat_map};
 ghost use Rattle.play_outside.specs.Sink.{Sends};
 ghost use Rattle.history_model.specs.ReplyText.{ended};
@@ -13,6 +14,13 @@ pub(crate) fn send_line<K: Sink>(parts: &[&[u8]], to: &mut K) -> Sent
         Sent::All => send(b"\r\n", to),
         Sent::Failed => Sent::Failed,
     }
+}
+
+/// Writes an empty line.
+pub(crate) fn send_empty_line<K: Sink>(to: &mut K) -> Sent
+    ensures { Sends result (ended []) (K.state to.old) (K.state to.new) }
+{
+    send_line(&[], to)
 }
 
 /// Writes one part after another.

@@ -8,7 +8,7 @@ use itoa::Buffer;
 use play_outside::{Sent, Sink};
 use play_types::Name;
 
-/// Writes a line of a code, a name and what befell its command.
+/// Writes the line of a code, the name of a command, and a word that says what became of it.
 pub(crate) fn send_code<K: Sink>(code: u16, name: Name, word: &'static [u8], to: &mut K) -> Sent
     ensures { Sends result (ended (code_line code name word.now)) (K.state to.old) (K.state to.new) }
 {

@@ -20,13 +20,13 @@ pub(crate) fn send_quoted<K: Sink>(name: &str, to: &mut K) -> Sent
     }
 }
 
-/// Writes bytes, each that has an escape by its escape.
+/// Writes the bytes of a name, a byte that has an escape as its escape.
 fn send_escaped<K: Sink>(name: &[u8], to: &mut K) -> Sent
     ensures { Sends result (flat_map escaped name.now) (K.state to.old) (K.state to.new) }
 {
     let mut sent = 0;
-    for at in 0..name.len() {
-        if let Some(escape) = escape_of(name[at]) {
+    for (at, byte) in name.iter().enumerate() {
+        if let Some(escape) = escape_of(*byte) {
             match send(&name[sent..at], to) {
                 Sent::All => {}
                 Sent::Failed => return Sent::Failed,

@@ -16,16 +16,20 @@ pub(crate) fn send_statuses<K: Sink>(
     to: &mut K,
 ) -> Sent
     requires { statuses.count ≡ length channels.now }
-    ensures { Sends result (flat_map ended (channel_lines channels.now (take statuses.count statuses.channels))) (K.state to.old) (K.state to.new) }
+    ensures { Sends result
+        (flat_map ended (channel_lines channels.now (take statuses.count statuses.channels)))
+        (K.state to.old) (K.state to.new) }
 {
     let count = usize::from(statuses.count());
     send_channels(channels, &statuses.channels()[..count], to)
 }
 
-/// Writes a line for each channel, which has the status at its place.
+/// Writes a line for each channel, with the status at its place.
 fn send_channels<K: Sink>(channels: &ChannelList, statuses: &[Status], to: &mut K) -> Sent
     requires { length statuses.now ≡ length channels.now }
-    ensures { Sends result (flat_map ended (channel_lines channels.now statuses.now)) (K.state to.old) (K.state to.new) }
+    ensures { Sends result
+        (flat_map ended (channel_lines channels.now statuses.now))
+        (K.state to.old) (K.state to.new) }
 {
     for (at, status) in statuses.iter().enumerate() {
         let Some(channel) = channels.get(at) else {
@@ -39,7 +43,7 @@ fn send_channels<K: Sink>(channels: &ChannelList, statuses: &[Status], to: &mut 
     Sent::All
 }
 
-/// Writes the line of a channel of this number.
+/// Writes the line of the channel with this number.
 fn send_channel<K: Sink>(number: usize, channel: &Channel, status: Status, to: &mut K) -> Sent
     ensures { Sends result (ended (channel_line number channel.now status)) (K.state to.old) (K.state to.new) }
 {
@@ -60,6 +64,7 @@ fn send_channel<K: Sink>(number: usize, channel: &Channel, status: Status, to: &
     )
 }
 
+/// The status in capitals.
 fn word(status: Status) -> &'static [u8]
     ensures { result.now ≡ status_text status }
 {

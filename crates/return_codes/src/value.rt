@@ -39,7 +39,9 @@ fn send_joined<K: Sink>(values: &[i64], to: &mut K) -> Sent
 /// Writes values in printed form, a space before each.
 fn send_others<K: Sink>(values: &[i64], to: &mut K) -> Sent
     requires { All IsWide values.now }
-    ensures { Sends result (flat_map (λ value. codes " " ++ printed_micro value) values.now) (K.state to.old) (K.state to.new) }
+    ensures { Sends result
+        (flat_map (λ value. codes " " ++ printed_micro value) values.now)
+        (K.state to.old) (K.state to.new) }
 {
     for value in values {
         match send_other(*value, to) {

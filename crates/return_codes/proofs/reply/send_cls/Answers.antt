@@ -7,4 +7,4 @@ returns-in-Failed-send_names g c = Fails-within _ _ _ _ _ _ _ (listed_lines _ _)
 
 pub returns-in-All-send_names : goal.returns-in-All-send_names
 returns-in-All-send_names g c =
-    Sends-last _ _ _ _ _ _ _ (listed_lines _ _) (taken_more _ _ _ _ _ c.in-All.ensures c.in-All-send_names.ensures) c.send_line-in-All-send_names.ensures
+    Sends-last _ _ _ _ _ _ _ (listed_lines _ _) (taken_more _ _ _ _ _ c.in-All.ensures c.in-All-send_names.ensures) c.send_empty_line.ensures

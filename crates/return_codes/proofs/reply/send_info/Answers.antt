@@ -7,4 +7,4 @@ returns-in-Failed-send_statuses g c = Fails-within _ _ _ _ _ _ _ (listed_lines _
 
 pub returns-in-All-send_statuses : goal.returns-in-All-send_statuses
 returns-in-All-send_statuses g c =
-    Sends-last _ _ _ _ _ _ _ (listed_lines _ _) (taken_more _ _ _ _ _ c.in-All.ensures c.in-All-send_statuses.ensures) c.send_line-in-All-send_statuses.ensures
+    Sends-last _ _ _ _ _ _ _ (listed_lines _ _) (taken_more _ _ _ _ _ c.in-All.ensures c.in-All-send_statuses.ensures) c.send_empty_line.ensures

@@ -8,7 +8,7 @@ use crate::take::Take;
 use std::alloc::{AllocError, Global};
 use std::marker::Model;
 
-/// A command of the stage. A `Load` keeps a cut and no `auto`, a `PlayTake` no `auto`.
+/// A command of the stage. `Cmd::load` keeps a cut and no `auto`, `Cmd::play_take` no `auto`.
 #[derive(Clone, Copy, Debug, PartialEq, Eq)]
 pub enum Cmd {
     /// Shows the first picture of a take, paused.

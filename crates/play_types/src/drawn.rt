@@ -22,7 +22,7 @@ pub struct Drawn {
     /// The picture that the transition replaces.
     pub old: Still,
     pub trans: Trans,
-    /// The step of the transition, in ticks: the smaller of the ticks since its start and its duration.
+    /// The step of the transition, in ticks: 1 at its first tick, and then one more each tick up to its duration.
     pub step: u32,
     /// In millionths, 0 to 1,000,000.
     pub opacity: i64,

@@ -6,7 +6,7 @@ ghost use Rattle.playrun.specs.Stream.{GivesFrom};
 use play_outside::{ReadStep, Source};
 use std::io::{ErrorKind, Read};
 
-/// How often in a row a read or a write may be interrupted before it counts as failed.
+/// The interruption of this number in one call counts as a failure.
 pub const INTERRUPTIONS: u32 = 1000;
 
 /// Reads a stream of the system, such as standard input. It does not tell what is left.

@@ -31,7 +31,7 @@ const PIECE: usize = 4096;
 /// |---|---|---|
 /// | 0 | the input was read to its end, or to a line that is the server's own stop, and all was written | |
 /// | 1 | exactly where the words have another form | `E usage` |
-/// | 2 | exactly where a line says nothing that a script may say, or the input is longer than 4,294,967,296 bytes | `E line n`, `E input too long` |
+/// | 2 | only where a line was received that says nothing that a script may say, or more than 4,294,967,296 bytes were read | `E line n`, `E input too long` |
 /// | 4 | only where a read or a write failed | `E device` |
 /// | 5 | only for want of memory | `E memory` |
 ///

@@ -64,11 +64,11 @@ next_frames-snoc width height events zero =
     append-nil (next_frame width height events) ∙ ap (next_frame width height) (sym (append-nil events))
 next_frames-snoc width height events (suc count) =
     ap (λ (text : List ℕ). next_frame width height events ++ text)
-        (next_frames-snoc width height (events ++ event.Tick ∷ []) count
-            ∙ ap (λ (es : List Event). next_frames width height (events ++ event.Tick ∷ []) count ++ next_frame width height es)
-                (append_assoc events (event.Tick ∷ []) (replicate count event.Tick)))
-        ∙ sym (append_assoc (next_frame width height events) (next_frames width height (events ++ event.Tick ∷ []) count)
-            (next_frame width height (events ++ replicate (suc count) event.Tick)))
+    (next_frames-snoc width height (events ++ event.Tick ∷ []) count
+    ∙ ap (λ (es : List Event). next_frames width height (events ++ event.Tick ∷ []) count ++ next_frame width height es)
+    (append_assoc events (event.Tick ∷ []) (replicate count event.Tick)))
+    ∙ sym (append_assoc (next_frame width height events) (next_frames width height (events ++ event.Tick ∷ []) count)
+    (next_frame width height (events ++ replicate (suc count) event.Tick)))
 
 pub next_frames-none : (width height : ℕ) (events : List Event) → next_frames width height events 0 ≡ []
 unfolding next_frames

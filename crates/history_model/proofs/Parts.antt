@@ -136,8 +136,7 @@ pub ended_lines-more : (bytes rest : List ℕ) → (more : List (List ℕ)) × (
 ended_lines-more bytes [] = ([], ap ended_lines (append-nil bytes) ∙ sym (append-nil (ended_lines bytes)))
 ended_lines-more bytes (c ∷ rest) =
     let next = ended_lines-more (bytes ++ c ∷ []) rest in
-    let one = ended_lines-more_by bytes c (eqb c 10) refl in
-    (
+    let one = ended_lines-more_by bytes c (eqb c 10) refl in (
       one.0 ++ next.0,
       ap ended_lines (sym (append_assoc bytes (c ∷ []) rest)) ∙ next.1 ∙ ap (λ (ls : List (List ℕ)). ls ++ next.0) one.1
           ∙ append_assoc (ended_lines bytes) one.0 next.0,

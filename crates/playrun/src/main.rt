@@ -25,6 +25,13 @@ fn main(rt: HostRuntime) -> Result<ExitCode, AllocError> {
     let mut input = StdSource::new(rt.stdin());
     let mut media = FolderMedia::new(rt.clone()?);
     let mut output = StdSink::new(rt.stdout());
-    let status = run_main(&rt, alloc, words.as_slice(), &mut input, &mut media, &mut output);
+    let status = run_main(
+        &rt,
+        alloc,
+        words.as_slice(),
+        &mut input,
+        &mut media,
+        &mut output,
+    );
     Ok(ExitCode::from(status))
 }

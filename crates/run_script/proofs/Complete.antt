@@ -45,9 +45,11 @@ front_of read rest front ended true input parts at_end part =
     ([], parts ∙ ap (λ (l : List ℕ). read ++ l) (at_end whole.0) ∙ ap (λ (l : List ℕ). l ++ []) (sym whole.1), λ _. refl)
 front_of read rest front ended false input parts at_end part =
     let all : read ≡ front ++ (part.rest ++ drop limit read) =
-    sym (take-append-drop limit read) ∙ ap (λ (l : List ℕ). l ++ drop limit read) part.parts ∙ append_assoc front part.rest (drop limit read) in
-    ((part.rest ++ drop limit read) ++ rest,
-    parts ∙ ap (λ (l : List ℕ). l ++ rest) all ∙ append_assoc front (part.rest ++ drop limit read) rest, λ e. absurd (false≢true e))
+    sym (take-append-drop limit read) ∙ ap (λ (l : List ℕ). l ++ drop limit read) part.parts ∙ append_assoc front part.rest (drop limit read) in (
+      (part.rest ++ drop limit read) ++ rest,
+      parts ∙ ap (λ (l : List ℕ). l ++ rest) all ∙ append_assoc front (part.rest ++ drop limit read) rest,
+      λ e. absurd (false≢true e),
+    )
 
 -- the line at which a run stops stands among all lines of the input
 found_at : (width height number : ℕ) (what : script.ScriptLine) (front more : List ℕ) (at_end : Bool) (input : List ℕ) (first state : SinkState) → input ≡ front ++ more → (at_end ≡ true → more ≡ [])

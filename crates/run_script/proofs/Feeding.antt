@@ -46,7 +46,7 @@ end_within : (text : List ℕ) → position_or_len is_line_end text < length tex
 end_within [] inside = absurd (omega arith)
 end_within (c ∷ cs) inside =
     end_by (eqb c 10) c (position_or_len is_line_end cs) cs refl
-        (λ e. end_within cs (inside_by (eqb c 10) (position_or_len is_line_end cs) (length cs) inside e))
+    (λ e. end_within cs (inside_by (eqb c 10) (position_or_len is_line_end cs) (length cs) inside e))
 
 -- all of the text was taken, and then the end of the line where that was wanted
 fed_all_by : (held : Bool) (first second : ReaderState) (text : List ℕ) (more : ℕ) → first.held ≡ held → more ≡ taken_len held line_end
@@ -65,7 +65,7 @@ pub fed_all : (first second : ReaderState) (text : List ℕ) (taken more : ℕ) 
 fed_all first second text taken more whole count stands stands' =
     let all : take taken text ≡ text = take_all taken text (omega arith) in
     fed_all_by first.held first second text more refl count
-        (subst (λ l. StandsFor first l) all stands) (subst (λ l. StandsFor second (l ++ take more line_end)) all stands')
+    (subst (λ l. StandsFor first l) all stands) (subst (λ l. StandsFor second (l ++ take more line_end)) all stands')
 
 -- an end of a line stands in the text
 pub fed_front : (reader first : ReaderState) (text : List ℕ) (taken : ℕ) → StandsFor reader [] → taken ≡ taken_len reader.held text → taken ≢ length text

@@ -49,11 +49,12 @@ unfolding colour_frames
 colour_frames-more width height tick colour turn zero = ([], ap (colour_frames width height tick colour) (let same : turn + 0 ≡ turn = omega arith in same) ∙ sym (append-nil (colour_frames width height tick colour turn)))
 colour_frames-more width height tick colour turn (suc more) =
     let before = colour_frames-more width height tick colour turn more in
-    let last = colour_frame width height (tick + suc (turn + more)) colour in
-    (before.0 ++ last,
-    ap (colour_frames width height tick colour) (let same : turn + suc more ≡ suc (turn + more) = omega arith in same)
-    ∙ ap (λ (text : List ℕ). text ++ last) before.1
-    ∙ append_assoc (colour_frames width height tick colour turn) before.0 last)
+    let last = colour_frame width height (tick + suc (turn + more)) colour in (
+      before.0 ++ last,
+      ap (colour_frames width height tick colour) (let same : turn + suc more ≡ suc (turn + more) = omega arith in same)
+          ∙ ap (λ (text : List ℕ). text ++ last) before.1
+          ∙ append_assoc (colour_frames width height tick colour turn) before.0 last,
+    )
 
 -- a write of a frame failed
 pub one_failed : (width height tick : ℕ) (colour : Option ℕ) (turn count : ℕ) (first state after : SinkState) → turn < count

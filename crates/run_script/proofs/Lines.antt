@@ -44,9 +44,9 @@ frames_are width height events tick colour (suc count) colours now shown =
     ap₂ (λ (before last : List ℕ). before ++ last)
     (frames_are width height events tick colour count colours now shown)
     (ap₂ (λ (t : ℕ) (c : Option ℕ). colour_frame width height t c)
-        (let number : tick + suc count ≡ ticks later + 1 = omega (arith, now, ticked_ticks events count) in number)
-        (shown ∙ sym (ticked_last events count))
-        ∙ sym (next_frame-colours width height later (ticked_colours events count colours)))
+    (let number : tick + suc count ≡ ticks later + 1 = omega (arith, now, ticked_ticks events count) in number)
+    (shown ∙ sym (ticked_last events count))
+    ∙ sym (next_frame-colours width height later (ticked_colours events count colours)))
     ∙ sym (next_frames-snoc width height events count)
 
 -- on a channel of the same size the same is written

@@ -58,9 +58,10 @@ tagged_lines-other tag bytes byte other = ap (flat_map (reply_line tag)) (ended_
 tagged_lines-more : (tag : Tag) (bytes rest : List ℕ) → (more : List ℕ) × (tagged_lines tag (bytes ++ rest) ≡ tagged_lines tag bytes ++ more)
 unfolding tagged_lines
 tagged_lines-more tag bytes rest =
-    let lines = ended_lines-more bytes rest in
-    (flat_map (reply_line tag) lines.0,
-    ap (flat_map (reply_line tag)) lines.1 ∙ flat_map-append (reply_line tag) (ended_lines bytes) lines.0)
+    let lines = ended_lines-more bytes rest in (
+      flat_map (reply_line tag) lines.0,
+      ap (flat_map (reply_line tag)) lines.1 ∙ flat_map-append (reply_line tag) (ended_lines bytes) lines.0,
+    )
 
 not_feed : (byte : ℕ) → byte ≢ 10 → eqb byte 10 ≡ false
 not_feed byte other = grind (arith, nat_tests)

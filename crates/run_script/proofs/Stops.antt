@@ -32,9 +32,10 @@ snoc_same (a ∷ xs) (b ∷ ys) x y e =
 pub lines_front : (front more : List ℕ) → (rest : List (List ℕ)) × (lines (front ++ more) ≡ ended_lines front ++ rest)
 lines_front front more =
     let ended = ended_lines-more front more in
-    let last = last_line (unended (front ++ more)) in
-    (ended.0 ++ last,
-    lines-ended (front ++ more) ∙ ap (λ (ls : List (List ℕ)). ls ++ last) ended.1 ∙ append_assoc (ended_lines front) ended.0 last)
+    let last = last_line (unended (front ++ more)) in (
+      ended.0 ++ last,
+      lines-ended (front ++ more) ∙ ap (λ (ls : List (List ℕ)). ls ++ last) ended.1 ∙ append_assoc (ended_lines front) ended.0 last,
+    )
 
 length-strip : (text : List ℕ) → length text ≤ length (strip_carriage_return text) + 1
 length-strip text = grind (arith, nat_tests, common_steps)
@@ -57,8 +58,7 @@ long_front front (c ∷ more) long = by_byte (eqb c 10) refl (λ longer. long_fr
     by_byte true is later =
         let feed : c ≡ 10 = grind (arith, nat_tests) in
         let line = strip_carriage_return (unended front) in
-        let next = lines_front (front ++ c ∷ []) more in
-        (
+        let next = lines_front (front ++ c ∷ []) more in (
           line,
           next.0,
           omega (arith, long, length-strip (unended front)),
@@ -68,8 +68,7 @@ long_front front (c ∷ more) long = by_byte (eqb c 10) refl (λ longer. long_fr
         )
     by_byte false is later =
         let waits = ap length (unended-other front c is) ∙ length-append (unended front) (c ∷ []) in
-        let next = later (omega (arith, long, waits)) in
-        (
+        let next = later (omega (arith, long, waits)) in (
           next.0,
           next.1,
           next.2,
@@ -99,8 +98,7 @@ stop_found what front more before line got form = by_size (nat_le 8194 (length (
         let over = overlong-is (unended front) true is refl in
         let same = snoc_same (ended_lines front) before (unended front) line (sym (ap (λ (ls : List (List ℕ)). ended_lines front ++ ls) over.0) ∙ got) in
         let all = long_front front more over.1 in
-        let size = over.1 in
-        (
+        let size = over.1 in (
           all.0,
           all.1,
           all.3 ∙ ap (λ (ls : List (List ℕ)). ls ++ all.0 ∷ all.1) same.0,

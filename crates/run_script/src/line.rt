@@ -68,7 +68,11 @@ fn after_t(more: &[u8]) -> Line<'_>
 fn after_x(more: &[u8]) -> Line<'_>
     ensures { seen result ≡ after_x more.now }
 {
-    if more.is_empty() { Line::Stop } else { Line::NoForm }
+    if more.is_empty() {
+        Line::Stop
+    } else {
+        Line::NoForm
+    }
 }
 
 /// What a connection's line says.

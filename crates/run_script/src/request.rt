@@ -31,7 +31,11 @@ pub enum Request {
 }
 
 /// What a text asks for, read as a line by a reader that has taken nothing.
-pub fn request_of(alloc: Global, reader: &mut LineReader, text: &[u8]) -> Result<Request, AllocError>
+pub fn request_of(
+    alloc: Global,
+    reader: &mut LineReader,
+    text: &[u8],
+) -> Result<Request, AllocError>
     ensures reader { StandsFor reader.new [] }
     ensures asked { StandsFor reader.old [] → IfOk result (λ found. seen found ≡ asked text.now) }
 {
@@ -94,7 +98,9 @@ fn request_of_words(alloc: Global, line: &str, words: &WordList) -> Result<Reque
         return unknown(alloc, line);
     }
     match (words.get(0), words.get(1), words.get(2)) {
-        (Some(name), Some(place), Some(colour)) => request_of_three(alloc, line, name, place, colour),
+        (Some(name), Some(place), Some(colour)) => request_of_three(
+            alloc, line, name, place, colour,
+        ),
         _ => unknown(alloc, line),
     }
 }

@@ -113,7 +113,13 @@ pub fn run<I: Source, K: Sink>(alloc: Global, size: Geometry, input: &mut I, out
     let mut buffer = [0u8; PIECE];
     for _turn in 0..LIMIT + 1 {
         match input.read(&mut buffer) {
-            ReadStep::Got(count) => match take_piece(&mut script, alloc, left, &buffer[..count], out) {
+            ReadStep::Got(count) => match take_piece(
+                &mut script,
+                alloc,
+                left,
+                &buffer[..count],
+                out,
+            ) {
                 Ok(rest) => left = rest,
                 Err(ending) => return ending,
             },

@@ -37,7 +37,12 @@ pub struct Stage {
 
 impl Stage {
     /// Does what a line says, its end left out.
-    pub fn take_line<K: Sink>(&mut self, alloc: Global, line: &[u8], out: &mut K) -> Result<(), Halt>
+    pub fn take_line<K: Sink>(
+        &mut self,
+        alloc: Global,
+        line: &[u8],
+        out: &mut K,
+    ) -> Result<(), Halt>
         requires { self.old.ticks < 2 ^ 63 }
         ensures grows { self.new.ticks ≤ self.old.ticks + 100000 }
         ensures taken { (events : List Event) → StandsFor self.old events

@@ -12,6 +12,8 @@ mod request;
 mod run;
 mod script;
 mod stage;
+#[cfg(test)]
+mod tests;
 mod words;
 
 pub use run::run_main;

@@ -1,0 +1,209 @@
+//! Whole runs over memory.
+ghost use Rattle.std.specs.Prelude.{◌<◌};
+
+use crate::run_main;
+use play_outside::{MemSink, MemSource, PlainMedia};
+use std::alloc::Global;
+use std::process::Abort;
+use std::test::Fail;
+use std::thread::Threads;
+
+/// A run: its words, its script, its exit status and its output.
+#[derive(Clone, Copy)]
+struct Run<'a>(&'a str, &'a [u8], u8, &'a str);
+
+/// The words of a command line.
+fn split(alloc: Global, line: &str) -> Result<Vec<String>, Fail> {
+    let mut words = Vec::new(alloc);
+    for word in line.split_whitespace() {
+        words.push(String::from_str(alloc, word)?)?;
+    }
+    Ok(words)
+}
+
+/// Plays a script that is read in pieces, over an input and an output of which calls of these numbers fail.
+fn play<R: Abort + Threads + Sync>(
+    rt: &R,
+    alloc: Global,
+    run: &Run<'_>,
+    piece: usize,
+    faults: (&[u64], &[u64]),
+) -> Result<(), Fail>
+    requires { 0 < piece }
+{
+    let words = split(alloc, run.0)?;
+    let mut input = MemSource::new(run.1.to_vec(alloc)?, piece, faults.0.to_vec(alloc)?);
+    let mut output = MemSink::new(alloc, 1, 100_000, piece, faults.1.to_vec(alloc)?)?;
+    let media = &mut PlainMedia;
+    let status = run_main(rt, alloc, words.as_slice(), &mut input, media, &mut output);
+    assert_eq!(rt; status, run.2, "{}", run.0);
+    assert_eq!(rt; output.taken(), run.3.as_bytes(), "{}", run.0);
+    Ok(())
+}
+
+const RED: &str =
+    "1.1 202 PLAY OK\nF 1 1\n0000ffff0000ffff0000ffff0000ffff\n0000ffff0000ffff0000ffff0000ffff\n";
+
+/// The frames of two ticks without a picture.
+const TWO: &str = "F 1 1\n00000000\nF 1 2\n00000000\n";
+
+/// The answers of a play, of one on another channel, and of a line that is not shown.
+const TAKEN: &str = "1.1 202 PLAY OK\n";
+
+const OTHER: &str = "1.1 401 PLAY ERROR\n";
+
+const BARE: &str = "1.1 400 ERROR\n1.1 \n";
+
+/// Runs over devices without faults.
+const RUNS: [Run<'static>; 36] = [
+    Run("run 4 2", b"1.1 PLAY 1-0 #FFFF0000\nT\n", 0, RED),
+    Run("run 2 1", b"T\n", 0, "F 1 1\n0000000000000000\n"),
+    Run("run 4096 04096", b"", 0, ""),
+    // Words of no form.
+    Run("run 0 2", b"T\n", 1, "E usage\n"),
+    Run("run 1 4097", b"T\n", 1, "E usage\n"),
+    Run("run 1 +1", b"T\n", 1, "E usage\n"),
+    Run("run 1 1x", b"T\n", 1, "E usage\n"),
+    Run("run 1", b"T\n", 1, "E usage\n"),
+    Run("run 1 1 1", b"T\n", 1, "E usage\n"),
+    Run("RUN 1 1", b"T\n", 1, "E usage\n"),
+    Run("", b"T\n", 1, "E usage\n"),
+    // Empty lines and comments, which count among the lines.
+    Run("run 1 1", b"\n#\n# T\n#\xff\n\r\n", 0, ""),
+    Run("run 1 1", b"\n#\nt\nT\n", 2, "E line 3\n"),
+    // Ticks, with and without a number and an end.
+    Run("run 1 1", b"T\r\nT", 0, TWO),
+    Run("run 1 1", b"T 002\n", 0, TWO),
+    // The server's own stop: the lines after it are not taken.
+    Run("run 1 1", b"T 1\nT\nX\nT\nzzz\n", 0, TWO),
+    Run("run 1 1", b"X\r\nzzz", 0, ""),
+    // Numbers beyond 32 bits.
+    Run("run 1 1", b"T 4294967297\n", 2, "E line 1\n"),
+    Run("run 1 1", b"1.4294967296 x\n", 2, "E line 1\n"),
+    // PLAY in any case, the channel in one or more digits, words that blanks part, and quotes.
+    Run("run 1 1", b"1.1 play 1-0 #FFFF0000\n", 0, TAKEN),
+    Run("run 1 1", b"1.1 PlAy\t01-0\t #fFfF0000\n", 0, TAKEN),
+    Run("run 1 1", b"1.1  \"PLAY\"  1-0 #FFFF0000 \n", 0, TAKEN),
+    Run("run 1 1", b"1.1 PL\"AY\" \"1-0\" #FFFF0000\n", 0, TAKEN),
+    // Other channels.
+    Run("run 1 1", b"1.1 PLAY 0-0 #FFFF0000\n", 0, OTHER),
+    Run("run 1 1", b"1.1 PLAY 2-0 #FFFF0000\n", 0, OTHER),
+    Run("run 1 1", b"1.1 PLAY 10-0 #FFFF0000\n", 0, OTHER),
+    Run("run 1 1", b"1.1 PLAY 4294967297-0 #FFFF0000\n", 0, OTHER),
+    // Texts without a word, of the greatest tag too.
+    Run("run 1 1", b"1.1 \n1.1    \n1.1 \t\n", 0, ""),
+    Run("run 1 1", b"65535.4294967295 \n", 0, ""),
+    // Texts that are shown as they stand, and ones that are not UTF-8.
+    Run("run 1 1", b"10.9 x\n", 0, "10.9 400 ERROR\n10.9 x\n"),
+    Run("run 1 1", b"1.1 x\r\r\n", 0, "1.1 400 ERROR\n1.1 x\r\n"),
+    Run("run 1 1", b"1.1 \xc3\xa9\n", 0, "1.1 400 ERROR\n1.1 é\n"),
+    Run("run 1 1", b"1.1 \xff\n", 0, BARE),
+    Run("run 1 1", b"1.1 PLAY 1-0 #FFFF0000 \xc3\n", 0, BARE),
+    // Premultiplied colours, blue first: (c * a + 127) / 255, rounded down.
+    Run(
+        "run 1 1",
+        b"1.1 PLAY 1-0 #00010203\nT\n1.1 PLAY 1-0 #80ff8101\nT\n1.1 PLAY 1-0 #fFaB03Cd\nT\n",
+        0,
+        "1.1 202 PLAY OK\nF 1 1\n00000000\n1.1 202 PLAY OK\nF 1 2\n01418080\n1.1 202 PLAY OK\nF 1 3\ncd03abff\n",
+    ),
+    // A colour between ticks, a refusal, and another connection.
+    Run(
+        "run 1 1",
+        b"1.1 PLAY 1-0 #FF0000FF\nT\n2.7 PLAY 1-0 #FF00FF00\n1.1 STOP\n1.1 PLAY 2-0 #FFFF0000\nT 2\n",
+        0,
+        "1.1 202 PLAY OK\nF 1 1\nff0000ff\n2.7 202 PLAY OK\n1.1 400 ERROR\n1.1 STOP\n1.1 401 PLAY ERROR\nF 1 2\n00ff00ff\nF 1 3\n00ff00ff\n",
+    ),
+];
+
+/// Lines of no form: of connections, of ticks and of stops, and with carriage returns that belong to no end.
+const NO_FORM: [&str; 25] = [
+    " T", " #", "1.1PLAY", "1.1", "0.1 x", "65536.1 ", "1.0 x", "01.1 x", "1.01 x", "1 .1 x",
+    ".1 x", "T 0", "T 100001", "T ", "T  2", "T 2 ", "T x", "TT", "X ", "XX", "x", "T\r", "X\r",
+    "T\r\r\n", "\r",
+];
+
+/// Texts of a connection 1.1 that are answered by 400 and themselves.
+const UNKNOWN: [&str; 14] = [
+    "PLAY 1-0 #FFFF0000 x",
+    "PLAYS 1-0 #FFFF0000",
+    "STOP 2-0 #FFFF0000",
+    "PLAY +1-0 #FFFF0000",
+    "PLAY 1-00 #FFFF0000",
+    "PLAY 1-1 #FFFF0000",
+    "PLAY 2-0 #FFFF000",
+    "PLAY 1-0 #FFFF00000",
+    "PLAY 1-0 #FFFF000G",
+    "PLAY 1-0 FFFF0000",
+    "\"PLAY 1-0\" #FFFF0000",
+    "PLAY 1-0 #FFFF0000 \"",
+    "PLAY 1-0 \\#FFFF0000",
+    "\"\"",
+];
+
+#[test]
+fn plays_scripts(rt: HostRuntime) -> Result<(), Fail> {
+    let alloc = rt.alloc();
+    for piece in [1usize, 3, 4096] {
+        for run in &RUNS {
+            play(&rt, alloc, run, piece, (&[], &[]))?;
+        }
+        for line in &NO_FORM {
+            let run = Run("run 1 1", line.as_bytes(), 2, "E line 1\n");
+            play(&rt, alloc, &run, piece, (&[], &[]))?;
+        }
+        for text in &UNKNOWN {
+            let script = format!(in alloc; "1.1 {text}\n")?;
+            let output = format!(in alloc; "1.1 400 ERROR\n1.1 {text}\n")?;
+            let run = Run("run 1 1", script.as_bytes(), 0, output.as_str());
+            play(&rt, alloc, &run, piece, (&[], &[]))?;
+        }
+    }
+    Ok(())
+}
+
+#[test]
+fn ends_at_faults_and_long_lines(rt: HostRuntime) -> Result<(), Fail> {
+    let alloc = rt.alloc();
+    let script = b"1.1 PLAY 1-0 #FFFF0000\nT\n";
+    let failed = Run("run 4 2", script, 4, "E device\n");
+    // The first read, and one after a tick.
+    play(&rt, alloc, &failed, 4096, (&[1], &[]))?;
+    let later = Run("run 1 1", b"T\nT\n", 4, "F 1 1\n00000000\nE device\n");
+    play(&rt, alloc, &later, 2, (&[2], &[]))?;
+    // The first write; the second one; and the writes of the output and of the fault.
+    play(&rt, alloc, &failed, 4096, (&[], &[1]))?;
+    let begun = Run("run 4 2", script, 4, "1E device\n");
+    play(&rt, alloc, &begun, 4096, (&[], &[2]))?;
+    let silent = Run("run 4 2", script, 4, "");
+    play(&rt, alloc, &silent, 4096, (&[], &[1, 2]))?;
+    let unnamed = Run("run 0 2", script, 1, "");
+    play(&rt, alloc, &unnamed, 4096, (&[], &[1]))?;
+    // As many ticks as a line may ask for, and a read that would fail after a stop.
+    let most = Run("run 1 1", b"T 100000\n", 4, "E device\n");
+    play(&rt, alloc, &most, 4096, (&[], &[1]))?;
+    play(&rt, alloc, &Run("run 1 1", b"X\n", 0, ""), 2, (&[2], &[]))?;
+    // A text of 4,096 bytes.
+    let text = "Z".repeat(alloc, 4096)?;
+    let script = format!(in alloc; "1.1 {text}\n")?;
+    let output = format!(in alloc; "1.1 400 ERROR\n1.1 {text}\n")?;
+    let run = Run("run 1 1", script.as_bytes(), 0, output.as_str());
+    play(&rt, alloc, &run, 4096, (&[], &[]))?;
+    // A text of 4,097 bytes, and lines of 8,192 and of 8,193.
+    for (front, letters, back, status, output) in [
+        ("1.1 ", 4097usize, "\n1.1 \n", 0u8, BARE),
+        ("1.1 ", 8188, "\n", 0, BARE),
+        ("1.1 ", 8188, "\r\n", 0, BARE),
+        ("1.1 ", 8189, "\n", 2, "E line 1\n"),
+        ("1.1 ", 8189, "\r\n", 2, "E line 1\n"),
+        ("1.1 ", 20_000, "", 2, "E line 1\n"),
+        ("#", 8191, "\n", 0, ""),
+        ("#", 8192, "\n", 2, "E line 1\n"),
+        ("X\n", 20_000, "", 0, ""),
+    ] {
+        let text = "Z".repeat(alloc, letters)?;
+        let script = format!(in alloc; "{front}{text}{back}")?;
+        let run = Run("run 1 1", script.as_bytes(), status, output);
+        play(&rt, alloc, &run, 4096, (&[], &[]))?;
+    }
+    Ok(())
+}

@@ -23,3 +23,9 @@ pub mod Script
 pub mod ScriptInput
 pub mod ScriptOutput
 pub mod ReplyText
+pub mod CommandWords
+pub mod CommandPlace
+pub mod CommandOptions
+pub mod CommandProducer
+pub mod CommandMixer
+pub mod Command

@@ -1,0 +1,4 @@
+//! The words of a client's line as a command.
+#![tactic(auto)]
+
+pub mod examples;

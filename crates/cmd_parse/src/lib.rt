@@ -2,3 +2,5 @@
 #![tactic(auto)]
 
 pub mod examples;
+mod name;
+mod word;

@@ -17,6 +17,19 @@ use Rattle.history_model.specs.CommandPlace.{Area, place_of, area_at}
 use Rattle.history_model.specs.CommandProducer.{take_at}
 use Rattle.history_model.specs.CommandMixer.{mixer}
 
+-- the command without a place that a word names
+unfoldable pub session_name : List ℕ → Option Name
+session_name word =
+    if is_word (codes "BEGIN") word then Some Begin
+    else if is_word (codes "COMMIT") word then Some Commit
+    else if is_word (codes "DISCARD") word then Some Discard
+    else if is_word (codes "INFO") word then Some Info
+    else if is_word (codes "CLS") word then Some Cls
+    else if is_word (codes "VERSION") word then Some Version
+    else if is_word (codes "BYE") word then Some Bye
+    else if is_word (codes "KILL") word then Some Kill
+    else None
+
 -- the command that a word names
 unfoldable pub name_of : List ℕ → Option Name
 name_of word =
@@ -29,15 +42,7 @@ name_of word =
     else if is_word (codes "CLEAR") word then Some Clear
     else if is_word (codes "SWAP") word then Some Swap
     else if is_word (codes "MIXER") word then Some Mixer
-    else if is_word (codes "BEGIN") word then Some Begin
-    else if is_word (codes "COMMIT") word then Some Commit
-    else if is_word (codes "DISCARD") word then Some Discard
-    else if is_word (codes "INFO") word then Some Info
-    else if is_word (codes "CLS") word then Some Cls
-    else if is_word (codes "VERSION") word then Some Version
-    else if is_word (codes "BYE") word then Some Bye
-    else if is_word (codes "KILL") word then Some Kill
-    else None
+    else session_name word
 
 -- the least number of words that a command needs after its name
 abbrev pub least_words : Name → ℕ

@@ -116,9 +116,10 @@ least_number Seek = 0
 least_number Length = 1
 least_number Auto = 0
 
--- the number of an option
-abbrev pub number_of : OptionName → Written → Option ℕ
-number_of option written = option_and_then (whole_within (least_number option) 1000000) (slice_get written.more 0)
+-- the number of an option: 0 where none is written
+abbrev pub number_of : OptionName → Written → ℕ
+number_of option written =
+    unwrap_or (option_and_then (whole_within (least_number option) 1000000) (slice_get written.more 0)) 0
 
 -- the refusal of an option's number, if it has one: it is missing, or it is wrong
 abbrev pub number_refusal : Name → ℕ → OptionName → Option (List ℕ) → Option Refusal
@@ -153,15 +154,16 @@ pub record Options : Type 0 where
 -- the transition that an option writes: without a direction it goes rightward
 abbrev pub transition_of : Written → TransView
 transition_of written =
-    trans_of (unwrap_or (kind_of written.word) Cut) (unwrap_or (number_of Transition written) 0) Linear (list_any is_leftward written.more)
+    let manner = drop (number_len written.word Transition written.more) written.more in
+    trans_of (unwrap_or (kind_of written.word) Cut) (number_of Transition written) Linear (list_any is_leftward manner)
 
 -- what the options say that are written
 abbrev pub options_of : List Written → Options
 options_of all = record {
   looped = is_some (given Loop all);
   transition = unwrap_or (option_map transition_of (given Transition all)) cut;
-  seek = unwrap_or (option_and_then (number_of Seek) (given Seek all)) 0;
-  length = option_and_then (number_of Length) (given Length all);
+  seek = unwrap_or (option_map (number_of Seek) (given Seek all)) 0;
+  length = option_map (number_of Length) (given Length all);
   auto = is_some (given Auto all);
 }
 

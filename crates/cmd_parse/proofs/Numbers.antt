@@ -18,9 +18,11 @@ number_within least most number = cond (nat_le least number && nat_le number mos
 
 -- a text without characters, or with one that is no digit, is no number
 pub no_number_empty : (least most : ℕ) (text : List ℕ) → IsUtf8 text → length text ≡ 0 → None ≡ whole_within least most (chars text)
+unfolding whole_within
 no_number_empty least most text utf8 empty = rw (whole_number-chars text utf8, empty) refl
 
 pub no_number_letter : (least most : ℕ) (text : List ℕ) → IsUtf8 text → are_digits text ≡ false → None ≡ whole_within least most (chars text)
+unfolding whole_within
 no_number_letter least most text utf8 letter = elim (cases_Bool (nat_lt 0 (length text))) [
   | inl some ↦ rw (whole_number-chars text utf8, some, letter) refl
   | inr none ↦ rw (whole_number-chars text utf8, none) refl
@@ -29,6 +31,7 @@ no_number_letter least most text utf8 letter = elim (cases_Bool (nat_lt 0 (lengt
 -- the number of digits
 number_of_digits : (least most : ℕ) (text : List ℕ) → IsUtf8 text → 0 < length text → are_digits text ≡ true
     → whole_within least most (chars text) ≡ number_within least most (digits_value 10 text)
+unfolding whole_within
 number_of_digits least most text utf8 some digits = rw (whole_number-chars text utf8, lt-ltb 0 (length text) some, digits) refl
 
 pub too_great : (least most number : ℕ) → most < number → None ≡ number_within least most number

@@ -1,5 +1,5 @@
 //! Single words: fixed ones, names and whole numbers.
-ghost use Rattle.std.specs.Prelude.{◌≡◌, IsTrue};
+ghost use Rattle.std.specs.Prelude.{◌≡◌, ◌≤◌, IsTrue, IfSome};
 ghost use Rattle.std.specs.Str.{chars};
 ghost use Rattle.amcp_text.specs.Numbers.{are_digits};
 ghost use Rattle.history_model.specs.CommandWords.{is_word, is_same_name, whole_within};
@@ -22,7 +22,8 @@ pub fn is_same_name(one: &str, other: &str) -> bool
 
 /// The whole number that a word writes, where it lies from the one end to the other. Leading zeros are allowed.
 pub fn whole_within(word: &str, least: u32, most: u32) -> Option<u32>
-    ensures { result ≡ whole_within least most (chars word.now) }
+    ensures value { result ≡ whole_within least most (chars word.now) }
+    ensures range { IfSome result (λ number. (least ≤ number) × (number ≤ most)) }
 {
     if word.is_empty() || !are_digits(word.as_bytes()) {
         return None;

@@ -23,7 +23,7 @@ unfoldable pub is_same_name : List ℕ → List ℕ → Bool
 is_same_name one other = bytes_eq (map to_ascii_uppercase one) (map to_ascii_uppercase other)
 
 -- the whole number that a word writes, where it lies from the one end to the other
-abbrev pub whole_within : ℕ → ℕ → List ℕ → Option ℕ
+unfoldable pub whole_within : ℕ → ℕ → List ℕ → Option ℕ
 whole_within least most word =
     option_and_then (λ number. if nat_le least number && nat_le number most then Some number else None) (whole_number word)
 

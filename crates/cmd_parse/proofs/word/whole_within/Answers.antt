@@ -6,8 +6,8 @@ use Rattle.cmd_parse.proofs.Numbers.{number_within, no_number_empty, no_number_l
 use Rattle.cmd_parse.proofs.word.whole_within.Goals as goal
 use Rattle.cmd_parse.proofs.word.whole_within.Goals.{then-is_empty-via-then-is_empty, then-is_empty-via-else-is_empty+then-not-are_digits, else-least-number-via-then-least-number+else-number-most, else-least-number-via-else-least-number}
 
-pub returns-then-is_empty : goal.returns-then-is_empty
-returns-then-is_empty c = elim c.then-is_empty.branch [
+pub returns-then-is_empty-clause-value : goal.returns-then-is_empty-clause-value
+returns-then-is_empty-clause-value c = elim c.then-is_empty.branch [
   | then-is_empty-via-then-is_empty w ↦
       let empty : length c.args.word.now ≡ 0 = grind (arith, nat_tests) in
       no_number_empty c.args.least c.args.most c.args.word.now c.utf8.word empty
@@ -16,23 +16,23 @@ returns-then-is_empty c = elim c.then-is_empty.branch [
       (ap are_digits (sym w.as_bytes.ensures.value) ∙ sym w.are_digits.ensures ∙ w.if-not-are_digits.true)
 ]
 
-pub returns-in_err-number : goal.returns-in_err-number
-returns-in_err-number c =
+pub returns-in_err-number-clause-value : goal.returns-in_err-number-clause-value
+returns-in_err-number-clause-value c =
     let some : 0 < length c.args.word.now = grind (arith, nat_tests) in
     let read = number_parsed c.args.least c.args.most c.args.word.now c.parse.result c.utf8.word c.ranges.most.fits some
     (ap are_digits (sym c.as_bytes.ensures.value) ∙ sym c.are_digits.ensures ∙ c.if-not-are_digits.false) c.parse.ensures.value.0 in
     c.from_residual.ensures ∙ sym (read ∙ ap (option_and_then (number_within c.args.least c.args.most)) (sym c.in_err-number.ensures.value))
 
-pub returns-then-number-most : goal.returns-then-number-most
-returns-then-number-most c =
+pub returns-then-number-most-clause-value : goal.returns-then-number-most-clause-value
+returns-then-number-most-clause-value c =
     let some : 0 < length c.args.word.now = grind (arith, nat_tests) in
     let read = number_parsed c.args.least c.args.most c.args.word.now c.parse.result c.utf8.word c.ranges.most.fits some
     (ap are_digits (sym c.as_bytes.ensures.value) ∙ sym c.are_digits.ensures ∙ c.if-not-are_digits.false) c.parse.ensures.value.0 in
     in_range c.args.least c.args.most c.in_ok-number.number c.if-least-number.true c.if-number-most.true
     ∙ sym (read ∙ ap (option_and_then (number_within c.args.least c.args.most)) (sym c.in_ok-number.ensures.value))
 
-pub returns-else-least-number : goal.returns-else-least-number
-returns-else-least-number c =
+pub returns-else-least-number-clause-value : goal.returns-else-least-number-clause-value
+returns-else-least-number-clause-value c =
     let some : 0 < length c.args.word.now = grind (arith, nat_tests) in
     let read = number_parsed c.args.least c.args.most c.args.word.now c.parse.result c.utf8.word c.ranges.most.fits some
     (ap are_digits (sym c.as_bytes.ensures.value) ∙ sym c.are_digits.ensures ∙ c.if-not-are_digits.false) c.parse.ensures.value.0 in

@@ -2,6 +2,8 @@
 #![tactic(auto)]
 
 mod area;
+mod line;
+mod mixer;
 pub mod examples;
 mod name;
 mod word;

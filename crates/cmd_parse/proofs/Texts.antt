@@ -5,7 +5,7 @@ use Rattle.std.specs.Prelude.{encode_utf8, encode_utf8_all, IsTrue, ◌↔◌, n
 use Rattle.std.specs.List.{list_any, list_all, before_first, after_first, position_or_len}
 use Rattle.std.specs.Char.{to_ascii_uppercase, to_ascii_lowercase}
 use Rattle.std.specs.Str.{IsUtf8, IsAscii, all_scalars, chars, bytes_eq}
-use Rattle.std.proofs.lemmas.Str.{encodes-chars, chars-encodes, scalars-chars, chars-IsAscii, encodes-IsAscii, encode_ascii, encodes_same, encodes-append, inside_one}
+use Rattle.std.proofs.lemmas.Str.{IsUtf8-from_ascii, encodes-chars, chars-encodes, scalars-chars, chars-IsAscii, encodes-IsAscii, encode_ascii, encodes_same, encodes-append, inside_one}
 use Rattle.std.proofs.lemmas.Str.Ascii.{lowercase-uppercase, uppercase_is, uppercase_ascii, IsAscii-nil, IsAscii-cons}
 use Rattle.std.proofs.lemmas.List.Folds.{list_any_none, list_any-append}
 use Rattle.std.proofs.lemmas.Bool.{cases_lt, cases_Bool, and_parts, ltb-true, eqb-true}
@@ -13,6 +13,7 @@ use Rattle.std.proofs.lemmas.List.{append-nil, map-append, get_or_default}
 use Rattle.std.proofs.lemmas.Slice.Eq.{bytes_eq-Decides}
 use Rattle.std.proofs.lemmas.Bool.Decides.{nat_tests, same_from_decides}
 use Rattle.amcp_text.proofs.FirstEnd.{before_first_at, before_first_none, after_first_at, list_any-before_first, cut_at_first}
+use Rattle.play_types.proofs.Texts.{bytes_eq-chars}
 use Rattle.cmd_parse.specs.Capitals.{are_capitals}
 use Rattle.history_model.specs.CommandWords.{is_word, is_same_name}
 
@@ -189,3 +190,9 @@ cut_text sought low text utf8 some =
       after = sym (chars-encodes (after_first p (chars text)) (scalars-drop (position_or_len p (chars text) + 1) (chars text) all))
       ∙ ap chars (sym parts.after ∙ ap (after_first p) same);
     }
+
+-- a text is one ASCII character where it is its one byte
+pub one_char : (c : ℕ) → c < 128 → (text : List ℕ) → IsUtf8 text → bytes_eq (chars text) (c ∷ []) ≡ bytes_eq text (c ∷ [])
+one_char c ascii text utf8 =
+    let one = IsAscii-cons c [] ascii IsAscii-nil in
+    ap (bytes_eq (chars text)) (sym (chars-IsAscii (c ∷ []) one)) ∙ sym (bytes_eq-chars text (c ∷ []) utf8 (IsUtf8-from_ascii (c ∷ []) one))

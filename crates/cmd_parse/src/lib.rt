@@ -2,8 +2,10 @@
 #![tactic(auto)]
 
 mod area;
+mod keyword;
 mod line;
 mod mixer;
 pub mod examples;
 mod name;
+mod options;
 mod word;

@@ -1,7 +1,7 @@
 //! Single words: fixed ones, names and whole numbers.
-ghost use Rattle.std.specs.Prelude.{◌≡◌, ◌≤◌, IsTrue, IfSome};
+ghost use Rattle.std.specs.Prelude.{◌≡◌, ◌≤◌, IsTrue, IfSome, is_some};
 ghost use Rattle.std.specs.Str.{chars};
-ghost use Rattle.amcp_text.specs.Numbers.{are_digits};
+ghost use Rattle.amcp_text.specs.Numbers.{are_digits, whole_number};
 ghost use Rattle.history_model.specs.CommandWords.{is_word, is_same_name, whole_within};
 ghost use Rattle.cmd_parse.specs.Capitals.{are_capitals};
 
@@ -34,6 +34,13 @@ pub fn whole_within(word: &str, least: u32, most: u32) -> Option<u32>
     } else {
         None
     }
+}
+
+/// Whether a word is a whole number, of any size.
+pub fn is_whole_number(word: &str) -> bool
+    ensures { result ≡ is_some (whole_number (chars word.now)) }
+{
+    !word.is_empty() && are_digits(word.as_bytes())
 }
 
 fn are_digits(text: &[u8]) -> bool

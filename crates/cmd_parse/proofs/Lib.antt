@@ -1,3 +1,5 @@
 pub mod Texts
 pub mod Numbers
 pub mod Areas
+pub mod Manner
+pub mod OptionLaws

@@ -1,6 +1,6 @@
 -- Whole numbers within a range.
 use Rattle.std.proofs.Common.{◌≡◌, ℕ, ◌<◌, ◌≤◌, ◌^◌, Bool, true, false, cond, ◌&&◌, nat_le, nat_lt, List, length, sym, ap, ◌∙◌, refl, inl, inr, arith}
-use Rattle.std.specs.Prelude.{Option, Some, None, Result, Ok, Err, option_and_then}
+use Rattle.std.specs.Prelude.{Option, Some, None, Result, Ok, Err, is_some, option_and_then}
 use Rattle.std.specs.Result.{result_ok, OkIff}
 use Rattle.std.specs.Str.{IsUtf8, chars}
 use Rattle.std.specs.Str.Parse.{ParsesUnsigned, digits_value}
@@ -27,6 +27,17 @@ no_number_letter least most text utf8 letter = elim (cases_Bool (nat_lt 0 (lengt
   | inl some ↦ rw (whole_number-chars text utf8, some, letter) refl
   | inr none ↦ rw (whole_number-chars text utf8, none) refl
 ]
+
+some_of : (test : Bool) (number : ℕ) → is_some (cond test (Some number) None) ≡ test
+some_of true number = refl
+some_of false number = refl
+
+-- a text is a whole number where it has characters and all are digits
+pub whole_number_empty : (text : List ℕ) → IsUtf8 text → length text ≡ 0 → is_some (whole_number (chars text)) ≡ false
+whole_number_empty text utf8 empty = rw (whole_number-chars text utf8, empty) refl
+
+pub whole_number_some : (text : List ℕ) → IsUtf8 text → 0 < length text → is_some (whole_number (chars text)) ≡ are_digits text
+whole_number_some text utf8 some = rw (whole_number-chars text utf8, lt-ltb 0 (length text) some) (some_of (are_digits text) (digits_value 10 text))
 
 -- the number of digits
 number_of_digits : (least most : ℕ) (text : List ℕ) → IsUtf8 text → 0 < length text → are_digits text ≡ true

@@ -56,8 +56,10 @@ impl Options {
     fn with_option(self, name: Name, words: &WordList, at: usize) -> Result<(Options, usize), Refusal>
         requires inside { at < length words.now }
         requires fits { length words.now < 2 ^ 64 }
+        requires frames { IfSome self.length (λ frames. 1 ≤ frames) }
         ensures value { result ≡ with_option name self words.now at }
         ensures within { IfOk result (λ read. at + 1 + read.1 ≤ length words.now) }
+        ensures frames { IfOk result (λ read. IfSome read.0.length (λ frames. 1 ≤ frames)) }
     {
         match words.get(at).and_then(keyword_of) {
             Some(keyword) => self.with_keyword(name, words, at, keyword),
@@ -76,8 +78,10 @@ impl Options {
     ) -> Result<(Options, usize), Refusal>
         requires inside { at < length words.now }
         requires fits { length words.now < 2 ^ 64 }
+        requires frames { IfSome self.length (λ frames. 1 ≤ frames) }
         ensures value { result ≡ with_keyword name self words.now at keyword }
         ensures within { IfOk result (λ read. at + 1 + read.1 ≤ length words.now) }
+        ensures frames { IfOk result (λ read. IfSome read.0.length (λ frames. 1 ≤ frames)) }
     {
         if self.has(keyword) {
             return Err(Refusal::Illegal(name, at));

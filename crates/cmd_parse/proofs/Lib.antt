@@ -3,3 +3,5 @@ pub mod Numbers
 pub mod Areas
 pub mod Manner
 pub mod OptionLaws
+pub mod Prefixes
+pub mod Hexadecimal

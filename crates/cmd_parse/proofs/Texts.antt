@@ -55,14 +55,14 @@ uppercase_bytes : (text : List ℕ) → IsUtf8 text → encode_utf8_all (map to_
 uppercase_bytes text utf8 = uppercase-encodes (chars text) ∙ ap (map to_ascii_uppercase) (encodes-chars text utf8)
 
 -- two texts in small letters are the same just where they are the same in capitals
-lowercase_of_uppercase : (text : List ℕ) → map to_ascii_lowercase (map to_ascii_uppercase text) ≡ map to_ascii_lowercase text
+pub lowercase_of_uppercase : (text : List ℕ) → map to_ascii_lowercase (map to_ascii_uppercase text) ≡ map to_ascii_lowercase text
 lowercase_of_uppercase [] = refl
 lowercase_of_uppercase (c ∷ cs) = rw (lowercase-uppercase c, lowercase_of_uppercase cs) refl
 
 uppercase-lowercase : (c : ℕ) → to_ascii_uppercase (to_ascii_lowercase c) ≡ to_ascii_uppercase c
 uppercase-lowercase c = grind (arith, nat_tests)
 
-uppercase_of_lowercase : (text : List ℕ) → map to_ascii_uppercase (map to_ascii_lowercase text) ≡ map to_ascii_uppercase text
+pub uppercase_of_lowercase : (text : List ℕ) → map to_ascii_uppercase (map to_ascii_lowercase text) ≡ map to_ascii_uppercase text
 uppercase_of_lowercase [] = refl
 uppercase_of_lowercase (c ∷ cs) = rw (uppercase-lowercase c, uppercase_of_lowercase cs) refl
 
@@ -82,7 +82,7 @@ same_in_capitals result one other utf8 utf8' h =
     equal
 
 -- a word whose characters stand before the small letters is ASCII, and in capitals already
-capitals_are_ascii : (fixed : List ℕ) → are_capitals fixed ≡ true → IsAscii fixed
+pub capitals_are_ascii : (fixed : List ℕ) → are_capitals fixed ≡ true → IsAscii fixed
 capitals_are_ascii [] h = IsAscii-nil
 capitals_are_ascii (c ∷ cs) h =
     let parts = and_parts (nat_lt c 97) (are_capitals cs) h in

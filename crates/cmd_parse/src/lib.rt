@@ -8,4 +8,6 @@ mod mixer;
 pub mod examples;
 mod name;
 mod options;
+mod producer;
+mod take;
 mod word;

@@ -5,3 +5,4 @@ pub mod Manner
 pub mod OptionLaws
 pub mod Prefixes
 pub mod Hexadecimal
+pub mod Clips

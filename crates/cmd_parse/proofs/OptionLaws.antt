@@ -22,11 +22,11 @@ use Rattle.cmd_parse.specs.Keyword.{keyword_of, option_named, is_cut}
 use Rattle.cmd_parse.specs.Options.{seen, result_seen, no_options, has_option, count_at, duration_at, transition_at, manner_at, with_given, with_keyword, with_word, with_option, is_number_at}
 use Rattle.cmd_parse.specs.declared.keyword.Keyword.{Keyword}
 use Rattle.cmd_parse.specs.declared.keyword.Keyword.TheVariants.{Loop, Seek, Length, Auto, Transition}
-use Rattle.cmd_parse.specs.declared.options.Options.{Options}
+use Rattle.cmd_parse.specs.declared.options.Given.{Given}
 use Rattle.cmd_parse.proofs.Manner.{word_here, manner_from}
 
 -- what options that are written make of the options that are read
-abbrev pub read_of : List Written → Options
+abbrev pub read_of : List Written → Given
 read_of all = record {
   looped = is_some (given meant.Loop all);
   transition = option_map transition_of (given meant.Transition all);
@@ -146,7 +146,7 @@ is_option_of option written found h = ap (λ o. option_map_or (is_same option) o
 abbrev Found : Type 0
 Found = Option Written
 
-abbrev read_by : Found → Found → Found → Found → Found → Options
+abbrev read_by : Found → Found → Found → Found → Found → Given
 read_by looped transition seek length auto = record {
   looped = is_some looped;
   transition = option_map transition_of transition;
@@ -156,7 +156,7 @@ read_by looped transition seek length auto = record {
 }
 
 -- an option that was not given, as it is given
-abbrev read_with : List Written → Written → OptionName → Options
+abbrev read_with : List Written → Written → OptionName → Given
 read_with before written meant.Loop = record (read_of before) { looped = true }
 read_with before written meant.Transition = record (read_of before) { transition = Some (transition_of written) }
 read_with before written meant.Seek = record (read_of before) { seek = Some (number_of meant.Seek written) }
@@ -227,17 +227,17 @@ abbrev written_at : ℕ → List ℕ → Option OptionName → List (List ℕ) �
 written_at at word option rest = record { at = at; word = word; more = take (option_len word option rest) rest }
 
 -- what reading an option gives: the options with it, and how many words after its first it takes
-abbrev one_more : Name → List Written → ℕ → List ℕ → OptionName → List (List ℕ) → Result (Options × ℕ) Refusal
+abbrev one_more : Name → List Written → ℕ → List ℕ → OptionName → List (List ℕ) → Result (Given × ℕ) Refusal
 one_more name before at word option rest =
     let written = written_at at word (Some option) rest in
     unless (option_refusal name before written (Some option)) (read_of (before ++ written ∷ []), option_len word (Some option) rest)
 
 -- options, and that the last of them took one word after its first
-abbrev with_one : Options → Options × ℕ
+abbrev with_one : Given → Given × ℕ
 with_one options = (options, 1)
 
 -- the numbers of SEEK and LENGTH
-counted : (name : Name) (words : List (List ℕ)) (at : ℕ) (word : List ℕ) (rest : List (List ℕ)) (option : OptionName) (next : ℕ → Options)
+counted : (name : Name) (words : List (List ℕ)) (at : ℕ) (word : List ℕ) (rest : List (List ℕ)) (option : OptionName) (next : ℕ → Given)
     → drop (at + 1) words ≡ rest
     → (count_at name (least_number option) words (at + 1) >>= λ count. Ok (with_one (next count)))
     ≡ unless (number_refusal name at option (slice_get (take 1 rest) 0)) (with_one (next (number_of option (record { at = at; word = word; more = take 1 rest }))))
@@ -331,7 +331,7 @@ transition_read name words rest at word kind h is = elim (cases_Bool (has_no_num
   | inr number ↦ transition_read_number name words rest at word kind h is number
 ]
 
-abbrev with_transition : Options → TransView × ℕ → Options × ℕ
+abbrev with_transition : Given → TransView × ℕ → Given × ℕ
 with_transition options read = (record options { transition = Some read.0 }, read.1)
 
 -- an option that was not given is read as it is written
@@ -356,10 +356,10 @@ given_read name before words at word rest (Transition kind) h is absent =
     let named = keyword_named word ∙ ap (option_map option_named) is in
     rw (absent, read_push before (written_at at word (Some meant.Transition) rest) meant.Transition named absent)
     (ap (λ read. read >>= λ r. Ok (with_transition (read_of before) r)) (transition_read name words rest at word kind h (keyword_kind word kind is))
-      ∙ unless_then _ _ (with_transition (read_of before)))
+    ∙ unless_then _ _ (with_transition (read_of before)))
 
 -- a word is read as the option that it begins, or refused
-abbrev one_step : Name → List Written → ℕ → List ℕ → Option OptionName → List (List ℕ) → Result (Options × ℕ) Refusal
+abbrev one_step : Name → List Written → ℕ → List ℕ → Option OptionName → List (List ℕ) → Result (Given × ℕ) Refusal
 one_step name before at word option rest =
     let written = written_at at word option rest in
     unless (option_refusal name before written option) (read_of (before ++ written ∷ []), option_len word option rest)
@@ -390,13 +390,13 @@ one_read name before words at word rest h =
     ∙ ap (λ option. one_step name before at word option rest) (sym (keyword_named word))
 
 -- the options that are read from the words that are left, of which the first are passed over
-abbrev pub run : Name → List (List ℕ) → ℕ → ℕ → List (List ℕ) → Options → Result Options Refusal
+abbrev pub run : Name → List (List ℕ) → ℕ → ℕ → List (List ℕ) → Given → Result Given Refusal
 run name words passed at [] options = Ok options
 run name words (suc passed) at (word ∷ rest) options = run name words passed (at + 1) rest options
 run name words zero at (word ∷ rest) options = with_option name options words at >>= λ read. run name words read.1 (at + 1) rest read.0
 
 -- words that are passed over may be left out
-pub run_passed : (name : Name) (words : List (List ℕ)) (passed at : ℕ) (rest : List (List ℕ)) (options : Options)
+pub run_passed : (name : Name) (words : List (List ℕ)) (passed at : ℕ) (rest : List (List ℕ)) (options : Given)
     → run name words passed at rest options ≡ run name words 0 (at + passed) (drop passed rest) options
 run_passed name words zero at rest options = rw (add-zero at) refl
 run_passed name words (suc passed) at [] options = refl
@@ -404,7 +404,7 @@ run_passed name words (suc passed) at (word ∷ rest) options =
     let e : at + suc passed ≡ at + 1 + passed = omega arith in
     rw e (run_passed name words passed (at + 1) rest options)
 
-run_step : (name : Name) (words : List (List ℕ)) (at : ℕ) (rest : List (List ℕ)) (one : Options × ℕ) (refusal later : Option Refusal) (all : Options)
+run_step : (name : Name) (words : List (List ℕ)) (at : ℕ) (rest : List (List ℕ)) (one : Given × ℕ) (refusal later : Option Refusal) (all : Given)
     → run name words one.1 (at + 1) rest one.0 ≡ unless later all
     → (unless refusal one >>= λ read. run name words read.1 (at + 1) rest read.0) ≡ unless (cond (is_some refusal) refusal later) all
 run_step name words at rest one None later all h = h
@@ -437,16 +437,16 @@ run_options name words at =
     ap result_seen (run_is name words 0 at (drop at words) [] refl) ∙ seen_unless (options_refusal name [] all) all
 
 -- one option, and what follows it
-abbrev then_run : Name → List (List ℕ) → ℕ → Result (Options × ℕ) Refusal → Result Options Refusal
+abbrev then_run : Name → List (List ℕ) → ℕ → Result (Given × ℕ) Refusal → Result Given Refusal
 then_run name words at step = step >>= λ read. run name words 0 (at + 1 + read.1) (drop (at + 1 + read.1) words) read.0
 
-run_one : (name : Name) (words : List (List ℕ)) (at : ℕ) (step : Result (Options × ℕ) Refusal)
+run_one : (name : Name) (words : List (List ℕ)) (at : ℕ) (step : Result (Given × ℕ) Refusal)
     → (step >>= λ read. run name words read.1 (at + 1) (drop (at + 1) words) read.0) ≡ then_run name words at step
 run_one name words at (Ok read) =
     run_passed name words read.1 (at + 1) (drop (at + 1) words) read.0 ∙ ap (λ rest. run name words 0 (at + 1 + read.1) rest read.0) (drop-drop read.1 (at + 1) words)
 run_one name words at (Err refusal) = refl
 
-pub run_at : (name : Name) (words : List (List ℕ)) (at : ℕ) (options : Options) (step : Result (Options × ℕ) Refusal) → at < length words → step ≡ with_option name options words at
+pub run_at : (name : Name) (words : List (List ℕ)) (at : ℕ) (options : Given) (step : Result (Given × ℕ) Refusal) → at < length words → step ≡ with_option name options words at
     → run name words 0 at (drop at words) options ≡ then_run name words at step
 run_at name words at options step inside read =
     let first : drop at words ≡ get_or words at [] ∷ drop (at + 1) words = rw add-one (drop-cons words at [] inside) in
@@ -454,5 +454,5 @@ run_at name words at options step inside read =
     ∙ ap (λ one. one >>= λ more. run name words more.1 (at + 1) (drop (at + 1) words) more.0) (sym read)
     ∙ run_one name words at step
 
-pub run_end : (name : Name) (words : List (List ℕ)) (at : ℕ) (options : Options) → length words ≤ at → run name words 0 at (drop at words) options ≡ Ok options
+pub run_end : (name : Name) (words : List (List ℕ)) (at : ℕ) (options : Given) → length words ≤ at → run name words 0 at (drop at words) options ≡ Ok options
 run_end name words at options end = ap (λ rest. run name words 0 at rest options) (drop_all at words end)

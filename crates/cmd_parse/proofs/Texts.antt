@@ -74,11 +74,12 @@ same_in_capitals result one other utf8 utf8' h =
     let upper = map to_ascii_uppercase in
     let lower = map to_ascii_lowercase in
     let equal = bytes_eq-Decides (upper (chars one)) (upper (chars other)) in
-    same_from_decides result (bytes_eq (upper (chars one)) (upper (chars other)))
-    (λ e. encodes_same (upper (chars one)) (upper (chars other))
-      (uppercase_bytes one utf8 ∙ sym (uppercase_of_lowercase one) ∙ ap upper (h.0 e) ∙ uppercase_of_lowercase other ∙ sym (uppercase_bytes other utf8')),
+    same_from_decides result (bytes_eq (upper (chars one)) (upper (chars other))) (
+      λ e. encodes_same (upper (chars one)) (upper (chars other))
+          (uppercase_bytes one utf8 ∙ sym (uppercase_of_lowercase one) ∙ ap upper (h.0 e) ∙ uppercase_of_lowercase other ∙ sym (uppercase_bytes other utf8')),
       λ e. h.1 (sym (lowercase_of_uppercase one) ∙ ap lower (sym (uppercase_bytes one utf8) ∙ ap encode_utf8_all e ∙ uppercase_bytes other utf8')
-      ∙ lowercase_of_uppercase other))
+          ∙ lowercase_of_uppercase other),
+    )
     equal
 
 -- a word whose characters stand before the small letters is ASCII, and in capitals already
@@ -186,9 +187,9 @@ cut_text sought low text utf8 some =
     record {
       has = has;
       before = sym (chars-encodes (before_first p (chars text)) (scalars-take (position_or_len p (chars text)) (chars text) all))
-      ∙ ap chars (sym parts.before ∙ ap (before_first p) same);
+          ∙ ap chars (sym parts.before ∙ ap (before_first p) same);
       after = sym (chars-encodes (after_first p (chars text)) (scalars-drop (position_or_len p (chars text) + 1) (chars text) all))
-      ∙ ap chars (sym parts.after ∙ ap (after_first p) same);
+          ∙ ap chars (sym parts.after ∙ ap (after_first p) same);
     }
 
 -- a text is one ASCII character where it is its one byte

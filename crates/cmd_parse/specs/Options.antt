@@ -12,10 +12,10 @@ use Rattle.history_model.specs.CommandOptions as meant
 use Rattle.cmd_parse.specs.Keyword.{keyword_of, is_cut}
 use Rattle.cmd_parse.specs.declared.keyword.Keyword.{Keyword}
 use Rattle.cmd_parse.specs.declared.keyword.Keyword.TheVariants.{Loop, Seek, Length, Auto, Transition}
-use Rattle.cmd_parse.specs.declared.options.Options.{Options}
+use Rattle.cmd_parse.specs.declared.options.Given.{Given}
 
 -- what the options say
-abbrev pub seen : Options → meant.Options
+abbrev pub seen : Given → meant.Options
 seen options = record {
   looped = options.looped;
   transition = unwrap_or options.transition cut;
@@ -24,16 +24,16 @@ seen options = record {
   auto = options.auto;
 }
 
-abbrev pub result_seen : Result Options Refusal → Result meant.Options Refusal
+abbrev pub result_seen : Result Given Refusal → Result meant.Options Refusal
 result_seen (Ok options) = Ok (seen options)
 result_seen (Err refusal) = Err refusal
 
 -- before any option
-abbrev pub no_options : Options
+abbrev pub no_options : Given
 no_options = record { looped = false; transition = None; seek = None; length = None; auto = false }
 
 -- an option was given
-abbrev pub has_option : Options → Keyword → Bool
+abbrev pub has_option : Given → Keyword → Bool
 has_option options Loop = options.looped
 has_option options Seek = is_some options.seek
 has_option options Length = is_some options.length
@@ -61,9 +61,9 @@ is_number_at words at = is_some (option_and_then whole_number (slice_get words a
 unfoldable pub manner_at : List (List ℕ) → ℕ → ℕ × Bool
 manner_at words at =
     if stands_at (codes "LINEAR") words at then
-      (if is_direction_at words (at + 1) then (2, is_leftward_at words (at + 1)) else (1, false))
+    (if is_direction_at words (at + 1) then (2, is_leftward_at words (at + 1)) else (1, false))
     else if is_direction_at words at then
-      (if stands_at (codes "LINEAR") words (at + 1) then 2 else 1, is_leftward_at words at)
+    (if stands_at (codes "LINEAR") words (at + 1) then 2 else 1, is_leftward_at words at)
     else (0, false)
 
 -- the duration of a transition, and how many words it takes
@@ -82,7 +82,7 @@ transition_at name kind words at = do
   Ok (trans_of kind duration.0 Linear manner.1, duration.1 + manner.0)
 
 -- the options with one more, and how many words after its first it takes
-abbrev pub with_given : Name → Options → List (List ℕ) → ℕ → Keyword → Result (Options × ℕ) Refusal
+abbrev pub with_given : Name → Given → List (List ℕ) → ℕ → Keyword → Result (Given × ℕ) Refusal
 with_given name options words at Loop = Ok (record options { looped = true }, 0)
 with_given name options words at Auto = Ok (record options { auto = true }, 0)
 with_given name options words at Seek = do
@@ -96,15 +96,15 @@ with_given name options words at (Transition kind) = do
   Ok (record options { transition = Some read.0 }, read.1)
 
 -- the same, where it may be there already
-unfoldable pub with_keyword : Name → Options → List (List ℕ) → ℕ → Keyword → Result (Options × ℕ) Refusal
+unfoldable pub with_keyword : Name → Given → List (List ℕ) → ℕ → Keyword → Result (Given × ℕ) Refusal
 with_keyword name options words at keyword =
     if has_option options keyword then Err (Illegal name at) else with_given name options words at keyword
 
 -- the same, where it may be none
-abbrev pub with_word : Name → Options → List (List ℕ) → ℕ → Option Keyword → Result (Options × ℕ) Refusal
+abbrev pub with_word : Name → Given → List (List ℕ) → ℕ → Option Keyword → Result (Given × ℕ) Refusal
 with_word name options words at None = Err (Illegal name at)
 with_word name options words at (Some keyword) = with_keyword name options words at keyword
 
 -- the options with the one that begins at a position, and how many words after its first it takes
-unfoldable pub with_option : Name → Options → List (List ℕ) → ℕ → Result (Options × ℕ) Refusal
+unfoldable pub with_option : Name → Given → List (List ℕ) → ℕ → Result (Given × ℕ) Refusal
 with_option name options words at = with_word name options words at (option_and_then keyword_of (slice_get words at))

@@ -2,12 +2,15 @@
 #![tactic(auto)]
 
 mod area;
+mod command;
+pub mod examples;
 mod keyword;
 mod line;
 mod mixer;
-pub mod examples;
 mod name;
 mod options;
 mod producer;
 mod take;
 mod word;
+
+pub use command::parse;

@@ -1,23 +1,36 @@
 //! The options of LOADBG, LOAD and PLAY.
 ghost use Rattle.std.specs.Prelude.{◌≡◌, ◌+◌, ◌^◌, ◌<◌, ◌≤◌, length, slice_get, IfOk, IfSome, OnOk, true, false};
 ghost use Rattle.history_model.specs.CommandOptions.{options_at};
-ghost use Rattle.cmd_parse.specs.Options.{count_at, duration_at, has_option, is_direction_at, is_leftward_at, is_number_at, manner_at, no_options, result_seen, transition_at, with_keyword, with_option};
+ghost use Rattle.cmd_parse.specs.Options.{count_at, duration_at, has_option, is_direction_at, is_leftward_at, is_number_at, manner_at, no_options, result_seen, seen, transition_at, with_keyword, with_option};
 
 use crate::keyword::{Keyword, keyword_of};
 use crate::line::stands_at;
 use crate::word::{is_whole_number, whole_within};
 use amcp_text::WordList;
 use play_types::{Curve, Kind, Name, Refusal, Trans};
+use std::marker::Model;
 
-/// What options say. Without a transition it is a cut, without a seek 0, and without a length a clip is played to its end.
+/// What options say: how a clip is played, which transition brings it in, and whether it starts by itself.
 #[derive(Clone, Copy)]
 pub struct Options {
-    pub looped: bool,
-    pub transition: Option<Trans>,
-    pub seek: Option<u32>,
-    /// At least 1.
-    pub length: Option<u32>,
-    pub auto: bool,
+    looped: bool,
+    transition: Trans,
+    seek: u32,
+    length: Option<u32>,
+    auto: bool,
+}
+
+impl Model for Options {
+    ghost use Rattle.std.specs.Prelude.{◌≤◌, IfSome};
+    ghost use Rattle.history_model.specs.CommandOptions.{Options};
+
+    ghost Value = { Options };
+
+    ghost view = { λ o. record { looped = o.looped; transition = o.transition; seek = o.seek; length = o.length; auto = o.auto } };
+
+    ghost invariant = { λ o. IfSome o.length (λ frames. 1 ≤ frames) };
+
+    ghost inverse = { λ v. record { looped = v.looped; transition = v.transition; seek = v.seek; length = v.length; auto = v.auto } };
 }
 
 impl Options {
@@ -26,10 +39,64 @@ impl Options {
     /// Refused is the first word, from the left, that begins no option, repeats one, or is a wrong number, or else the
     /// end of the line where a number has to follow.
     pub fn at(name: Name, words: &WordList, first: usize) -> Result<Options, Refusal>
+        ensures { result ≡ options_at name words.now first }
+    {
+        let given = Given::at(name, words, first)?;
+        Ok(given.options())
+    }
+
+    pub fn looped(self) -> bool
+        ensures { result ≡ self.looped }
+    {
+        self.looped
+    }
+
+    /// A cut where none was given.
+    pub fn transition(self) -> Trans
+        ensures { result ≡ self.transition }
+    {
+        self.transition
+    }
+
+    /// In frames, 0 where none was given.
+    pub fn seek(self) -> u32
+        ensures { result ≡ self.seek }
+    {
+        self.seek
+    }
+
+    /// In frames, at least 1. Without it a clip is played to its end.
+    pub fn length(self) -> Option<u32>
+        ensures value { result ≡ self.length }
+        ensures range { IfSome result (λ frames. 1 ≤ frames) }
+    {
+        self.length
+    }
+
+    pub fn auto(self) -> bool
+        ensures { result ≡ self.auto }
+    {
+        self.auto
+    }
+}
+
+/// The options that were given so far.
+#[derive(Clone, Copy)]
+struct Given {
+    looped: bool,
+    transition: Option<Trans>,
+    seek: Option<u32>,
+    length: Option<u32>,
+    auto: bool,
+}
+
+impl Given {
+    /// The options that are given in a line from a position on.
+    fn at(name: Name, words: &WordList, first: usize) -> Result<Given, Refusal>
         ensures value { result_seen result ≡ options_at name words.now first }
         ensures frames { IfOk result (λ options. IfSome options.length (λ frames. 1 ≤ frames)) }
     {
-        let mut options = Options::none();
+        let mut options = Given::none();
         let mut at = first;
         while at < words.len() {
             let (more_options, more) = options.with_option(name, words, at)?;
@@ -39,10 +106,24 @@ impl Options {
         Ok(options)
     }
 
-    fn none() -> Options
-        ensures { result ≡ no_options }
+    /// What the options say.
+    fn options(self) -> Options
+        requires { IfSome self.length (λ frames. 1 ≤ frames) }
+        ensures { result ≡ seen self }
     {
         Options {
+            looped: self.looped,
+            transition: self.transition.unwrap_or(Trans::cut()),
+            seek: self.seek.unwrap_or(0),
+            length: self.length,
+            auto: self.auto,
+        }
+    }
+
+    fn none() -> Given
+        ensures { result ≡ no_options }
+    {
+        Given {
             looped: false,
             transition: None,
             seek: None,
@@ -53,7 +134,12 @@ impl Options {
 
     /// The options with the one that begins at a position, and how many words after its first belong to it.
     #[tactic(auto, unfolding(crate::specs::Options::with_option))]
-    fn with_option(self, name: Name, words: &WordList, at: usize) -> Result<(Options, usize), Refusal>
+    fn with_option(
+        self,
+        name: Name,
+        words: &WordList,
+        at: usize,
+    ) -> Result<(Given, usize), Refusal>
         requires inside { at < length words.now }
         requires fits { length words.now < 2 ^ 64 }
         requires frames { IfSome self.length (λ frames. 1 ≤ frames) }
@@ -75,7 +161,7 @@ impl Options {
         words: &WordList,
         at: usize,
         keyword: Keyword,
-    ) -> Result<(Options, usize), Refusal>
+    ) -> Result<(Given, usize), Refusal>
         requires inside { at < length words.now }
         requires fits { length words.now < 2 ^ 64 }
         requires frames { IfSome self.length (λ frames. 1 ≤ frames) }
@@ -88,31 +174,25 @@ impl Options {
         }
         match keyword {
             Keyword::Loop => Ok((
-                Options {
+                Given {
                     looped: true,
                     ..self
                 },
                 0,
             )),
-            Keyword::Auto => Ok((
-                Options {
-                    auto: true,
-                    ..self
-                },
-                0,
-            )),
+            Keyword::Auto => Ok((Given { auto: true, ..self }, 0)),
             Keyword::Seek => {
                 let seek = Some(count_at(name, words, at + 1, 0)?);
-                Ok((Options { seek, ..self }, 1))
+                Ok((Given { seek, ..self }, 1))
             }
             Keyword::Length => {
                 let length = Some(count_at(name, words, at + 1, 1)?);
-                Ok((Options { length, ..self }, 1))
+                Ok((Given { length, ..self }, 1))
             }
             Keyword::Transition(kind) => {
                 let (transition, more) = transition_at(name, words, at + 1, kind)?;
                 Ok((
-                    Options {
+                    Given {
                         transition: Some(transition),
                         ..self
                     },
@@ -154,7 +234,12 @@ fn count_at(name: Name, words: &WordList, at: usize, least: u32) -> Result<u32, 
 
 /// The transition of this kind whose words stand from a position on, and how many they are.
 #[tactic(auto, unfolding(crate::specs::Options::transition_at))]
-fn transition_at(name: Name, words: &WordList, at: usize, kind: Kind) -> Result<(Trans, usize), Refusal>
+fn transition_at(
+    name: Name,
+    words: &WordList,
+    at: usize,
+    kind: Kind,
+) -> Result<(Trans, usize), Refusal>
     requires inside { at ≤ length words.now }
     requires fits { length words.now < 2 ^ 64 }
     ensures value { result ≡ transition_at name kind words.now at }

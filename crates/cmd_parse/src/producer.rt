@@ -67,10 +67,7 @@ impl Producer {
     fn plain(spec: Spec) -> Producer
         ensures { result ≡ plain spec }
     {
-        Producer {
-            spec,
-            frames: 0,
-        }
+        Producer { spec, frames: 0 }
     }
 
     /// The first clip of this name in the media table.

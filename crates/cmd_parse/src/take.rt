@@ -1,14 +1,12 @@
 //! The take that a line asks for.
-ghost use Rattle.std.specs.Prelude.{◌≡◌, ◌+◌, ◌^◌, ◌<◌, ◌≤◌, IfSome, unwrap_or};
+ghost use Rattle.std.specs.Prelude.{◌≡◌, ◌+◌, ◌^◌, ◌<◌, ◌≤◌};
 ghost use Rattle.play_types.specs.Take.{IsTake, take_of};
-ghost use Rattle.play_types.specs.Transition.{cut};
 ghost use Rattle.history_model.specs.CommandProducer.{played_length, take_at, take_with};
-ghost use Rattle.cmd_parse.specs.Options.{seen};
 
 use crate::options::Options;
 use crate::producer::Producer;
 use amcp_text::WordList;
-use play_types::{Config, MediaNames, Name, Refusal, Spec, Take, Trans};
+use play_types::{Config, MediaNames, Name, Refusal, Spec, Take};
 
 /// The take of the producer at a position and the options after it. The options are judged before the producer.
 #[tactic(auto, unfolding(history_model::specs::CommandProducer::take_at))]
@@ -32,16 +30,15 @@ pub fn take_at(
 
 /// The take of a producer with these options. A clip is played from one of its frames on.
 fn take_with(name: Name, at: usize, options: Options, producer: Producer) -> Result<Take, Refusal>
-    requires { IfSome options.length (λ frames. 1 ≤ frames) }
-    ensures { result ≡ take_with name at (seen options) producer.frames producer.spec }
+    ensures { result ≡ take_with name at options producer.frames producer.spec }
 {
     match producer.spec() {
         Spec::Clip(id) => {
-            let seek = options.seek.unwrap_or(0);
+            let seek = options.seek();
             if seek >= producer.frames() {
                 return Err(Refusal::Illegal(name, at));
             }
-            let length = played_length(options.length, producer.frames() - seek);
+            let length = played_length(options.length(), producer.frames() - seek);
             Ok(new_take(Spec::Clip(id), options, length))
         }
         Spec::Colour(value) => Ok(new_take(Spec::Colour(value), options, 0)),
@@ -62,12 +59,17 @@ fn played_length(length: Option<u32>, rest: u32) -> u32
 
 /// So many frames of a producer, with these options.
 fn new_take(spec: Spec, options: Options, length: u32) -> Take
-    requires { IsTake spec (unwrap_or options.seek 0) length }
-    ensures { result ≡ take_of spec options.looped (unwrap_or options.seek 0) length (unwrap_or options.transition cut) options.auto }
+    requires { IsTake spec options.seek length }
+    ensures { result ≡ take_of spec options.looped options.seek length options.transition options.auto }
 {
-    let transition = options.transition.unwrap_or(Trans::cut());
-    let seek = options.seek.unwrap_or(0);
-    match Take::new(spec, options.looped, seek, length, transition, options.auto) {
+    match Take::new(
+        spec,
+        options.looped(),
+        options.seek(),
+        length,
+        options.transition(),
+        options.auto(),
+    ) {
         Some(take) => take,
         None => unreachable!(),
     }

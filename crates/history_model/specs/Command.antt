@@ -64,11 +64,17 @@ least_words Version = 0
 least_words Bye = 0
 least_words Kill = 0
 
+-- the place that stands alone after a name
+abbrev pub only_place : ConfigView → Name → List (List ℕ) → Result PlaceView Refusal
+only_place config name words = do
+  area ← area_at config name words 1
+  ended name words 2 (place_of area)
+
 -- a command of a place alone
 abbrev pub place_command : ConfigView → Name → List (List ℕ) → (PlaceView → Cmd) → Result Cmd Refusal
 place_command config name words command = do
-  area ← area_at config name words 1
-  ended name words 2 (command (place_of area))
+  place ← only_place config name words
+  Ok (command place)
 
 -- PLAY: without a producer it starts what is in the background
 unfoldable pub play : ConfigView → List MediaNameView → List (List ℕ) → Result Cmd Refusal

@@ -11,7 +11,7 @@ returns-in_err-channel c =
     rw (e, ← c.in_err-channel.ensures.value) (search rules)
 
 pub returns-in_default : goal.returns-in_default
-returns-in_default c = 
+returns-in_default c =
     let whole : IsWhole c.args.word.now = rw c.in_default.is at (split_word c.args.word.now c.split_once.result c.utf8.word c.split_once.ensures.cases) in
     rw (area_whole c.args.config.now c.args.name c.args.at c.args.word.now whole, ← c.in_ok-channel.ensures.value) refl
 

@@ -2,7 +2,7 @@ use Rattle.std.proofs.Common.{◌≡◌, ◌-◌, ◌≤◌, length, drop}
 use Rattle.std.specs.Prelude.{IfSome}
 use Rattle.cmd_parse.specs.Options.{no_options}
 use Rattle.cmd_parse.proofs.OptionLaws.{run}
-use Rattle.cmd_parse.proofs.options.Options.at.Given as goal
+use Rattle.cmd_parse.proofs.options.Given.at.Given as goal
 
 abbrev pub invariant-loop-at : goal.invariant-loop-at
 invariant-loop-at l = record {

@@ -25,3 +25,9 @@ pub mod Script
 pub mod ScriptInput
 pub mod ReplyText
 pub mod ScriptOutput
+pub mod CommandWords
+pub mod CommandPlace
+pub mod CommandOptions
+pub mod CommandProducer
+pub mod CommandMixer
+pub mod Command

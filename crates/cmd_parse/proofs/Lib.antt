@@ -1,0 +1,8 @@
+pub mod Texts
+pub mod Numbers
+pub mod Areas
+pub mod Manner
+pub mod OptionLaws
+pub mod Prefixes
+pub mod Hexadecimal
+pub mod Clips

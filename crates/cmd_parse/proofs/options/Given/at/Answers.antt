@@ -1,0 +1,28 @@
+use Rattle.std.proofs.Common.{◌≡◌, ◌+◌, drop, refl, sym, ap, ◌∙◌, arith, rules}
+use Rattle.std.specs.Prelude.{Result, Ok, Err}
+use Rattle.cmd_parse.specs.Options.{no_options, result_seen}
+use Rattle.cmd_parse.proofs.OptionLaws.{run, run_at, run_end, run_options}
+use Rattle.cmd_parse.proofs.options.Given.at.Goals as goal
+
+pub returns-in_err-more_options-clause-value : goal.returns-in_err-more_options-clause-value
+returns-in_err-more_options-clause-value c =
+    let words = c.args.words.now in
+    let e = run_at c.args.name words c.loop-at.at c.loop-at.options _ (omega arith) c.in_err-more_options.ensures.value in
+    rw (← run_options c.args.name words c.args.first, ← c.loop-at.invariant.same, e) (search rules)
+
+pub loop-at-preserved : goal.loop-at-preserved
+loop-at-preserved c =
+    let words = c.args.words.now in
+    let more = c.in_ok-more_options.more in
+    let e = run_at c.args.name words c.loop-at.at c.loop-at.options _ (omega arith) c.in_ok-more_options.ensures.value in
+    let next : c.loop-at.at + (1 + more) ≡ c.loop-at.at + 1 + more = omega arith in
+    record {
+      same = rw next (sym e ∙ c.loop-at.invariant.same);
+      frames = c.in_ok-more_options.ensures.frames;
+    }
+
+pub returns-clause-value : goal.returns-clause-value
+returns-clause-value c =
+    let words = c.args.words.now in
+    let e = run_end c.args.name words c.loop-at.at c.loop-at.options (omega arith) in
+    rw (← run_options c.args.name words c.args.first, ← c.loop-at.invariant.same, e) refl

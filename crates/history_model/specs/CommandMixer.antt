@@ -89,10 +89,10 @@ has_duration words at = nat_lt at (length words) && not (stands_at (codes "DEFER
 unfoldable pub timing_at : List (List ℕ) → ℕ → Result Timing Refusal
 timing_at words at =
     if has_duration words at then
-      (do
-        word ← required Mixer words at
-        duration ← legal Mixer at (whole_within 0 1000000 word)
-        deferral_at duration words (if stands_at (codes "LINEAR") words (at + 1) then at + 2 else at + 1))
+    (do
+      word ← required Mixer words at
+      duration ← legal Mixer at (whole_within 0 1000000 word)
+      deferral_at duration words (if stands_at (codes "LINEAR") words (at + 1) then at + 2 else at + 1))
     else deferral_at 0 words at
 
 -- what stands after the numbers of a property: a keyer has no duration
@@ -104,10 +104,10 @@ timing_of property words = timing_at words (3 + number_count property)
 abbrev pub property_command : PlaceView → Prop → List (List ℕ) → Result Cmd Refusal
 property_command place property words =
     if nat_lt 3 (length words) then
-      (do
-        numbers ← numbers_of property words
-        timing ← timing_of property words
-        Ok (cmd.Set (setting_of place property numbers timing.duration Linear timing.deferred)))
+    (do
+      numbers ← numbers_of property words
+      timing ← timing_of property words
+      Ok (cmd.Set (setting_of place property numbers timing.duration Linear timing.deferred)))
     else Ok (cmd.Value place property)
 
 -- all mixer values of a channel, or of a layer of it

@@ -75,13 +75,13 @@ named_producer media name word None = clip_producer name (clip_named media word)
 unfoldable pub producer_of : ConfigView → List MediaNameView → Name → ℕ → List ℕ → Result Producer Refusal
 producer_of config media name at word =
     if is_colour_word word then
-      (do
-        value ← legal name at (colour_of_digits (drop 1 word))
-        Ok (plain (Colour value)))
+    (do
+      value ← legal name at (colour_of_digits (drop 1 word))
+      Ok (plain (Colour value)))
     else if is_route_word word then
-      (do
-        area ← legal name at (result_ok (area_of config name at (drop 8 word)))
-        Ok (plain (route_to area.channel area.layer)))
+    (do
+      area ← legal name at (result_ok (area_of config name at (drop 8 word)))
+      Ok (plain (route_to area.channel area.layer)))
     else named_producer media name word (named_colour word)
 
 -- the frames of a clip that are played from a frame on: so many where a length is given, but not past its end

@@ -1,4 +1,8 @@
-//! The words of a client's line as a command.
+//! The words of a client's line as a command, or why they are refused.
+//!
+//! `parse` takes the words of one line, the channels of the configuration and the names of the media table. What it
+//! answers is the value of `history_model`'s definition of commands, for every line: its forms, its options, and which
+//! refusal comes first. It takes no memory. The module `examples` shows what lines mean by that definition.
 #![tactic(auto)]
 
 mod area;
@@ -14,3 +18,6 @@ mod take;
 mod word;
 
 pub use command::parse;
+
+#[cfg(test)]
+mod tests;

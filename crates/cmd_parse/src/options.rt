@@ -134,12 +134,7 @@ impl Given {
 
     /// The options with the one that begins at a position, and how many words after its first belong to it.
     #[tactic(auto, unfolding(crate::specs::Options::with_option))]
-    fn with_option(
-        self,
-        name: Name,
-        words: &WordList,
-        at: usize,
-    ) -> Result<(Given, usize), Refusal>
+    fn with_option(self, name: Name, words: &WordList, at: usize) -> Result<(Given, usize), Refusal>
         requires inside { at < length words.now }
         requires fits { length words.now < 2 ^ 64 }
         requires frames { IfSome self.length (λ frames. 1 ≤ frames) }

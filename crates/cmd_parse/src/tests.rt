@@ -143,7 +143,11 @@ fn lines(rt: HostRuntime) -> Result<(), Fail> {
         let words = tokens(rt.alloc(), line)?;
         assert!(rt; !words.is_empty(), "{line}");
         let asked = parse(&words, &config, &media);
-        assert_eq!(rt; format!(in rt.alloc(); "{asked:?}")?.as_str(), wanted, "{line}");
+        assert_eq!(rt;
+            format!(in rt.alloc(); "{asked:?}")?.as_str(),
+            wanted,
+            "{line}"
+        );
     }
     Ok(())
 }

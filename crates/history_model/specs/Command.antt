@@ -81,9 +81,9 @@ unfoldable pub play : ConfigView → List MediaNameView → List (List ℕ) → 
 play config media words = do
   area ← area_at config Play words 1
   if length words == 2 then Ok (cmd.Play (place_of area))
-    else (do
-      take ← take_at config media Play words 2
-      Ok (cmd.PlayTake (place_of area) (played take)))
+      else (do
+        take ← take_at config media Play words 2
+        Ok (cmd.PlayTake (place_of area) (played take)))
 
 unfoldable pub load_bg : ConfigView → List MediaNameView → List (List ℕ) → Result Cmd Refusal
 load_bg config media words = do

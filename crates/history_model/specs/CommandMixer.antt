@@ -1,8 +1,8 @@
 -- The forms of MIXER: its place stands at position 1, what is asked of it at 2.
-use Rattle.std.specs.Prelude.{ℕ, ◌+◌, ◌==◌, nat_le, nat_lt, not, ◌&&◌, Bool, false, if◌then◌else◌, Option, Some, None, Result, Ok, Err, List, [], ◌∷◌, length, ℤ, pos, negsuc, option_and_then, codes}
+use Rattle.std.specs.Prelude.{ℕ, ◌+◌, nat_le, nat_lt, not, ◌&&◌, Bool, if◌then◌else◌, Option, Some, None, Result, Ok, List, [], ◌∷◌, length, ℤ, pos, negsuc, option_and_then, codes}
 use Rattle.std.specs.Str.{bytes_eq}
 use Rattle.amcp_text.specs.Micros.{micro_of}
-use Rattle.play_types.specs.Setting.{SettingView, setting_of}
+use Rattle.play_types.specs.Setting.{setting_of}
 use Rattle.play_types.specs.Place.{PlaceView}
 use Rattle.play_types.specs.Config.{ConfigView}
 use Rattle.play_types.specs.declared.setting.Prop.{Prop}
@@ -12,7 +12,6 @@ use Rattle.play_types.specs.declared.command.Cmd.{Cmd}
 use Rattle.play_types.specs.declared.command.Cmd.TheVariants as cmd
 use Rattle.play_types.specs.declared.reply.Name.TheVariants.{Mixer}
 use Rattle.play_types.specs.declared.parsed.Refusal.{Refusal}
-use Rattle.play_types.specs.declared.parsed.Refusal.TheVariants.{Illegal}
 use Rattle.history_model.specs.CommandWords.{◌>>=◌, is_word, whole_within, legal, required, ended, stands_at, flag_at}
 use Rattle.history_model.specs.CommandPlace.{Area, place_of, area_at}
 use Rattle.history_model.specs.Answer.{number_count}
@@ -89,10 +88,10 @@ has_duration words at = nat_lt at (length words) && not (stands_at (codes "DEFER
 unfoldable pub timing_at : List (List ℕ) → ℕ → Result Timing Refusal
 timing_at words at =
     if has_duration words at then
-      (do
-        word ← required Mixer words at
-        duration ← legal Mixer at (whole_within 0 1000000 word)
-        deferral_at duration words (if stands_at (codes "LINEAR") words (at + 1) then at + 2 else at + 1))
+    (do
+      word ← required Mixer words at
+      duration ← legal Mixer at (whole_within 0 1000000 word)
+      deferral_at duration words (if stands_at (codes "LINEAR") words (at + 1) then at + 2 else at + 1))
     else deferral_at 0 words at
 
 -- what stands after the numbers of a property: a keyer has no duration
@@ -104,10 +103,10 @@ timing_of property words = timing_at words (3 + number_count property)
 abbrev pub property_command : PlaceView → Prop → List (List ℕ) → Result Cmd Refusal
 property_command place property words =
     if nat_lt 3 (length words) then
-      (do
-        numbers ← numbers_of property words
-        timing ← timing_of property words
-        Ok (cmd.Set (setting_of place property numbers timing.duration Linear timing.deferred)))
+    (do
+      numbers ← numbers_of property words
+      timing ← timing_of property words
+      Ok (cmd.Set (setting_of place property numbers timing.duration Linear timing.deferred)))
     else Ok (cmd.Value place property)
 
 -- all mixer values of a channel, or of a layer of it

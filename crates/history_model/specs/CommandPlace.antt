@@ -24,9 +24,9 @@ is_dash c = c == 45
 abbrev pub layer_of : Name → ℕ → List ℕ → Result (Option ℕ) Refusal
 layer_of name at word =
     if list_any is_dash word then
-      (do
-        layer ← legal name at (whole_within 0 9999 (after_first is_dash word))
-        Ok (Some layer))
+    (do
+      layer ← legal name at (whole_within 0 9999 (after_first is_dash word))
+      Ok (Some layer))
     else Ok None
 
 -- the area that a word at a position names: its channel is a configured one, its layer at most 9999

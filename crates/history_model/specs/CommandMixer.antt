@@ -48,12 +48,13 @@ number_at property words at = do
   word ← required Mixer words at
   legal Mixer at (number_of property word)
 
--- the numbers of a property, which stand from position 3 on: one, and zeros for those that it has not, or four
+-- one number, at position 3, and zeros for those that the property has not
 abbrev pub one_number : Prop → List (List ℕ) → Result (List ℤ) Refusal
 one_number property words = do
   number ← number_at property words 3
   Ok (number ∷ pos 0 ∷ pos 0 ∷ pos 0 ∷ [])
 
+-- four numbers, from position 3 on
 abbrev pub four_numbers : Prop → List (List ℕ) → Result (List ℤ) Refusal
 four_numbers property words = do
   first ← number_at property words 3
@@ -62,6 +63,7 @@ four_numbers property words = do
   fourth ← number_at property words 6
   Ok (first ∷ second ∷ third ∷ fourth ∷ [])
 
+-- the numbers of a property
 unfoldable pub numbers_of : Prop → List (List ℕ) → Result (List ℤ) Refusal
 numbers_of Opacity words = one_number Opacity words
 numbers_of Fill words = four_numbers Fill words

@@ -1,6 +1,6 @@
 -- The parts of a written place.
-use Rattle.std.proofs.Common.{◌≡◌, ℕ, ◌<◌, Bool, true, false, List, length, refl, sym, ap, ◌∙◌, arith, lit<}
-use Rattle.std.specs.Prelude.{Option, Some, None, Result, Ok, Err, MatchOption, ok_or}
+use Rattle.std.proofs.Common.{◌≡◌, ℕ, true, false, List, length, refl, sym, ap, ◌∙◌, arith, lit<}
+use Rattle.std.specs.Prelude.{Option, Some, None, Result, Ok, MatchOption, ok_or}
 use Rattle.std.specs.Borrow.{Bor}
 use Rattle.std.specs.List.{list_any, before_first, after_first}
 use Rattle.std.specs.Str.{IsUtf8, chars}
@@ -12,7 +12,7 @@ use Rattle.play_types.specs.declared.parsed.Refusal.{Refusal}
 use Rattle.play_types.specs.declared.parsed.Refusal.TheVariants.{Channel}
 use Rattle.amcp_text.proofs.FirstEnd.{position_or_len_none, position_or_len_some}
 use Rattle.history_model.specs.CommandWords.{◌>>=◌, whole_within, legal}
-use Rattle.history_model.specs.CommandPlace.{Area, is_dash, area_of}
+use Rattle.history_model.specs.CommandPlace.{is_dash, area_of}
 use Rattle.cmd_parse.proofs.Texts.{chars_without, cut_text}
 
 -- a word without a dash, and one of two parts

@@ -1,11 +1,10 @@
 -- The first clip of a name, entry by entry.
-use Rattle.std.proofs.Common.{◌≡◌, ℕ, ◌+◌, ◌<◌, ◌≤◌, zero, suc, Bool, true, false, List, [], ◌∷◌, drop, length, refl, sym, ap, ◌∙◌, add-one, arith}
+use Rattle.std.proofs.Common.{◌≡◌, ℕ, ◌+◌, ◌≤◌, zero, suc, true, false, List, [], ◌∷◌, drop, length, refl, ap, arith}
 use Rattle.std.specs.Prelude.{Option, Some, None, slice_get}
 use Rattle.std.specs.List.{find, enumerate_from}
 use Rattle.std.proofs.lemmas.List.{drop_all}
 use Rattle.play_types.specs.Media.{MediaNameView}
 use Rattle.history_model.specs.CommandWords.{is_same_name}
-use Rattle.history_model.specs.CommandProducer.{clip_named}
 
 -- the first clip of a name from a position on
 abbrev pub clip_from : List MediaNameView → List ℕ → ℕ → Option (ℕ × MediaNameView)

@@ -1,5 +1,5 @@
 -- The curve and the direction of a transition, by the words that are left of the line.
-use Rattle.std.proofs.Common.{◌≡◌, ℕ, ◌+◌, zero, suc, Bool, true, false, cond, ◌||◌, List, [], ◌∷◌, map, take, drop, refl, sym, ap, ◌∙◌, add-one, inl, inr, arith}
+use Rattle.std.proofs.Common.{◌≡◌, ℕ, ◌+◌, zero, suc, Bool, true, false, ◌||◌, List, [], ◌∷◌, map, take, drop, refl, sym, ap, ◌∙◌, inl, inr, arith}
 use Rattle.std.specs.Prelude.{Option, Some, None, slice_get, codes, if◌then◌else◌}
 use Rattle.std.specs.Option.{option_map_or}
 use Rattle.std.specs.List.{list_any}
@@ -7,9 +7,9 @@ use Rattle.std.specs.Char.{to_ascii_uppercase}
 use Rattle.std.specs.Str.{bytes_eq}
 use Rattle.std.proofs.lemmas.Bool.{cases_Bool}
 use Rattle.std.proofs.lemmas.Slice.Eq.{bytes_eq-Decides}
-use Rattle.history_model.specs.CommandWords.{is_word, stands_at}
+use Rattle.history_model.specs.CommandWords.{is_word}
 use Rattle.history_model.specs.CommandOptions.{is_curve, is_direction, is_leftward, manner_len}
-use Rattle.cmd_parse.specs.Options.{is_direction_at, is_leftward_at, manner_at}
+use Rattle.cmd_parse.specs.Options.{manner_at}
 
 -- the words from a position on
 pub word_here : {X : Type 0} (words rest : List X) (at : ℕ) → drop at words ≡ rest → slice_get words at ≡ slice_get rest 0

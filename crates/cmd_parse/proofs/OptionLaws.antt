@@ -1,25 +1,24 @@
 -- Options that are read one after another say what the options of the line say.
-use Rattle.std.proofs.Common.{◌≡◌, ℕ, ◌+◌, zero, suc, Bool, true, false, cond, ◌||◌, ◌&&◌, not, List, [], ◌∷◌, ◌++◌, take, drop, length, get_or, drop-cons, ◌<◌, ◌≤◌, refl, sym, ap, ◌∙◌, add-one, add-zero, inl, inr, arith}
+use Rattle.std.proofs.Common.{◌≡◌, ℕ, ◌+◌, zero, suc, Bool, true, false, cond, ◌&&◌, not, List, [], ◌∷◌, ◌++◌, take, drop, length, get_or, drop-cons, ◌<◌, ◌≤◌, refl, sym, ap, ◌∙◌, add-one, add-zero, inl, inr, arith}
 use Rattle.std.specs.Prelude.{Option, Some, None, Result, Ok, Err, is_some, is_none, option_map, option_and_then, unwrap_or, ok_or, slice_get, codes, ◌==◌, if◌then◌else◌}
 use Rattle.std.specs.Option.{option_map_or, option_or}
-use Rattle.std.specs.List.{list_any, find}
 use Rattle.std.proofs.Math.Numerals.{one-add}
 use Rattle.std.proofs.lemmas.Bool.{cases_Bool, and_parts}
 use Rattle.std.proofs.lemmas.List.{drop-drop, drop_all, append-nil, append_assoc}
 use Rattle.std.proofs.lemmas.List.Folds.{find-append}
 use Rattle.amcp_text.specs.Numbers.{whole_number}
-use Rattle.play_types.specs.Transition.{TransView, cut, trans_of}
+use Rattle.play_types.specs.Transition.{TransView, trans_of}
 use Rattle.play_types.specs.declared.transition.Kind.{Kind}
 use Rattle.play_types.specs.declared.transition.Kind.TheVariants.{Cut, Mix, Push, Slide, Wipe}
 use Rattle.play_types.specs.declared.transition.Curve.TheVariants.{Linear}
 use Rattle.play_types.specs.declared.reply.Name.{Name}
 use Rattle.play_types.specs.declared.parsed.Refusal.{Refusal}
 use Rattle.play_types.specs.declared.parsed.Refusal.TheVariants.{Illegal, Missing}
-use Rattle.history_model.specs.CommandWords.{◌>>=◌, is_word, whole_within, legal, required}
+use Rattle.history_model.specs.CommandWords.{◌>>=◌, is_word, whole_within, legal}
 use Rattle.history_model.specs.CommandOptions.{OptionName, Written, option_of, kind_of, number_len, option_len, manner_len, is_leftward, is_same, is_option, given, number_of, number_refusal, option_refusal, options_refusal, options_after, options_from, options_of, options_at, transition_of, unless_refused, least_number}
 use Rattle.history_model.specs.CommandOptions as meant
 use Rattle.cmd_parse.specs.Keyword.{keyword_of, option_named, is_cut}
-use Rattle.cmd_parse.specs.Options.{seen, result_seen, no_options, has_option, count_at, duration_at, transition_at, manner_at, with_given, with_keyword, with_word, with_option, is_number_at}
+use Rattle.cmd_parse.specs.Options.{result_seen, no_options, has_option, count_at, duration_at, transition_at, manner_at, with_given, with_keyword, with_word, with_option, is_number_at}
 use Rattle.cmd_parse.specs.declared.keyword.Keyword.{Keyword}
 use Rattle.cmd_parse.specs.declared.keyword.Keyword.TheVariants.{Loop, Seek, Length, Auto, Transition}
 use Rattle.cmd_parse.specs.declared.options.Given.{Given}

@@ -1,6 +1,6 @@
 -- Words that begin as a colour or as a route.
-use Rattle.std.proofs.Common.{◌≡◌, ℕ, ◌+◌, ◌<◌, ◌≤◌, Bool, true, false, cond, List, [], ◌∷◌, ◌++◌, map, take, drop, length, get_or, refl, sym, ap, ◌∙◌, arith, inl, inr, suc, zero, lit<}
-use Rattle.std.specs.Prelude.{Option, Some, None, MatchOption, ◌==◌, ◌≢◌, ◌↔◌, IsTrue, slice_index, codes, encode_utf8, encode_utf8_all}
+use Rattle.std.proofs.Common.{◌≡◌, ℕ, ◌+◌, ◌<◌, ◌≤◌, true, false, List, [], ◌∷◌, ◌++◌, map, take, drop, length, refl, sym, ap, ◌∙◌, arith, suc, lit<}
+use Rattle.std.specs.Prelude.{Option, Some, None, MatchOption, codes, encode_utf8_all}
 use Rattle.std.specs.Borrow.{Bor}
 use Rattle.std.specs.Char.{to_ascii_uppercase, to_ascii_lowercase}
 use Rattle.std.specs.Str.{IsUtf8, IsAscii, chars, bytes_eq}

@@ -1,14 +1,14 @@
 -- Words as bytes and as characters.
-use Rattle.std.proofs.Common.{◌≡◌, ℕ, ◌+◌, ◌<◌, ◌≤◌, Bool, true, false, cond, List, [], ◌∷◌, ◌++◌, map, take, drop, length, get_or, refl, sym, ap, ◌∙◌, arith, inl, inr, suc, zero, rules}
+use Rattle.std.proofs.Common.{◌≡◌, ℕ, ◌+◌, ◌<◌, ◌≤◌, Bool, true, false, List, [], ◌∷◌, ◌++◌, map, take, drop, length, get_or, refl, sym, ap, ◌∙◌, arith, inl, inr, suc, zero}
 use lib.Utf8.{scalar}
 use Rattle.std.specs.Prelude.{encode_utf8, encode_utf8_all, IsTrue, ◌↔◌, nat_lt, ◌==◌}
-use Rattle.std.specs.List.{list_any, list_all, before_first, after_first, position_or_len}
+use Rattle.std.specs.List.{list_any, before_first, after_first, position_or_len}
 use Rattle.std.specs.Char.{to_ascii_uppercase, to_ascii_lowercase}
 use Rattle.std.specs.Str.{IsUtf8, IsAscii, all_scalars, chars, bytes_eq}
-use Rattle.std.proofs.lemmas.Str.{IsUtf8-from_ascii, encodes-chars, chars-encodes, scalars-chars, chars-IsAscii, encodes-IsAscii, encode_ascii, encodes_same, encodes-append, inside_one}
+use Rattle.std.proofs.lemmas.Str.{IsUtf8-from_ascii, encodes-chars, chars-encodes, scalars-chars, chars-IsAscii, encode_ascii, encodes_same, encodes-append, inside_one}
 use Rattle.std.proofs.lemmas.Str.Ascii.{lowercase-uppercase, uppercase_is, uppercase_ascii, IsAscii-nil, IsAscii-cons}
 use Rattle.std.proofs.lemmas.List.Folds.{list_any_none, list_any-append}
-use Rattle.std.proofs.lemmas.Bool.{cases_lt, cases_Bool, and_parts, ltb-true, eqb-true}
+use Rattle.std.proofs.lemmas.Bool.{cases_lt, and_parts, ltb-true, eqb-true}
 use Rattle.std.proofs.lemmas.List.{append-nil, map-append, get_or_default}
 use Rattle.std.proofs.lemmas.Slice.Eq.{bytes_eq-Decides}
 use Rattle.std.proofs.lemmas.Bool.Decides.{nat_tests, same_from_decides}

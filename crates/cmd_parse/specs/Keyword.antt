@@ -1,5 +1,5 @@
 -- The words that begin an option.
-use Rattle.std.specs.Prelude.{ℕ, if◌then◌else◌, Bool, true, false, Option, Some, None, option_map, List, codes}
+use Rattle.std.specs.Prelude.{ℕ, if◌then◌else◌, Bool, true, false, Option, Some, option_map, List, codes}
 use Rattle.play_types.specs.declared.transition.Kind.{Kind}
 use Rattle.play_types.specs.declared.transition.Kind.TheVariants.{Cut, Mix, Push, Slide, Wipe}
 use Rattle.history_model.specs.CommandWords.{is_word}

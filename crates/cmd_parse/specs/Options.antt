@@ -1,5 +1,5 @@
 -- What is read of the options of a line, one after another.
-use Rattle.std.specs.Prelude.{ℕ, ◌+◌, ◌&&◌, ◌||◌, not, Bool, true, false, if◌then◌else◌, Option, Some, None, is_some, is_none, option_map, option_and_then, unwrap_or, Result, Ok, Err, List, slice_get, codes}
+use Rattle.std.specs.Prelude.{ℕ, ◌+◌, ◌&&◌, ◌||◌, not, Bool, true, false, if◌then◌else◌, Option, Some, None, is_some, option_and_then, unwrap_or, Result, Ok, Err, List, slice_get, codes}
 use Rattle.amcp_text.specs.Numbers.{whole_number}
 use Rattle.play_types.specs.Transition.{TransView, cut, trans_of}
 use Rattle.play_types.specs.declared.transition.Kind.{Kind}

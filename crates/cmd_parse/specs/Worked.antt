@@ -1,5 +1,5 @@
 -- Words for the worked examples: lines, channels and clips that are short to write.
-use Rattle.std.specs.Prelude.{ℕ, ◌==◌, Bool, true, false, Result, Ok, Err, List, [], ◌∷◌, ℤ, codes}
+use Rattle.std.specs.Prelude.{ℕ, ◌==◌, Bool, true, false, Result, Ok, List, [], ◌∷◌, ℤ, codes}
 use Prim.Native.String.{String}
 use Rattle.std.specs.List.{slice_split}
 use Rattle.play_types.specs.Config.{ChannelView, ConfigView}

@@ -168,14 +168,14 @@ impl Given {
             return Err(Refusal::Illegal(name, at));
         }
         match keyword {
-            Keyword::Loop => Ok((
-                Given {
-                    looped: true,
-                    ..self
-                },
-                0,
-            )),
-            Keyword::Auto => Ok((Given { auto: true, ..self }, 0)),
+            Keyword::Loop => {
+                let looped = true;
+                Ok((Given { looped, ..self }, 0))
+            }
+            Keyword::Auto => {
+                let auto = true;
+                Ok((Given { auto, ..self }, 0))
+            }
             Keyword::Seek => {
                 let seek = Some(count_at(name, words, at + 1, 0)?);
                 Ok((Given { seek, ..self }, 1))
@@ -186,13 +186,8 @@ impl Given {
             }
             Keyword::Transition(kind) => {
                 let (transition, more) = transition_at(name, words, at + 1, kind)?;
-                Ok((
-                    Given {
-                        transition: Some(transition),
-                        ..self
-                    },
-                    more,
-                ))
+                let transition = Some(transition);
+                Ok((Given { transition, ..self }, more))
             }
         }
     }

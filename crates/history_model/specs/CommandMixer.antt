@@ -1,8 +1,8 @@
 -- The forms of MIXER: its place stands at position 1, what is asked of it at 2.
-use Rattle.std.specs.Prelude.{ℕ, ◌+◌, ◌==◌, nat_le, nat_lt, not, ◌&&◌, Bool, false, if◌then◌else◌, Option, Some, None, Result, Ok, Err, List, [], ◌∷◌, length, ℤ, pos, negsuc, option_and_then, codes}
+use Rattle.std.specs.Prelude.{ℕ, ◌+◌, nat_le, nat_lt, not, ◌&&◌, Bool, if◌then◌else◌, Option, Some, None, Result, Ok, List, [], ◌∷◌, length, ℤ, pos, negsuc, option_and_then, codes}
 use Rattle.std.specs.Str.{bytes_eq}
 use Rattle.amcp_text.specs.Micros.{micro_of}
-use Rattle.play_types.specs.Setting.{SettingView, setting_of}
+use Rattle.play_types.specs.Setting.{setting_of}
 use Rattle.play_types.specs.Place.{PlaceView}
 use Rattle.play_types.specs.Config.{ConfigView}
 use Rattle.play_types.specs.declared.setting.Prop.{Prop}
@@ -12,7 +12,6 @@ use Rattle.play_types.specs.declared.command.Cmd.{Cmd}
 use Rattle.play_types.specs.declared.command.Cmd.TheVariants as cmd
 use Rattle.play_types.specs.declared.reply.Name.TheVariants.{Mixer}
 use Rattle.play_types.specs.declared.parsed.Refusal.{Refusal}
-use Rattle.play_types.specs.declared.parsed.Refusal.TheVariants.{Illegal}
 use Rattle.history_model.specs.CommandWords.{◌>>=◌, is_word, whole_within, legal, required, ended, stands_at, flag_at}
 use Rattle.history_model.specs.CommandPlace.{Area, place_of, area_at}
 use Rattle.history_model.specs.Answer.{number_count}
@@ -49,12 +48,13 @@ number_at property words at = do
   word ← required Mixer words at
   legal Mixer at (number_of property word)
 
--- the numbers of a property, which stand from position 3 on: one, and zeros for those that it has not, or four
+-- one number, at position 3, and zeros for those that the property has not
 abbrev pub one_number : Prop → List (List ℕ) → Result (List ℤ) Refusal
 one_number property words = do
   number ← number_at property words 3
   Ok (number ∷ pos 0 ∷ pos 0 ∷ pos 0 ∷ [])
 
+-- four numbers, from position 3 on
 abbrev pub four_numbers : Prop → List (List ℕ) → Result (List ℤ) Refusal
 four_numbers property words = do
   first ← number_at property words 3
@@ -63,6 +63,7 @@ four_numbers property words = do
   fourth ← number_at property words 6
   Ok (first ∷ second ∷ third ∷ fourth ∷ [])
 
+-- the numbers of a property
 unfoldable pub numbers_of : Prop → List (List ℕ) → Result (List ℤ) Refusal
 numbers_of Opacity words = one_number Opacity words
 numbers_of Fill words = four_numbers Fill words

@@ -1,5 +1,5 @@
 -- The producer of LOADBG, LOAD and PLAY, and the take that it makes with the options.
-use Rattle.std.specs.Prelude.{ℕ, ◌+◌, ◌-◌, ◌==◌, nat_lt, min, ◌&&◌, Bool, true, false, if◌then◌else◌, Option, Some, None, Result, Ok, Err, List, length, drop, take, slice_index, ok_or, codes}
+use Rattle.std.specs.Prelude.{ℕ, ◌+◌, ◌-◌, ◌==◌, nat_lt, min, ◌&&◌, Bool, if◌then◌else◌, Option, Some, None, Result, Ok, Err, List, length, drop, take, slice_index, codes}
 use Rattle.std.specs.Result.{result_ok}
 use Rattle.std.specs.List.{find, list_all, enumerate_from}
 use Rattle.std.specs.Char.{is_ascii_hexdigit}
@@ -13,7 +13,7 @@ use Rattle.play_types.specs.declared.reply.Name.{Name}
 use Rattle.play_types.specs.declared.parsed.Refusal.{Refusal}
 use Rattle.play_types.specs.declared.parsed.Refusal.TheVariants.{Illegal, NotFound, Unreadable}
 use Rattle.history_model.specs.CommandWords.{◌>>=◌, is_word, is_same_name, legal, required}
-use Rattle.history_model.specs.CommandPlace.{Area, area_of, place_of}
+use Rattle.history_model.specs.CommandPlace.{area_of}
 use Rattle.history_model.specs.CommandOptions.{Options, options_at}
 
 -- a producer, and the frames of a clip, 0 for another

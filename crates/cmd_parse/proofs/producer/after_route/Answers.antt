@@ -1,9 +1,8 @@
-use Rattle.std.proofs.Common.{◌≡◌, ◌≤◌, true, map, take, drop, length, refl, sym, ap, ◌∙◌, arith}
-use Rattle.std.specs.Prelude.{codes}
+use Rattle.std.proofs.Common.{◌≤◌, map, take, length, sym, ap, ◌∙◌, arith}
 use Rattle.std.specs.Char.{to_ascii_lowercase}
 use Rattle.std.specs.Str.{chars}
 use Rattle.std.proofs.lemmas.Str.{IsCharBoundary-from_take, IsUtf8-from_ascii}
-use Rattle.cmd_parse.proofs.Prefixes.{IsRoute, route_from_bytes, route_prefix, no_route}
+use Rattle.cmd_parse.proofs.Prefixes.{route_from_bytes, route_prefix, no_route}
 use Rattle.cmd_parse.proofs.producer.after_route.Goals as goal
 use Rattle.cmd_parse.proofs.producer.after_route.Goals.{then-bytes-lt8-via-then-bytes-lt8, then-bytes-lt8-via-else-bytes-lt8+then-not-eq_ignore_ascii_case}
 

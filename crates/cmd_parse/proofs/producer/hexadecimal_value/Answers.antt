@@ -1,4 +1,4 @@
-use Rattle.std.proofs.Common.{◌≡◌, ◌<◌, ◌^◌, length, ap, ◌∙◌, arith}
+use Rattle.std.proofs.Common.{◌≡◌, ap, ◌∙◌}
 use Rattle.std.specs.Str.Parse.{digits_value}
 use Rattle.cmd_parse.proofs.Hexadecimal.{no_plus, hexadecimal_parses, hexadecimal_below}
 use Rattle.cmd_parse.proofs.producer.hexadecimal_value.Goals as goal

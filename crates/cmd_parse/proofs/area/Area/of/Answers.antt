@@ -1,6 +1,4 @@
-use Rattle.std.proofs.Common.{◌≡◌, refl, sym, ap, ◌∙◌, rules, arith}
-use Rattle.std.proofs.lemmas.Grind.{common_steps}
-use Rattle.std.proofs.lemmas.Result.{err_from_is_err_and}
+use Rattle.std.proofs.Common.{refl, rules}
 use Rattle.cmd_parse.proofs.Areas.{IsWhole, HasParts, split_word, area_whole, area_parts}
 use Rattle.cmd_parse.proofs.area.Area.of.Goals as goal
 

@@ -1,7 +1,5 @@
-use Rattle.std.proofs.Common.{◌≡◌, ◌+◌, drop, refl, sym, ap, ◌∙◌, arith, rules}
-use Rattle.std.specs.Prelude.{Result, Ok, Err}
-use Rattle.cmd_parse.specs.Options.{no_options, result_seen}
-use Rattle.cmd_parse.proofs.OptionLaws.{run, run_at, run_end, run_options}
+use Rattle.std.proofs.Common.{◌≡◌, ◌+◌, refl, sym, ◌∙◌, arith, rules}
+use Rattle.cmd_parse.proofs.OptionLaws.{run_at, run_end, run_options}
 use Rattle.cmd_parse.proofs.options.Given.at.Goals as goal
 
 pub returns-in_err-more_options-clause-value : goal.returns-in_err-more_options-clause-value

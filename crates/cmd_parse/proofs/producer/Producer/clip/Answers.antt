@@ -1,9 +1,8 @@
 use Rattle.std.proofs.Common.{◌≡◌, ◌≤◌, true, false, length, refl, sym, ap, ◌∙◌, arith}
-use Rattle.std.specs.Prelude.{not}
 use Rattle.std.specs.Str.{chars}
 use Rattle.history_model.specs.CommandWords.{is_same_name}
 use Rattle.history_model.specs.CommandProducer.{clip_producer}
-use Rattle.cmd_parse.proofs.Clips.{clip_from, clip_here, clip_later, clip_past, past_end}
+use Rattle.cmd_parse.proofs.Clips.{clip_here, clip_later, clip_past, past_end}
 use Rattle.cmd_parse.proofs.producer.Producer.clip.Goals as goal
 use Rattle.cmd_parse.proofs.producer.Producer.clip.Goals.{else-loop-id-test, then-loop-id-test+in_default}
 

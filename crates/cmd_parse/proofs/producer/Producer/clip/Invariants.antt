@@ -1,4 +1,4 @@
-use Rattle.std.proofs.Common.{◌≡◌, drop}
+use Rattle.std.proofs.Common.{◌≡◌}
 use Rattle.std.specs.Str.{chars}
 use Rattle.cmd_parse.proofs.Clips.{clip_from}
 use Rattle.cmd_parse.proofs.producer.Producer.clip.Given as goal

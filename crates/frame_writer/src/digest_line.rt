@@ -2,7 +2,7 @@
 ghost use Rattle.std.specs.Prelude.{◌≡◌, ◌++◌};
 ghost use Rattle.sha2.specs.Sha256.{sha256};
 ghost use Rattle.play_outside.specs.Sink.{Sends};
-ghost use Rattle.frame_writer.specs.DigestText.{digest_line};
+ghost use Rattle.history_model.specs.FrameText.{digest_line};
 
 use crate::line::{send_label, write_line};
 use play_outside::{Sent, Sink, send};

@@ -1,75 +1,136 @@
--- The output of a script that grows by one line.
-use Rattle.std.proofs.Common.{◌≡◌, ℕ, zero, suc, ◌+◌, ◌<◌, ◌≤◌, List, [], ◌∷◌, ◌++◌, refl, sym, ap, ap₂, ◌∙◌, append_assoc, append-nil, replicate, arith}
-use Rattle.std.specs.Prelude.{flat_map}
-use Rattle.std.proofs.lemmas.Grind.{flat_map-append}
+-- The history and the output of a script that grows by one line.
+use Rattle.std.proofs.Common.{◌≡◌, ℕ, zero, suc, ◌+◌, Bool, true, false, cond, List, [], ◌∷◌, ◌++◌, refl, sym, ap, ◌∙◌, append_assoc, append-nil, replicate}
+use Rattle.std.proofs.lemmas.Bool.{false≢true}
 use Rattle.play_types.specs.declared.event.Event.{Event}
 use Rattle.play_types.specs.declared.event.Event.TheVariants as event
-use Rattle.std.specs.List.{range_with_len}
-use Rattle.play_types.specs.History.{ticks}
-use Rattle.pixel_math.specs.Pixel.{PixelView, pixel_bytes}
-use Rattle.history_model.specs.ColourHistory.{IsColourHistory, last_colour, pixel_of_colour}
-use Rattle.history_model.specs.Frame.{frame_pixel}
-use Rattle.history_model.specs.FrameText.{frame_bytes, frame_lines}
-use Rattle.history_model.specs.Script.{ScriptLine, line_events, script_events}
-use Rattle.history_model.specs.ScriptOutput.{one_channel, next_frame, next_frames, line_output, output_after, script_output}
-use Rattle.history_model.proofs.Colours.{frame_pixel-colours}
+use Rattle.history_model.specs.ScriptHistory.{Playout, Played, events_at, ends_at, events_after, script_events, goes_on_after, goes_on}
+use Rattle.history_model.specs.ScriptOutput.{tick_output, ticks_output, output_at, output_after, script_output}
+
+-- the run goes on after lines only where it goes on after the first of them
+first_goes_on : (b more : Bool) → cond b false more ≡ true → (b ≡ false) × (more ≡ true)
+first_goes_on true more on = absurd (false≢true on)
+first_goes_on false more on = (refl, on)
+
+-- one line more: it goes on after all of them and does not end at the next
+goes_on_after-snoc : (playout : Playout) (before lines : List Played) (line : Played) → goes_on_after playout before lines ≡ true
+    → ends_at playout (before ++ lines) line line.line ≡ false → goes_on_after playout before (lines ++ line ∷ []) ≡ true
+unfolding goes_on_after
+goes_on_after-snoc playout before [] line on goes =
+    ap (λ (b : Bool). cond b false true) (ap (λ ls. ends_at playout ls line line.line) (sym (append-nil before)) ∙ goes)
+goes_on_after-snoc playout before (first ∷ lines) line on goes =
+    let parts = first_goes_on (ends_at playout before first first.line) (goes_on_after playout (before ++ first ∷ []) lines) on in
+    ap (λ (b : Bool). cond b false (goes_on_after playout (before ++ first ∷ []) (lines ++ line ∷ []))) parts.0
+    ∙ goes_on_after-snoc playout (before ++ first ∷ []) lines line parts.1
+    (ap (λ ls. ends_at playout ls line line.line) (append_assoc before (first ∷ []) lines) ∙ goes)
+
+pub goes_on-snoc : (playout : Playout) (lines : List Played) (line : Played) → goes_on playout lines ≡ true
+    → ends_at playout lines line line.line ≡ false → goes_on playout (lines ++ line ∷ []) ≡ true
+unfolding goes_on
+goes_on-snoc playout lines line on goes = goes_on_after-snoc playout [] lines line on goes
+
+pub goes_on-none : (playout : Playout) → goes_on playout [] ≡ true
+unfolding goes_on goes_on_after
+goes_on-none playout = refl
+
+-- what the last line adds
+last_events : (b : Bool) (es : List Event) → (es ++ cond b [] []) ≡ es
+last_events true es = append-nil es
+last_events false es = append-nil es
+
+events_after-snoc : (playout : Playout) (before lines : List Played) (line : Played) → goes_on_after playout before lines ≡ true
+    → events_after playout before (lines ++ line ∷ []) ≡ events_after playout before lines ++ events_at playout (before ++ lines) line line.line
+unfolding events_after goes_on_after
+events_after-snoc playout before [] line on =
+    last_events (ends_at playout before line line.line) (events_at playout before line line.line)
+    ∙ ap (λ ls. events_at playout ls line line.line) (sym (append-nil before))
+events_after-snoc playout before (first ∷ lines) line on =
+    let here = events_at playout before first first.line in
+    let parts = first_goes_on (ends_at playout before first first.line) (goes_on_after playout (before ++ first ∷ []) lines) on in
+    let later = events_after-snoc playout (before ++ first ∷ []) lines line parts.1 in
+    ap (λ (b : Bool). here ++ cond b [] (events_after playout (before ++ first ∷ []) (lines ++ line ∷ []))) parts.0
+    ∙ ap (λ (es : List Event). here ++ es)
+    (later ∙ ap (λ ls. events_after playout (before ++ first ∷ []) lines ++ events_at playout ls line line.line) (append_assoc before (first ∷ []) lines))
+    ∙ sym (append_assoc here (events_after playout (before ++ first ∷ []) lines) (events_at playout (before ++ first ∷ lines) line line.line))
+    ∙ ap (λ (b : Bool). (here ++ cond b [] (events_after playout (before ++ first ∷ []) lines)) ++ events_at playout (before ++ first ∷ lines) line line.line)
+    (sym parts.0)
 
 -- the events of a line come after those of the lines before it
-pub script_events-snoc : (lines : List ScriptLine) (line : ScriptLine) → script_events (lines ++ line ∷ []) ≡ script_events lines ++ line_events line
-script_events-snoc lines line =
-    flat_map-append line_events lines (line ∷ []) ∙ ap (λ (es : List Event). script_events lines ++ es) (append-nil (line_events line))
+pub script_events-snoc : (playout : Playout) (lines : List Played) (line : Played) → goes_on playout lines ≡ true
+    → script_events playout (lines ++ line ∷ []) ≡ script_events playout lines ++ events_at playout lines line line.line
+unfolding script_events goes_on
+script_events-snoc playout lines line on = events_after-snoc playout [] lines line on
 
-output_after-snoc : (width height : ℕ) (before lines : List ScriptLine) (line : ScriptLine) → output_after width height before (lines ++ line ∷ []) ≡ output_after width height before lines ++ line_output width height (script_events (before ++ lines)) line
-unfolding output_after
-output_after-snoc width height before [] line =
-    append-nil (line_output width height (script_events before) line)
-    ∙ ap (λ (ls : List ScriptLine). line_output width height (script_events ls) line) (sym (append-nil before))
-output_after-snoc width height before (first ∷ lines) line =
-    ap (λ (text : List ℕ). line_output width height (script_events before) first ++ text)
-    (output_after-snoc width height (before ++ first ∷ []) lines line
-    ∙ ap (λ (ls : List ScriptLine). output_after width height (before ++ first ∷ []) lines ++ line_output width height (script_events ls) line)
-    (append_assoc before (first ∷ []) lines))
-    ∙ sym (append_assoc (line_output width height (script_events before) first) (output_after width height (before ++ first ∷ []) lines)
-    (line_output width height (script_events (before ++ first ∷ lines)) line))
+pub script_events-none : (playout : Playout) → script_events playout [] ≡ []
+unfolding script_events events_after
+script_events-none playout = refl
+
+last_text : (b : Bool) (text : List ℕ) → (text ++ cond b [] []) ≡ text
+last_text true text = append-nil text
+last_text false text = append-nil text
+
+output_after-snoc : (playout : Playout) (before lines : List Played) (line : Played) → goes_on_after playout before lines ≡ true
+    → output_after playout before (lines ++ line ∷ []) ≡ output_after playout before lines ++ output_at playout (before ++ lines) line line.line
+unfolding output_after goes_on_after
+output_after-snoc playout before [] line on =
+    last_text (ends_at playout before line line.line) (output_at playout before line line.line)
+    ∙ ap (λ ls. output_at playout ls line line.line) (sym (append-nil before))
+output_after-snoc playout before (first ∷ lines) line on =
+    let here = output_at playout before first first.line in
+    let parts = first_goes_on (ends_at playout before first first.line) (goes_on_after playout (before ++ first ∷ []) lines) on in
+    let later = output_after-snoc playout (before ++ first ∷ []) lines line parts.1 in
+    ap (λ (b : Bool). here ++ cond b [] (output_after playout (before ++ first ∷ []) (lines ++ line ∷ []))) parts.0
+    ∙ ap (λ (text : List ℕ). here ++ text)
+    (later ∙ ap (λ ls. output_after playout (before ++ first ∷ []) lines ++ output_at playout ls line line.line) (append_assoc before (first ∷ []) lines))
+    ∙ sym (append_assoc here (output_after playout (before ++ first ∷ []) lines) (output_at playout (before ++ first ∷ lines) line line.line))
+    ∙ ap (λ (b : Bool). (here ++ cond b [] (output_after playout (before ++ first ∷ []) lines)) ++ output_at playout (before ++ first ∷ lines) line line.line)
+    (sym parts.0)
 
 -- what is written for a line comes after what is written for the lines before it
-pub script_output-snoc : (width height : ℕ) (lines : List ScriptLine) (line : ScriptLine) → script_output width height (lines ++ line ∷ []) ≡ script_output width height lines ++ line_output width height (script_events lines) line
-script_output-snoc width height lines line = output_after-snoc width height [] lines line
+pub script_output-snoc : (playout : Playout) (lines : List Played) (line : Played) → goes_on playout lines ≡ true
+    → script_output playout (lines ++ line ∷ []) ≡ script_output playout lines ++ output_at playout lines line line.line
+unfolding script_output goes_on
+script_output-snoc playout lines line on = output_after-snoc playout [] lines line on
 
-same_pieces : {A : Type 0} (f g : ℕ → List A) (first count : ℕ) → ((k : ℕ) → first ≤ k → k < first + count → f k ≡ g k) → flat_map f (range_with_len first count) ≡ flat_map g (range_with_len first count)
-same_pieces f g first zero same = refl
-same_pieces f g first (suc count) same =
-    ap₂ (λ a b. a ++ b) (same first (omega arith) (omega arith))
-    (same_pieces f g (first + 1) count (λ k low high. same k (omega arith) (omega arith)))
+pub script_output-none : (playout : Playout) → script_output playout [] ≡ []
+unfolding script_output output_after
+script_output-none playout = refl
 
-same_frame_bytes : (width height : ℕ) (f g : ℕ → ℕ → PixelView) → ((x y : ℕ) → x < width → y < height → f x y ≡ g x y) → frame_bytes width height f ≡ frame_bytes width height g
-same_frame_bytes width height f g same =
-    same_pieces (λ y. flat_map (λ x. pixel_bytes (f x y)) (range_with_len 0 width)) (λ y. flat_map (λ x. pixel_bytes (g x y)) (range_with_len 0 width)) 0 height
-    (λ y low high. same_pieces (λ x. pixel_bytes (f x y)) (λ x. pixel_bytes (g x y)) 0 width
-    (λ x left right. ap pixel_bytes (same x y (omega arith) (omega arith))))
+-- nothing is written for what follows a line at which the run ends
+output_after-ended : (playout : Playout) (before lines : List Played) (line : Played) (rest : List Played) → goes_on_after playout before lines ≡ true
+    → ends_at playout (before ++ lines) line line.line ≡ true
+    → output_after playout before (lines ++ line ∷ rest) ≡ output_after playout before (lines ++ line ∷ [])
+unfolding output_after goes_on_after
+output_after-ended playout before [] line rest on ends =
+    let here = ap (λ ls. ends_at playout ls line line.line) (sym (append-nil before)) ∙ ends in
+    ap (λ (b : Bool). output_at playout before line line.line ++ cond b [] (output_after playout (before ++ line ∷ []) rest)) here
+    ∙ ap (λ (b : Bool). output_at playout before line line.line ++ cond b [] []) (sym here)
+output_after-ended playout before (first ∷ lines) line rest on ends =
+    let here = output_at playout before first first.line in
+    let parts = first_goes_on (ends_at playout before first first.line) (goes_on_after playout (before ++ first ∷ []) lines) on in
+    ap (λ (text : List ℕ). here ++ cond (ends_at playout before first first.line) [] text)
+    (output_after-ended playout (before ++ first ∷ []) lines line rest parts.1
+    (ap (λ ls. ends_at playout ls line line.line) (append_assoc before (first ∷ []) lines) ∙ ends))
 
--- the next frame of a history of colours shows the last of them everywhere
-pub next_frame-colours : (width height : ℕ) (events : List Event) → IsColourHistory events
-    → next_frame width height events ≡ frame_lines 1 (ticks events + 1) width height 0 (frame_bytes width height (λ x y. pixel_of_colour (last_colour events))) []
-unfolding next_frame
-next_frame-colours width height events colours =
-    ap (λ (frame : List ℕ). frame_lines 1 (ticks events + 1) width height 0 frame [])
-    (same_frame_bytes width height (frame_pixel (one_channel width height) events 1) (λ x y. pixel_of_colour (last_colour events))
-    (λ x y left right. frame_pixel-colours (one_channel width height) events colours x y left right))
+pub script_output-ended : (playout : Playout) (lines : List Played) (line : Played) (rest : List Played) → goes_on playout lines ≡ true
+    → ends_at playout lines line line.line ≡ true
+    → script_output playout (lines ++ line ∷ rest) ≡ script_output playout lines ++ output_at playout lines line line.line
+unfolding script_output goes_on
+script_output-ended playout lines line rest on ends =
+    output_after-ended playout [] lines line rest on ends ∙ output_after-snoc playout [] lines line on
 
--- the frames of one tick more
-pub next_frames-snoc : (width height : ℕ) (events : List Event) (count : ℕ) → next_frames width height events (suc count) ≡ next_frames width height events count ++ next_frame width height (events ++ replicate count event.Tick)
-unfolding next_frames
-next_frames-snoc width height events zero =
-    append-nil (next_frame width height events) ∙ ap (next_frame width height) (sym (append-nil events))
-next_frames-snoc width height events (suc count) =
-    ap (λ (text : List ℕ). next_frame width height events ++ text)
-    (next_frames-snoc width height (events ++ event.Tick ∷ []) count
-    ∙ ap (λ (es : List Event). next_frames width height (events ++ event.Tick ∷ []) count ++ next_frame width height es)
+-- what is written for one tick more
+pub ticks_output-snoc : (playout : Playout) (events : List Event) (count : ℕ) → ticks_output playout events (suc count) ≡ ticks_output playout events count ++ tick_output playout (events ++ replicate count event.Tick)
+unfolding ticks_output
+ticks_output-snoc playout events zero =
+    append-nil (tick_output playout events) ∙ ap (tick_output playout) (sym (append-nil events))
+ticks_output-snoc playout events (suc count) =
+    ap (λ (text : List ℕ). tick_output playout events ++ text)
+    (ticks_output-snoc playout (events ++ event.Tick ∷ []) count
+    ∙ ap (λ (es : List Event). ticks_output playout (events ++ event.Tick ∷ []) count ++ tick_output playout es)
     (append_assoc events (event.Tick ∷ []) (replicate count event.Tick)))
-    ∙ sym (append_assoc (next_frame width height events) (next_frames width height (events ++ event.Tick ∷ []) count)
-    (next_frame width height (events ++ replicate (suc count) event.Tick)))
+    ∙ sym (append_assoc (tick_output playout events) (ticks_output playout (events ++ event.Tick ∷ []) count)
+    (tick_output playout (events ++ replicate (suc count) event.Tick)))
 
-pub next_frames-none : (width height : ℕ) (events : List Event) → next_frames width height events 0 ≡ []
-unfolding next_frames
-next_frames-none width height events = refl
+pub ticks_output-none : (playout : Playout) (events : List Event) → ticks_output playout events 0 ≡ []
+unfolding ticks_output
+ticks_output-none playout events = refl

@@ -3,11 +3,9 @@ use Rattle.std.proofs.Common.{replicate, zero, suc, ◌+◌, arith, ◌≡◌, �
 use Rattle.std.specs.Prelude.{Option, Some, None}
 use Rattle.std.specs.Option.{option_or}
 use Rattle.play_types.specs.History.{ticks}
-use Rattle.play_types.specs.declared.event.Tag.{Tag}
 use Rattle.play_types.specs.declared.event.Event.{Event}
 use Rattle.play_types.specs.declared.event.Event.TheVariants as event
 use Rattle.history_model.specs.ColourHistory.{IsColourHistory, event_colour, last_colour}
-use Rattle.history_model.specs.Script.{played}
 
 option_or-none : (c : Option ℕ) → option_or c None ≡ c
 option_or-none None = refl
@@ -28,21 +26,6 @@ last_colour-append (e ∷ es) later =
 pub IsColourHistory-append : (es later : List Event) → IsColourHistory es → IsColourHistory later → IsColourHistory (es ++ later)
 IsColourHistory-append [] later first second = second
 IsColourHistory-append (e ∷ es) later first second = (first.0, IsColourHistory-append es later first.1 second)
-
--- what a text plays is one
-pub IsColourHistory-played : (tag : Tag) (colour : Option ℕ) → IsColourHistory (played tag colour)
-IsColourHistory-played tag None = tt
-IsColourHistory-played tag (Some colour) = ((colour, refl), tt)
-
--- its colour is the text's
-pub last_colour-played : (tag : Tag) (colour : Option ℕ) → last_colour (played tag colour) ≡ colour
-last_colour-played tag None = refl
-last_colour-played tag (Some colour) = refl
-
--- and it has no tick
-pub ticks-played : (tag : Tag) (colour : Option ℕ) → ticks (played tag colour) ≡ 0
-ticks-played tag None = refl
-ticks-played tag (Some colour) = refl
 
 -- so many ticks are such a history, without a colour
 pub IsColourHistory-ticks : (count : ℕ) → IsColourHistory (replicate count event.Tick)

@@ -2,6 +2,7 @@
 use Rattle.std.specs.Prelude.{ℕ, ◌*◌, ◌==◌, if◌then◌else◌, zero, suc, List, [], ◌∷◌, ◌++◌, take, drop, codes, decimal, flat_map}
 use Rattle.std.specs.List.{range_with_len}
 use Rattle.hex.specs.Hex.{encode_lower}
+use Rattle.sha2.specs.Sha256.{sha256}
 use Rattle.pixel_math.specs.Pixel.{PixelView, pixel_bytes}
 
 -- the bytes of a frame: its rows from the top, each from the left, the pixel at each column and row
@@ -26,3 +27,9 @@ sound_line pairs sound = if pairs == 0 then [] else encode_lower sound ++ 10 ∷
 unfoldable pub frame_lines : ℕ → ℕ → ℕ → ℕ → ℕ → List ℕ → List ℕ → List ℕ
 frame_lines channel tick width height pairs frame sound =
     head_line channel tick ++ row_lines (4 * width) height frame ++ sound_line pairs sound
+
+-- the line of a digest: the channel and the number of the tick, both from 1, and the SHA-256 of the bytes of the frame followed
+-- by those of the sound, in lower-case hexadecimal
+unfoldable pub digest_line : ℕ → ℕ → List ℕ → List ℕ → List ℕ
+digest_line channel tick frame sound =
+    codes "D " ++ decimal channel ++ 32 ∷ decimal tick ++ 32 ∷ encode_lower (sha256 (frame ++ sound)) ++ 10 ∷ []

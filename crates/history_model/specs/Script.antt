@@ -1,13 +1,8 @@
 -- Scripts: lines of connections and of ticks, in the order in which they happen.
-use Rattle.std.specs.Prelude.{ℕ, ◌+◌, ◌==◌, nat_lt, if◌then◌else◌, Bool, true, false, Option, Some, None, option_map, option_and_then, List, [], ◌∷◌, length, take, drop, position, flat_map, replicate}
-use Rattle.play_types.specs.declared.command.Cmd.TheVariants as cmd
+use Rattle.std.specs.Prelude.{ℕ, ◌+◌, ◌==◌, nat_lt, if◌then◌else◌, Bool, true, false, Option, Some, None, option_map, option_and_then, List, [], ◌∷◌, length, take, drop, position}
 use Rattle.play_types.specs.declared.event.Tag.{Tag}
-use Rattle.play_types.specs.declared.event.Event.{Event}
-use Rattle.play_types.specs.declared.event.Event.TheVariants as event
-use Rattle.history_model.specs.Asked.{asked, asked_colour}
 use Rattle.history_model.specs.Parts.{parts_at}
 use Rattle.history_model.specs.Numbers.{number_within, plain_number_within}
-use Rattle.history_model.specs.ColourHistory.{first_place, colour_take}
 
 -- what a line of a script says
 pub data ScriptLine : Type 0 where
@@ -21,14 +16,6 @@ pub data ScriptLine : Type 0 where
   Stop : ScriptLine
   -- nothing that a script may say
   NoForm : ScriptLine
-
--- whether the run goes on after a line
-abbrev pub goes_on : ScriptLine → Bool
-goes_on Comment = true
-goes_on (Ticks count) = true
-goes_on (Said tag text) = true
-goes_on Stop = false
-goes_on NoForm = false
 
 -- `w.s text`: the digits of the worker, of the session, and the text
 abbrev pub addressed_parts : List ℕ → Option (List ℕ × (List ℕ × List ℕ))
@@ -80,27 +67,6 @@ short_meaning (c ∷ more) =
 -- what a line says
 abbrev pub meaning : List ℕ → ScriptLine
 meaning line = if nat_lt longest_line (length line) then NoForm else short_meaning line
-
--- the event that a colour is started on layer 0 of channel 1, with a cut
-abbrev pub played : Tag → Option ℕ → List Event
-played tag None = []
-played tag (Some colour) = event.Do tag (cmd.PlayTake first_place (colour_take colour)) ∷ []
-
--- the server itself
-abbrev pub server : Tag
-server = record { worker = 0; session = 0 }
-
--- the events of a line
-abbrev pub line_events : ScriptLine → List Event
-line_events Comment = []
-line_events (Ticks count) = replicate count event.Tick
-line_events (Said tag text) = played tag (asked_colour (asked text))
-line_events Stop = event.Stop server ∷ []
-line_events NoForm = []
-
--- the history that the lines make
-abbrev pub script_events : List ScriptLine → List Event
-script_events lines = flat_map line_events lines
 
 -- the lines up to the first stop
 abbrev pub until_stop : List ScriptLine → List ScriptLine

@@ -1,18 +1,28 @@
 -- What is written for a script, line by line.
-use Rattle.std.specs.Prelude.{ℕ, zero, suc, ◌+◌, Option, Some, None, List, [], ◌∷◌, ◌++◌, codes, decimal, flat_map}
+use Rattle.std.specs.Prelude.{ℕ, zero, suc, ◌+◌, ◌-◌, ◌*◌, Bool, true, false, if◌then◌else◌, ℤ, pos, negsuc, Option, Some, None, List, [], ◌∷◌, ◌++◌, codes, decimal, flat_map}
+use Rattle.std.specs.Int.{w16, to_le_bytes}
 use Rattle.play_types.specs.Config.{ConfigView}
 use Rattle.play_types.specs.History.{ticks}
+use Rattle.play_types.specs.declared.command.Cmd.{Cmd}
+use Rattle.play_types.specs.declared.answer.Answer.{Answer}
+use Rattle.play_types.specs.declared.answer.Answer.TheVariants as answer
 use Rattle.play_types.specs.declared.event.Tag.{Tag}
 use Rattle.play_types.specs.declared.event.Event.{Event}
 use Rattle.play_types.specs.declared.event.Event.TheVariants as event
+use Rattle.play_types.specs.declared.reply.Name.{Name}
+use Rattle.play_types.specs.declared.reply.Name.TheVariants as name
 use Rattle.play_types.specs.declared.reply.Reply.{Reply}
-use Rattle.history_model.specs.Asked.{asked, asked_reply}
-use Rattle.history_model.specs.FrameText.{frame_bytes, frame_lines}
-use Rattle.history_model.specs.Media.{Setup}
+use Rattle.play_types.specs.declared.reply.Reply.TheVariants as reply
+use Rattle.history_model.specs.Acts.{is_refused}
+use Rattle.history_model.specs.Answer.{numbers_below, pair_samples, channel_numbers, command_answer}
 use Rattle.history_model.specs.Frame.{frame_pixel}
+use Rattle.history_model.specs.FrameText.{frame_bytes, frame_lines, digest_line}
+use Rattle.history_model.specs.Media.{Setup, size}
 use Rattle.history_model.specs.ReplyText.{reply_bytes}
-use Rattle.history_model.specs.Script.{ScriptLine, Comment, Ticks, Said, Stop, NoForm, script_events, until_stop}
+use Rattle.history_model.specs.Script.{ScriptLine, Comment, Ticks, Said, Stop, NoForm}
+use Rattle.history_model.specs.ScriptHistory.{Playout, Played, setup_of, said_step, is_built, ends_at, script_events}
 use Rattle.history_model.specs.ScriptInput.{ended_lines}
+use Rattle.history_model.specs.Session.{Step, Local, Ask, AskBatch, KillServer, EndConnection, Skip, command_name}
 
 -- the configuration of a run that names a width and a height alone
 abbrev pub plain_config : ℕ → ℕ → ConfigView
@@ -38,39 +48,86 @@ unfoldable pub tagged_lines : Tag → List ℕ → List ℕ
 tagged_lines tag bytes = flat_map (reply_line tag) (ended_lines bytes)
 
 -- what is written for a reply, where there is one
-abbrev pub reply_output : ℕ → ℕ → Tag → Option Reply → List ℕ
-reply_output width height tag None = []
-reply_output width height tag (Some reply) = tagged_lines tag (reply_bytes (plain_config width height) [] reply)
+abbrev pub reply_output : Playout → Tag → Option Reply → List ℕ
+reply_output playout tag None = []
+reply_output playout tag (Some answer) = tagged_lines tag (reply_bytes playout.config playout.names answer)
 
--- one channel of this width and height, without sound and without clips
-abbrev pub one_channel : ℕ → ℕ → Setup
-one_channel width height = record { channels = record { width = width; height = height; pairs = 0 } ∷ []; clips = [] }
+-- the reply that the stage's answer to a command of this name makes
+abbrev pub answer_reply : Name → Answer → Reply
+answer_reply command answer.Done = reply.Done command
+answer_reply command (answer.Value micros) = reply.Value micros
+answer_reply command (answer.Info statuses) = reply.Info statuses
+answer_reply command answer.Refused = reply.Refused 403 command
 
--- the frame of the next tick after these events, on a channel of this width and height
-unfoldable pub next_frame : ℕ → ℕ → List Event → List ℕ
-next_frame width height events =
-    frame_lines 1 (ticks events + 1) width height 0 (frame_bytes width height (frame_pixel (one_channel width height) events 1)) []
+-- the reply to a command after these events: one that is not built yet is refused
+abbrev pub ask_reply : Playout → List Event → Tag → Cmd → Reply
+ask_reply playout events tag command =
+    if is_built command
+    then answer_reply (command_name command) (command_answer (setup_of playout) events (is_refused events (event.Do tag command)) command)
+    else reply.Refused 403 (command_name command)
 
--- the frames of the next ticks
-unfoldable pub next_frames : ℕ → ℕ → List Event → ℕ → List ℕ
-next_frames width height events zero = []
-next_frames width height events (suc count) =
-    next_frame width height events ++ next_frames width height (events ++ event.Tick ∷ []) count
+-- the reply of a step after these events: batches are not built yet
+abbrev pub step_reply : Playout → List Event → Tag → Option Step → Option Reply
+step_reply playout events tag None = None
+step_reply playout events tag (Some (Local answer)) = Some answer
+step_reply playout events tag (Some (Ask command)) = Some (ask_reply playout events tag command)
+step_reply playout events tag (Some (AskBatch commands)) = Some (reply.Refused 403 name.Commit)
+step_reply playout events tag (Some KillServer) = Some (reply.Done name.Kill)
+step_reply playout events tag (Some EndConnection) = None
+step_reply playout events tag (Some Skip) = None
 
--- what is written for a line, after these events
-abbrev pub line_output : ℕ → ℕ → List Event → ScriptLine → List ℕ
-line_output width height events Comment = []
-line_output width height events (Ticks count) = next_frames width height events count
-line_output width height events (Said tag text) = reply_output width height tag (asked_reply (asked text))
-line_output width height events Stop = []
-line_output width height events NoForm = []
+-- a sample as 16 bits in two's complement, the lower byte first
+abbrev pub sample_bytes : ℤ → List ℕ
+sample_bytes (pos n) = to_le_bytes w16 n
+sample_bytes (negsuc n) = to_le_bytes w16 (65535 - n)
 
--- what is written for lines that follow others
-unfoldable pub output_after : ℕ → ℕ → List ScriptLine → List ScriptLine → List ℕ
-output_after width height before [] = []
-output_after width height before (line ∷ lines) =
-    line_output width height (script_events before) line ++ output_after width height (before ++ line ∷ []) lines
+-- the sound of a channel at the tick after these events: pair by pair, left then right
+abbrev pub sound_bytes : Setup → List Event → ℕ → List ℕ
+sound_bytes setup events channel =
+    flat_map (λ pair. flat_map sample_bytes (pair_samples setup events channel pair)) (numbers_below (size setup channel).pairs)
+
+-- the picture of a channel at that tick
+abbrev pub picture_bytes : Setup → List Event → ℕ → List ℕ
+picture_bytes setup events channel =
+    frame_bytes (size setup channel).width (size setup channel).height (frame_pixel setup events channel)
+
+-- what is written for a channel at a tick: the lines of its frame, or the line of its digest
+abbrev pub channel_output : Bool → ℕ → Setup → ℕ → List ℕ → List ℕ → List ℕ
+channel_output false tick setup channel picture sound =
+    frame_lines channel tick (size setup channel).width (size setup channel).height (size setup channel).pairs picture sound
+channel_output true tick setup channel picture sound = digest_line channel tick picture sound
+
+-- what is written for the tick after these events, channel 1 first
+unfoldable pub tick_output : Playout → List Event → List ℕ
+tick_output playout events =
+    let setup = setup_of playout in
+    flat_map
+    (λ channel.
+    channel_output playout.digests (ticks events + 1) setup channel (picture_bytes setup events channel) (sound_bytes setup events channel))
+    (channel_numbers setup)
+
+-- what is written for the next ticks
+unfoldable pub ticks_output : Playout → List Event → ℕ → List ℕ
+ticks_output playout events zero = []
+ticks_output playout events (suc count) =
+    tick_output playout events ++ ticks_output playout (events ++ event.Tick ∷ []) count
+
+-- what is written for a line after those before it
+abbrev pub output_at : Playout → List Played → Played → ScriptLine → List ℕ
+output_at playout before line Comment = []
+output_at playout before line (Ticks count) = ticks_output playout (script_events playout before) count
+output_at playout before line (Said tag text) =
+    reply_output playout tag (step_reply playout (script_events playout before) tag (said_step playout before line tag))
+output_at playout before line Stop = []
+output_at playout before line NoForm = []
+
+-- what is written for lines that follow others, up to the line at which the run ends
+unfoldable pub output_after : Playout → List Played → List Played → List ℕ
+output_after playout before [] = []
+output_after playout before (line ∷ lines) =
+    output_at playout before line line.line
+    ++ (if ends_at playout before line line.line then [] else output_after playout (before ++ line ∷ []) lines)
 
 -- what is written for a script
-abbrev pub script_output : ℕ → ℕ → List ScriptLine → List ℕ
-script_output width height lines = output_after width height [] lines
+unfoldable pub script_output : Playout → List Played → List ℕ
+script_output playout lines = output_after playout [] lines

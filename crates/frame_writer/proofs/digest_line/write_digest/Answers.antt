@@ -3,7 +3,7 @@ use Rattle.std.specs.Prelude.{codes, decimal}
 use Rattle.hex.specs.Hex.{encode_lower}
 use Rattle.sha2.specs.Sha256.{sha256}
 use Rattle.play_outside.proofs.Sending.{taken_more, Fails-before, Fails-within, Sends-last}
-use Rattle.frame_writer.specs.DigestText.{digest_line}
+use Rattle.history_model.specs.FrameText.{digest_line}
 use Rattle.frame_writer.proofs.digest_line.write_digest.Goals as goal
 
 -- the line in the parts in which it is sent

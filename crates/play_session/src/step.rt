@@ -1,0 +1,22 @@
+//! What is to be done for a line of a connection.
+
+use play_types::{Cmd, Reply};
+
+/// What is to be done for a line of a connection.
+#[derive(Debug, Drop)]
+pub enum Step {
+    /// The reply is sent. `NoMemory` is the reply to a line that was given up for want of memory.
+    Local(Reply),
+    /// The stage is asked for this command.
+    Ask(Cmd),
+    /// The stage is asked for the commands of `Session::batch` as one event.
+    AskBatch,
+    /// The server ends.
+    Kill,
+    /// The connection ends.
+    Bye,
+    /// The line holds no word: nothing is done.
+    Skip,
+    /// No whole line is held.
+    NeedMore,
+}

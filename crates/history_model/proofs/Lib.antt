@@ -9,3 +9,5 @@ pub mod Frames
 pub mod Parts
 pub mod ScriptColours
 pub mod Outputs
+pub mod Streams
+pub mod Asking

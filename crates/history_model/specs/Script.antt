@@ -1,5 +1,5 @@
 -- Scripts: lines of connections and of ticks, in the order in which they happen.
-use Rattle.std.specs.Prelude.{ℕ, ◌+◌, ◌==◌, nat_lt, if◌then◌else◌, Bool, true, false, Option, Some, None, option_map, option_and_then, List, [], ◌∷◌, length, take, drop, position}
+use Rattle.std.specs.Prelude.{ℕ, ◌==◌, nat_lt, if◌then◌else◌, Option, Some, None, option_map, option_and_then, List, [], ◌∷◌, length}
 use Rattle.play_types.specs.declared.event.Tag.{Tag}
 use Rattle.history_model.specs.Parts.{parts_at}
 use Rattle.history_model.specs.Numbers.{number_within, plain_number_within}

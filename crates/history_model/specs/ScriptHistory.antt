@@ -1,11 +1,9 @@
 -- The history that the lines of a script make.
-use Rattle.std.specs.Prelude.{ℕ, ◌+◌, ◌==◌, ◌&&◌, Bool, true, false, if◌then◌else◌, Option, Some, None, List, [], ◌∷◌, ◌++◌, length, map, filter_map, flat_map, replicate, slice_get}
+use Rattle.std.specs.Prelude.{ℕ, ◌==◌, ◌&&◌, Bool, true, false, if◌then◌else◌, Option, Some, None, List, [], ◌∷◌, ◌++◌, length, map, filter_map, flat_map, replicate, slice_get}
 use Rattle.std.specs.List.{enumerate_from}
 use Rattle.play_types.specs.Config.{ConfigView, ChannelView}
 use Rattle.play_types.specs.Media.{MediaNameView}
 use Rattle.play_types.specs.ClipFile.{ClipView}
-use Rattle.play_types.specs.Place.{PlaceView}
-use Rattle.play_types.specs.Take.{TakeView}
 use Rattle.play_types.specs.declared.geometry.Geometry.{Geometry}
 use Rattle.play_types.specs.declared.transition.Kind.{Kind}
 use Rattle.play_types.specs.declared.transition.Kind.TheVariants.{Cut}
@@ -17,7 +15,7 @@ use Rattle.play_types.specs.declared.event.Tag.{Tag}
 use Rattle.play_types.specs.declared.event.Event.{Event}
 use Rattle.play_types.specs.declared.event.Event.TheVariants as event
 use Rattle.history_model.specs.Media.{Setup}
-use Rattle.history_model.specs.Session.{Step, Local, Ask, AskBatch, KillServer, EndConnection, Skip, steps}
+use Rattle.history_model.specs.Session.{Step, Ask, KillServer, steps}
 use Rattle.history_model.specs.Script.{ScriptLine, Comment, Ticks, Said, Stop, NoForm}
 
 -- what a script is played on: the configuration, the names of the media table and its clips, and whether frames are written as
@@ -52,10 +50,14 @@ abbrev pub text_by : Tag → ScriptLine → Option (List ℕ)
 text_by tag (Said other text) = if same_tag tag other then Some text else None
 text_by tag line = None
 
+-- the mark of a line that has a text
+abbrev pub mark_of : Option (List ℕ) → Bool → Option Bool
+mark_of None given_up = None
+mark_of (Some text) given_up = Some given_up
+
 -- whether a line of this connection was given up
 abbrev pub given_up_by : Tag → Played → Option Bool
-given_up_by tag played =
-    elim (text_by tag played.line) [ | Some text ↦ Some played.given_up | None ↦ None ]
+given_up_by tag played = mark_of (text_by tag played.line) played.given_up
 
 -- the texts of a connection
 unfoldable pub texts_of : Tag → List Played → List (List ℕ)

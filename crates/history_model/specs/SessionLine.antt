@@ -5,7 +5,6 @@ use Rattle.amcp_text.specs.Lines.{Line, Text, TooLong, NotUtf8}
 use Rattle.amcp_text.specs.Tokens.{words_of}
 use Rattle.play_types.specs.Config.{ConfigView}
 use Rattle.play_types.specs.Media.{MediaNameView}
-use Rattle.play_types.specs.declared.reply.Name.{Name}
 use Rattle.play_types.specs.declared.reply.Reply.{Reply}
 use Rattle.play_types.specs.declared.reply.Reply.TheVariants.{Unknown, Refused}
 use Rattle.play_types.specs.declared.parsed.Parsed.{Parsed}

@@ -11,3 +11,4 @@ pub mod ScriptColours
 pub mod Outputs
 pub mod Streams
 pub mod Asking
+pub mod Aiming

@@ -1,6 +1,6 @@
 pub mod Ending
 pub mod Line
-pub mod Request
+pub mod Clients
 pub mod Words
 pub mod Stage
 pub mod Script

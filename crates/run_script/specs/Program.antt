@@ -1,16 +1,17 @@
 -- What the program promises of a run.
-use Rattle.std.specs.Prelude.{◌≡◌, ℕ, ◌≤◌, ◌⊎◌, Bool, true, false, Option, Some, List, [], ◌++◌, length, IfSome}
+use Rattle.std.specs.Prelude.{◌≡◌, ◌≢◌, ℕ, ◌<◌, ◌≤◌, ◌⊎◌, Bool, true, false, Option, Some, List, [], ◌∷◌, ◌++◌, length, IfSome}
+use Rattle.std.specs.List.{list_all}
 use Rattle.std.specs.Str.Lines.{lines}
 use Rattle.play_outside.specs.SourceState.{SourceState}
 use Rattle.play_outside.specs.SinkState.{SinkState, after_taking}
 use Rattle.play_outside.specs.Sink.{Fails}
-use Rattle.run_script.specs.declared.ending.Ending.{Ending}
-use Rattle.run_script.specs.Ending.{status_of, fault_line, usage_line}
-use Rattle.std.specs.List.{list_all}
-use Rattle.history_model.specs.Script.{ScriptLine, NoForm, goes_on, until_stop}
+use Rattle.history_model.specs.Script.{ScriptLine, NoForm, until_stop}
+use Rattle.history_model.specs.ScriptHistory.{Playout, Played, ends_at, goes_on}
 use Rattle.history_model.specs.ScriptInput.{ended_lines}
 use Rattle.history_model.specs.ScriptOutput.{script_output}
-use Rattle.run_script.specs.Script.{meanings}
+use Rattle.run_script.specs.declared.ending.Ending.{Ending}
+use Rattle.run_script.specs.Ending.{status_of, fault_line, usage_line}
+use Rattle.run_script.specs.Script.{meanings, said_by}
 use Rattle.run_script.specs.Run.{limit, Runs}
 
 -- the exit statuses that come
@@ -26,11 +27,11 @@ abbrev pub IsUsage : SourceState → SourceState → SinkState → SinkState →
 IsUsage source source' sink sink' = (source' ≡ source) × Says usage_line sink sink'
 
 -- a run that ended, and then said what went wrong
-pub record IsRun (width height status : ℕ) (source source' : SourceState) (sink sink' : SinkState) : Type 0 where
+pub record IsRun (playout : Playout) (status : ℕ) (source source' : SourceState) (sink sink' : SinkState) : Type 0 where
   pub ending : Ending
   pub outcome : status ≡ status_of ending
   pub said_after : SinkState
-  pub run : Runs width height ending source source' sink said_after
+  pub run : Runs playout ending source source' sink said_after
   pub said : Says (fault_line ending) said_after sink'
 
 -- whether a line says something that a script may say
@@ -38,26 +39,35 @@ abbrev pub is_formed : ScriptLine → Bool
 is_formed NoForm = false
 is_formed line = true
 
--- what the lines of an input say, up to the first stop
-abbrev pub played_lines : List ℕ → List ScriptLine
-played_lines input = until_stop (meanings (lines input))
+-- the run ended at a line, which is the server's own stop or a kill, and the input was read at least to that line's end
+pub record EndsAtLine (playout : Playout) (played : List Played) (read rest : List ℕ) : Type 0 where
+  pub before : List Played
+  pub last : Played
+  pub later : List Played
+  pub parts : played ≡ before ++ last ∷ later
+  pub formed : goes_on playout before ≡ true
+  pub some_form : last.line ≢ NoForm
+  pub ends : ends_at playout before last last.line ≡ true
+  pub whole : (rest ≡ []) ⊎ (length before < length (ended_lines read))
 
--- the input was read to its end, or at least to the end of its first stop, and the output of its lines up to there was written and nothing else
-pub record PlaysAll (width height : ℕ) (input : List ℕ) (after : Option (List ℕ)) (sink sink' : SinkState) : Type 0 where
+-- the output of the lines of an input was written, and nothing else, where the sessions gave up some of the lines for want of
+-- memory; the input was read to its end, or to a line at which the run ends
+pub record PlaysAll (playout : Playout) (input : List ℕ) (after : Option (List ℕ)) (sink sink' : SinkState) : Type 0 where
   pub read : List ℕ
   pub rest : List ℕ
   pub parts : input ≡ read ++ rest
   pub left : after ≡ Some rest
-  pub whole : (rest ≡ []) ⊎ (list_all goes_on (meanings (ended_lines read)) ≡ false)
-  pub formed : list_all is_formed (played_lines input) ≡ true
-  pub written : sink' ≡ after_taking sink (script_output width height (played_lines input))
+  pub played : List Played
+  pub said : said_by played ≡ meanings (lines input)
+  pub ended : ((goes_on playout played ≡ true) × (rest ≡ [])) ⊎ EndsAtLine playout played read rest
+  pub written : sink' ≡ after_taking sink (script_output playout played)
 
 -- where the input tells what it had, it was played to its end or to its first stop
-abbrev pub IsPlayed : ℕ → ℕ → SourceState → SourceState → SinkState → SinkState → Type 0
-IsPlayed width height source source' sink sink' =
-    IfSome source.left (λ input. PlaysAll width height input source'.left sink sink')
+abbrev pub IsPlayed : Playout → SourceState → SourceState → SinkState → SinkState → Type 0
+IsPlayed playout source source' sink sink' =
+    IfSome source.left (λ input. PlaysAll playout input source'.left sink sink')
     × (source'.faults ≡ source.faults) × (sink'.faults ≡ sink.faults)
 
 -- the input tells what it has: its lines up to the first stop are all of a form, and it is not too long
 abbrev pub IsValid : SourceState → Type 0
-IsValid source = (input : List ℕ) × (source.left ≡ Some input) × (length input ≤ limit) × (list_all is_formed (played_lines input) ≡ true)
+IsValid source = (input : List ℕ) × (source.left ≡ Some input) × (length input ≤ limit) × (list_all is_formed (until_stop (meanings (lines input))) ≡ true)

@@ -3,14 +3,13 @@ use Rattle.std.specs.Prelude.{◌≡◌, ℕ, ◌+◌, ◌^◌, ◌<◌, ◌≤�
 use Rattle.play_outside.specs.Faults.{Rose}
 use Rattle.play_outside.specs.SourceState.{SourceState}
 use Rattle.play_outside.specs.Source.{Gives, IsAtEnd}
-use Rattle.play_outside.specs.SinkState.{SinkState, after_taking}
-use Rattle.history_model.specs.Script.{NoForm}
-use Rattle.history_model.specs.Script as line
-use Rattle.history_model.specs.ScriptInput.{received}
+use Rattle.play_outside.specs.SinkState.{SinkState}
+use Rattle.history_model.specs.ScriptHistory.{Playout}
+use Rattle.history_model.specs.ScriptInput.{ended_lines, received}
 use Rattle.run_script.specs.declared.ending.Ending.{Ending}
 use Rattle.run_script.specs.declared.ending.Ending.TheVariants.{Finished, Stopped, BadLine, TooLong, ReadFault, WriteFault, Memory}
 use Rattle.run_script.specs.declared.script.Script.{Script}
-use Rattle.run_script.specs.Script.{all_go_on, output_of, HasTaken, IsWritten, StopsAt, FailsAt}
+use Rattle.run_script.specs.Script.{IsDone, HasTaken, StopsAt, IsBadAt, FailsAt}
 
 -- the most bytes that an input may have
 abbrev pub limit : ℕ
@@ -22,27 +21,22 @@ pub record Front (read : List ℕ) (ended : Bool) (front : List ℕ) (at_end : B
   pub parts : take limit read ≡ front ++ rest
   pub whole : at_end ≡ true → (ended ≡ true) × (front ≡ read)
 
--- the run goes on after all lines that were received, and their output was written
-pub record IsDone (width height : ℕ) (bytes : List ℕ) (ended : Bool) (first state : SinkState) : Type 0 where
-  pub formed : all_go_on (received bytes ended) ≡ true
-  pub written : state ≡ after_taking first (output_of width height (received bytes ended))
-
 -- how a run ends that has read these bytes, and the end of the input or not, and has not yet said what went wrong
-abbrev pub Ends : ℕ → ℕ → Ending → List ℕ → Bool → SinkState → SinkState → Type 0
-Ends width height Finished read ended first state =
-    (ended ≡ true) × (length read ≤ limit) × IsDone width height read true first state
-Ends width height Stopped read ended first state =
-    (front : List ℕ) × (at_end : Bool) × Front read ended front at_end × (number : ℕ) × StopsAt width height line.Stop front at_end number first state
-Ends width height (BadLine number) read ended first state =
-    (front : List ℕ) × (at_end : Bool) × Front read ended front at_end × StopsAt width height NoForm front at_end number first state
-Ends width height TooLong read ended first state =
-    (limit < length read) × IsDone width height (take limit read) false first state
-Ends width height ReadFault read ended first state =
-    (ended ≡ false) × (length read ≤ limit) × IsDone width height read false first state
-Ends width height WriteFault read ended first state =
-    (front : List ℕ) × (at_end : Bool) × Front read ended front at_end × FailsAt width height front at_end first state
-Ends width height Memory read ended first state =
-    (front : List ℕ) × Front read ended front false × IsWritten width height front first state
+abbrev pub Ends : Playout → Ending → List ℕ → Bool → SinkState → SinkState → Type 0
+Ends playout Finished read ended first state =
+    (ended ≡ true) × (length read ≤ limit) × IsDone playout (received read true) first state
+Ends playout Stopped read ended first state =
+    (front : List ℕ) × (at_end : Bool) × Front read ended front at_end × StopsAt playout front at_end first state
+Ends playout (BadLine number) read ended first state =
+    (front : List ℕ) × (at_end : Bool) × Front read ended front at_end × IsBadAt playout front at_end number first state
+Ends playout TooLong read ended first state =
+    (limit < length read) × IsDone playout (received (take limit read) false) first state
+Ends playout ReadFault read ended first state =
+    (ended ≡ false) × (length read ≤ limit) × IsDone playout (received read false) first state
+Ends playout WriteFault read ended first state =
+    (front : List ℕ) × (at_end : Bool) × Front read ended front at_end × FailsAt playout front at_end first state
+Ends playout Memory read ended first state =
+    (front : List ℕ) × Front read ended front false × IsDone playout (ended_lines front) first state
 
 -- the count of faults of the input rose where a read failed, and is else as before
 abbrev pub FaultsOf : Ending → ℕ → ℕ → Type 0
@@ -55,17 +49,17 @@ FaultsOf WriteFault before after = after ≡ before
 FaultsOf Memory before after = after ≡ before
 
 -- a run that has not yet said what went wrong
-pub record Runs (width height : ℕ) (ending : Ending) (source source' : SourceState) (first state : SinkState) : Type 0 where
+pub record Runs (playout : Playout) (ending : Ending) (source source' : SourceState) (first state : SinkState) : Type 0 where
   pub read : List ℕ
   pub ended : Bool
   pub gives : Gives read source.left source'.left
   pub faults : FaultsOf ending source.faults source'.faults
   pub at_end : ended ≡ true → IsAtEnd source'
-  pub ends : Ends width height ending read ended first state
+  pub ends : Ends playout ending read ended first state
 
 -- a piece was taken, or the run ends in it, which is no fault of the input
-abbrev pub Continues : ℕ → ℕ → Result ℕ Ending → ℕ → Script → List ℕ → List ℕ → SinkState → SinkState → Type 0
-Continues width height (Ok rest) left script bytes piece first state =
-    (rest + length piece ≡ left) × HasTaken width height script (bytes ++ piece) × IsWritten width height (bytes ++ piece) first state
-Continues width height (Err ending) left script bytes piece first state =
-    Ends width height ending (bytes ++ piece) false first state × ((faults : ℕ) → FaultsOf ending faults faults)
+abbrev pub Continues : Playout → Result ℕ Ending → ℕ → Script → List ℕ → List ℕ → SinkState → SinkState → Type 0
+Continues playout (Ok rest) left script bytes piece first state =
+    (rest + length piece ≡ left) × HasTaken playout script (bytes ++ piece) first state
+Continues playout (Err ending) left script bytes piece first state =
+    Ends playout ending (bytes ++ piece) false first state × ((faults : ℕ) → FaultsOf ending faults faults)

@@ -1,44 +1,69 @@
--- What the stage of one channel stands for, and what a line makes of it.
-use Rattle.std.specs.Prelude.{◌≡◌, ℕ, zero, suc, ◌+◌, ◌≤◌, Option, Some, None, Result, Ok, Err, IfOk, true, List, [], ◌++◌}
-use Rattle.amcp_text.specs.Reader as reader
+-- What the stage stands for, and what a line makes of it.
+use Rattle.std.specs.Prelude.{◌≡◌, ◌≢◌, ℕ, ◌+◌, ◌-◌, ◌*◌, ◌≤◌, Bool, true, false, Option, Some, None, IfSome, Result, Ok, Err, List, [], ◌∷◌, ◌++◌, length, map, replicate, slice_get, All, vec_capacity}
+use Rattle.std.specs.List.{range_with_len}
+use Rattle.play_types.specs.Config.{ConfigView, ChannelView}
+use Rattle.play_types.specs.Media.{MediaNameView}
+use Rattle.play_types.specs.Place.{PlaceView}
+use Rattle.play_types.specs.Take.{TakeView}
 use Rattle.play_types.specs.History.{ticks}
+use Rattle.play_types.specs.declared.command.Cmd.{Cmd}
+use Rattle.play_types.specs.declared.command.Cmd.TheVariants.{PlayTake}
 use Rattle.play_types.specs.declared.event.Tag.{Tag}
 use Rattle.play_types.specs.declared.event.Event.{Event}
-use Rattle.play_types.specs.declared.reply.Reply.{Reply}
+use Rattle.play_types.specs.declared.event.Event.TheVariants as event
+use Rattle.play_types.specs.declared.take.Spec.{Spec}
+use Rattle.play_types.specs.declared.take.Spec.TheVariants.{Colour}
+use Rattle.pixel_math.specs.Pixel.{PixelView, transparent, colour_pixel}
 use Rattle.play_outside.specs.SinkState.{SinkState, after_taking}
 use Rattle.play_outside.specs.Sink.{Fails}
-use Rattle.std.specs.Option.{option_or}
-use Rattle.play_types.specs.Config.{ConfigView}
-use Rattle.play_types.specs.Media.{MediaNameView}
-use Rattle.run_script.specs.declared.clients.Clients.{Clients}
-use Rattle.history_model.specs.Asked.{asked, asked_colour, asked_reply}
-use Rattle.history_model.specs.ColourHistory.{IsColourHistory, last_colour, pixel_of_colour}
-use Rattle.history_model.specs.FrameText.{frame_bytes, frame_lines}
-use Rattle.history_model.specs.ReplyText.{reply_bytes}
-use Rattle.history_model.specs.Script.{ScriptLine, NoForm, goes_on, line_events}
-use Rattle.history_model.specs.Script as script
-use Rattle.history_model.specs.ScriptOutput.{plain_config, line_output, reply_output}
+use Rattle.history_model.specs.FrameText.{frame_bytes}
+use Rattle.history_model.specs.Media.{size}
+use Rattle.history_model.specs.PlayHistory.{IsPlayHistory, showing, showing_pixel}
+use Rattle.history_model.specs.PlayHistory as model
+use Rattle.history_model.specs.Script.{ScriptLine, NoForm}
+use Rattle.history_model.specs.ScriptHistory.{Playout, Played, setup_of, is_built, step_events, is_kill, ends_at, script_events}
+use Rattle.history_model.specs.ScriptOutput.{reply_output, step_reply, channel_output, ticks_output, output_at}
+use Rattle.history_model.specs.Session.{Step}
 use Rattle.run_script.specs.declared.ending.Halt.{Halt}
 use Rattle.run_script.specs.declared.ending.Halt.TheVariants as halt
+use Rattle.run_script.specs.declared.stage.Showing.{Showing}
 use Rattle.run_script.specs.declared.stage.Stage.{Stage}
+use Rattle.run_script.specs.Clients.{AreClients}
 
--- no line is being read, and replies speak of one channel of this width and height and of no clips
-pub record IsReady (width height : ℕ) (clients : Clients) : Type 0 where
-  pub reader : reader.StandsFor clients.reader []
-  pub config : clients.config ≡ plain_config width height
-  pub media : clients.media ≡ []
+-- what a channel shows after so many ticks
+abbrev pub seen : ℕ → Option Showing → Option model.Showing
+seen now None = None
+seen now (Some one) = Some (record { take = one.take; shown = now - one.since })
 
--- the bytes of a reply, where there is one
-abbrev pub bytes_of_reply : ConfigView → List MediaNameView → Option Reply → List ℕ
-bytes_of_reply config media None = []
-bytes_of_reply config media (Some reply) = reply_bytes config media reply
+-- a take did not begin after now
+abbrev pub HasBegun : ℕ → Option Showing → Type 0
+HasBegun now one = IfSome one (λ showing. showing.since ≤ now)
 
--- the events only play colours and tick, the stage stands where they put it, and it is ready for a line
-pub record StandsFor (stage : Stage) (events : List Event) : Type 0 where
-  pub colours : IsColourHistory events
-  pub colour : stage.colour ≡ last_colour events
+-- there is room for a frame of a channel
+abbrev pub HasRoom : ℕ → ChannelView → Type 0
+HasRoom room channel = 4 * channel.width * channel.height ≤ room
+
+-- no channel has sound, there are no clips, and frames are written in hexadecimal
+pub record IsSilent (playout : Playout) : Type 0 where
+  pub clips : playout.clips ≡ []
+  pub digests : playout.digests ≡ false
+  pub silent : All (λ channel. channel.pairs ≡ 0) playout.config.channels
+
+-- the stage stands where these events put it: they only play clips and colours on layer 0, and tick
+pub record Shows (playout : Playout) (stage : Stage) (events : List Event) : Type 0 where
+  pub config : stage.config ≡ playout.config
+  pub names : stage.names ≡ playout.names
+  pub plain : IsSilent playout
+  pub room : All (HasRoom (vec_capacity stage.frame)) playout.config.channels
+  pub plays : IsPlayHistory events
   pub ticks : stage.ticks ≡ ticks events
-  pub clients : IsReady stage.width stage.height stage.clients
+  pub begun : All (HasBegun stage.ticks) stage.shown.items
+  pub shown : map (seen stage.ticks) stage.shown.items ≡ map (λ channel. showing channel events) (range_with_len 1 (length playout.config.channels))
+
+-- the same of the events that the lines of a script make, and its connections are served
+pub record StandsFor (playout : Playout) (stage : Stage) (played : List Played) : Type 0 where
+  pub shows : Shows playout stage (script_events playout played)
+  pub clients : AreClients playout stage.clients.list.items played
 
 -- the text was written, or memory ran out before it, or a write of it failed
 abbrev pub Writes : Result (Unit {0}) Halt → List ℕ → SinkState → SinkState → Type 0
@@ -48,51 +73,90 @@ Writes (Err halt.Memory) text before after = after ≡ before
 Writes (Err halt.Stop) text before after = ⊥
 Writes (Err halt.NoForm) text before after = ⊥
 
--- the lines of a frame of one colour or of none
-abbrev pub colour_frame : ℕ → ℕ → ℕ → Option ℕ → List ℕ
-colour_frame width height tick colour =
-    frame_lines 1 tick width height 0 (frame_bytes width height (λ x y. pixel_of_colour colour)) []
+-- the text was written, or a write of it failed
+abbrev pub Shown : Result (Unit {0}) Halt → List ℕ → SinkState → SinkState → Type 0
+Shown (Ok done) text before after = after ≡ after_taking before text
+Shown (Err halt.Write) text before after = Fails text before after
+Shown (Err halt.Memory) text before after = ⊥
+Shown (Err halt.Stop) text before after = ⊥
+Shown (Err halt.NoForm) text before after = ⊥
 
--- the lines of so many such frames after a tick
-unfoldable pub colour_frames : ℕ → ℕ → ℕ → Option ℕ → ℕ → List ℕ
-colour_frames width height tick colour zero = []
-colour_frames width height tick colour (suc count) =
-    colour_frames width height tick colour count ++ colour_frame width height (tick + suc count) colour
+-- what is written for a channel at the tick after these events
+abbrev pub channel_text : Playout → List Event → ℕ → List ℕ
+channel_text playout events channel =
+    let setup = setup_of playout in
+    channel_output playout.digests (ticks events + 1) setup channel
+    (frame_bytes (size setup channel).width (size setup channel).height (showing_pixel setup channel (showing channel events))) []
 
--- the channel has the same size as before
-pub record SameSize (old new : Stage) : Type 0 where
-  pub width : new.width ≡ old.width
-  pub height : new.height ≡ old.height
+-- the pixel that a channel shows everywhere, named by its place from 0
+abbrev pub take_colour : Spec → PixelView
+take_colour (Colour value) = colour_pixel value
+take_colour other = transparent
 
--- each of so many ticks writes a frame of the colour that is shown, under its number
-pub record Ticks (result : Result (Unit {0}) Halt) (count : ℕ) (old new : Stage) (before after : SinkState) : Type 0 where
-  pub size : SameSize old new
-  pub colour : new.colour ≡ old.colour
+abbrev pub colour_by : Option (Option Showing) → PixelView
+colour_by None = transparent
+colour_by (Some None) = transparent
+colour_by (Some (Some one)) = take_colour one.take.spec
+
+abbrev pub colour_shown : List (Option Showing) → ℕ → PixelView
+colour_shown shown at = colour_by (slice_get shown at)
+
+-- all but the picture in the room for a frame is as before
+pub record OnlyFrame (old new : Stage) : Type 0 where
+  pub config : new.config ≡ old.config
+  pub names : new.names ≡ old.names
   pub clients : new.clients ≡ old.clients
-  pub ticks : IfOk result (λ done. new.ticks ≡ old.ticks + count)
-  pub grows : new.ticks ≤ old.ticks + count
-  pub written : Writes result (colour_frames old.width old.height old.ticks old.colour count) before after
-
--- a text is answered, and starts its colour where it names one
-pub record Answers (result : Result (Unit {0}) Halt) (tag : Tag) (text : List ℕ) (old new : Stage) (before after : SinkState) : Type 0 where
-  pub size : SameSize old new
+  pub shown : new.shown ≡ old.shown
   pub ticks : new.ticks ≡ old.ticks
-  pub clients : IsReady old.width old.height new.clients
-  pub colour : IfOk result (λ done. new.colour ≡ option_or (asked_colour (asked text)) old.colour)
-  pub written : Writes result (reply_output old.width old.height tag (asked_reply (asked text))) before after
 
--- what a line made of the stage and of the output: all that it says, or a front of its text, or nothing
-abbrev pub Outcome : Result (Unit {0}) Halt → ScriptLine → List Event → Stage → SinkState → SinkState → Type 0
-Outcome (Ok done) line events stage before after =
-    (goes_on line ≡ true) × StandsFor stage (events ++ line_events line)
-    × (after ≡ after_taking before (line_output stage.width stage.height events line))
-Outcome (Err halt.Write) line events stage before after =
-    (goes_on line ≡ true) × Fails (line_output stage.width stage.height events line) before after
-Outcome (Err halt.Memory) line events stage before after = after ≡ before
-Outcome (Err halt.Stop) line events stage before after = (line ≡ script.Stop) × (after ≡ before)
-Outcome (Err halt.NoForm) line events stage before after = (line ≡ NoForm) × (after ≡ before)
+-- each of so many ticks was written
+pub record Ticks (playout : Playout) (result : Result (Unit {0}) Halt) (count : ℕ) (events : List Event) (old new : Stage) (before after : SinkState) : Type 0 where
+  pub clients : new.clients ≡ old.clients
+  pub written : Shown result (ticks_output playout events count) before after
+  pub shows : result ≡ Ok tt → Shows playout new (events ++ replicate count event.Tick)
 
--- a line was taken after these events
-pub record Takes (result : Result (Unit {0}) Halt) (line : ScriptLine) (events : List Event) (old new : Stage) (before after : SinkState) : Type 0 where
-  pub size : SameSize old new
-  pub outcome : Outcome result line events new before after
+-- a play that the stage can do, and its channel and take
+abbrev pub IsPlayFound : Option (ℕ × TakeView) → Cmd → Type 0
+IsPlayFound None command = is_built command ≡ false
+IsPlayFound (Some found) command =
+    (place : PlaceView) × (command ≡ PlayTake place found.1) × (place.channel ≡ found.0) × (1 ≤ found.0) × (is_built command ≡ true) × model.IsPlay command
+
+-- a step was followed after these events, or its reply was not written
+abbrev pub Follows : Playout → Result (Unit {0}) Halt → Tag → Option Step → List Event → Stage → SinkState → SinkState → Type 0
+Follows playout (Ok done) tag step events new before after =
+    (is_kill step ≡ false) × Shows playout new (events ++ step_events tag step)
+    × (after ≡ after_taking before (reply_output playout tag (step_reply playout events tag step)))
+Follows playout (Err halt.Write) tag step events new before after =
+    Fails (reply_output playout tag (step_reply playout events tag step)) before after
+Follows playout (Err halt.Memory) tag step events new before after = after ≡ before
+Follows playout (Err halt.Stop) tag step events new before after =
+    (is_kill step ≡ true) × (after ≡ after_taking before (reply_output playout tag (step_reply playout events tag step)))
+Follows playout (Err halt.NoForm) tag step events new before after = ⊥
+
+-- all but what the channels show is as before
+pub record OnlyShown (old new : Stage) : Type 0 where
+  pub config : new.config ≡ old.config
+  pub names : new.names ≡ old.names
+  pub clients : new.clients ≡ old.clients
+  pub ticks : new.ticks ≡ old.ticks
+
+-- a line was played after others: all that it says was done and the run goes on, or the run ends at it, or a write of what it
+-- writes failed, or memory ran out before it
+abbrev pub Takes : Playout → Result (Unit {0}) Halt → ScriptLine → List Played → Stage → SinkState → SinkState → Type 0
+Takes playout (Ok done) line played new before after =
+    (given_up : Bool) × (line ≢ NoForm) × (ends_at playout played (record { line = line; given_up = given_up }) line ≡ false)
+    × StandsFor playout new (played ++ record { line = line; given_up = given_up } ∷ [])
+    × (after ≡ after_taking before (output_at playout played (record { line = line; given_up = given_up }) line))
+Takes playout (Err halt.Write) line played new before after =
+    (given_up : Bool) × (line ≢ NoForm) × Fails (output_at playout played (record { line = line; given_up = given_up }) line) before after
+Takes playout (Err halt.Memory) line played new before after = after ≡ before
+Takes playout (Err halt.Stop) line played new before after =
+    (given_up : Bool) × (line ≢ NoForm) × (ends_at playout played (record { line = line; given_up = given_up }) line ≡ true)
+    × (after ≡ after_taking before (output_at playout played (record { line = line; given_up = given_up }) line))
+Takes playout (Err halt.NoForm) line played new before after = (line ≡ NoForm) × (after ≡ before)
+
+-- a take is shown on layer 0 of a channel from now on
+abbrev pub Plays : ℕ → TakeView → Stage → Stage → Type 0
+Plays channel take old new =
+    (vec_capacity new.frame ≡ vec_capacity old.frame)
+    × ((channel - 1 < length old.shown.items) → new.shown.items ≡ set_at (channel - 1) (Some (record { take = take; since = old.ticks })) old.shown.items)

@@ -1,8 +1,10 @@
 -- The words of the command line.
-use Rattle.std.specs.Prelude.{ℕ, if◌then◌else◌, Option, None, option_map, option_and_then, List, [], ◌∷◌, codes}
+use Rattle.std.specs.Prelude.{ℕ, false, if◌then◌else◌, Option, None, option_map, option_and_then, List, [], ◌∷◌, codes}
 use Rattle.std.specs.Str.{bytes_eq}
 use Rattle.play_types.specs.declared.geometry.Geometry.{Geometry}
 use Rattle.history_model.specs.Numbers.{number_within}
+use Rattle.history_model.specs.ScriptHistory.{Playout}
+use Rattle.history_model.specs.ScriptOutput.{plain_config}
 
 -- a width or a height
 abbrev pub side : List ℕ → Option ℕ
@@ -19,3 +21,7 @@ size_of (word ∷ width ∷ height ∷ []) =
     then option_and_then (λ (w : ℕ). option_map (geometry w) (side height)) (side width)
     else None
 size_of other = None
+
+-- what such words name: one channel of that size, without sound and without clips, whose frames are written in hexadecimal
+abbrev pub plain_playout : ℕ → ℕ → Playout
+plain_playout width height = record { config = plain_config width height; names = []; clips = []; digests = false }

@@ -1,42 +1,35 @@
-//! The bytes of the reply to what a client asks for.
-ghost use Rattle.std.specs.Prelude.{◌≡◌, Some, [], IfOk, IfSome};
-ghost use Rattle.play_types.specs.Config.{ConfigView};
-ghost use Rattle.history_model.specs.Asked.{asked_reply};
+//! Replies to the connections of a script.
+ghost use Rattle.std.specs.Prelude.{◌≡◌, Some, [], IfOk};
 ghost use Rattle.history_model.specs.ReplyText.{IsReplyTo, reply_bytes};
-ghost use Rattle.run_script.specs.Request.{seen};
-ghost use Rattle.run_script.specs.Stage.{bytes_of_reply};
+ghost use Rattle.history_model.specs.ScriptOutput.{tagged_lines};
+ghost use Rattle.run_script.specs.Stage.{Writes};
 
-use crate::request::Request;
+use crate::ending::Halt;
+use crate::reply::write_reply;
 use play_outside::{Sent, Sink, WriteStep};
-use play_types::{Config, MediaNames, Name, Reply};
+use play_types::{Config, MediaNames, Reply, Tag};
 use return_codes::send_reply;
 use std::alloc::{AllocError, Global};
 
-/// The bytes of the reply to a request: none where nothing was asked for.
-pub fn answer_to(
+/// Writes a reply to a connection, each of its lines after the tag.
+pub fn answer<K: Sink>(
     alloc: Global,
-    request: Request,
+    tag: Tag,
+    reply: &Reply,
     config: &Config,
     media: &MediaNames,
-) -> Result<Vec<u8>, AllocError>
-    ensures { IfOk result (λ bytes. bytes.items ≡ bytes_of_reply config.now media.now (asked_reply (seen request))) }
+    out: &mut K,
+) -> Result<(), Halt>
+    requires { IsReplyTo config.now reply.now }
+    ensures { Writes result (tagged_lines tag (reply_bytes config.now media.now reply.now)) (K.state out.old) (K.state out.new) }
 {
-    match reply_of(request) {
-        Some(reply) => bytes_of(alloc, &reply, config, media),
-        None => Ok(Vec::new(alloc)),
-    }
-}
-
-/// The reply to a request, where it has one.
-fn reply_of(request: Request) -> Option<Reply>
-    ensures reply { result ≡ asked_reply (seen request) }
-    ensures fits { IfSome result (λ reply. (config : ConfigView) → IsReplyTo config reply) }
-{
-    match request {
-        Request::Silence => None,
-        Request::Unknown(line) => Some(Reply::Unknown(line)),
-        Request::OtherChannel => Some(Reply::Refused(401, Name::Play)),
-        Request::Plays(_) => Some(Reply::Done(Name::Play)),
+    let bytes = match bytes_of(alloc, reply, config, media) {
+        Ok(bytes) => bytes,
+        Err(_) => return Err(Halt::Memory),
+    };
+    match write_reply(tag, bytes.as_slice(), out) {
+        Sent::All => Ok(()),
+        Sent::Failed => Err(Halt::Write),
     }
 }
 

@@ -1,67 +1,100 @@
-//! What a run keeps to read its clients' lines and to answer them.
-ghost use Rattle.std.specs.Prelude.{◌≡◌, IfOk, codes};
-ghost use Rattle.play_types.specs.Geometry.{IsSize};
-ghost use Rattle.history_model.specs.ScriptOutput.{plain_config};
-ghost use Rattle.run_script.specs.Stage.{IsReady};
+//! The connections of a script, each with the session of its lines.
+ghost use Rattle.std.specs.Prelude.{◌≡◌, ◌<◌, IfOk, List, ℕ, Some, [], false, length, option_copied, slice_get};
+ghost use Rattle.std.specs.List.{list_any, position};
+ghost use Rattle.amcp_text.specs.Lines.{is_line_end, lines_of};
+ghost use Rattle.play_types.specs.Config.{ConfigView};
+ghost use Rattle.play_types.specs.Media.{MediaNameView};
+ghost use Rattle.history_model.specs.ScriptHistory.{Playout, Played, same_tag};
+ghost use Rattle.play_session.specs.Session.{StandsFor};
+ghost use Rattle.run_script.specs.Clients.{AreClients, Hears, Speaks, client_of};
 
-use amcp_text::LineReader;
-use play_types::{Channel, ChannelList, Config, MediaNames, Text};
+use play_session::{Session, Step};
+use play_types::{Config, MediaNames, Tag};
 use std::alloc::{AllocError, Global};
 
-/// The reader of a client's line, and what replies speak of: the configuration and the names of the media table.
+/// A connection: its tag and its session.
+#[derive(Drop)]
+pub struct Client {
+    pub tag: Tag,
+    pub session: Session,
+}
+
+/// The connections that have said something.
 #[derive(Drop)]
 pub struct Clients {
-    pub reader: LineReader,
-    pub config: Config,
-    pub media: MediaNames,
+    pub list: Vec<Client>,
 }
 
 impl Clients {
-    /// No line is being read, on one channel of this width and height and without clips.
-    pub fn new(alloc: Global, width: u16, height: u16) -> Result<Clients, AllocError>
-        requires { IsSize width height 0 }
-        ensures { IfOk result (λ clients. IsReady width height clients) }
+    /// No connection has said anything.
+    pub fn new(alloc: Global) -> Clients
+        ensures { result.list.items ≡ [] }
     {
-        Ok(Clients {
-            reader: LineReader::new(alloc)?,
-            config: plain_config(alloc, width, height)?,
-            media: MediaNames::new(alloc),
-        })
+        Clients {
+            list: Vec::new(alloc),
+        }
+    }
+
+    /// Takes a line of a connection, its end left out, and answers its step: `None` where the connection has ended
+    /// before.
+    pub fn hear(
+        &mut self,
+        alloc: Global,
+        tag: Tag,
+        text: &[u8],
+        config: &Config,
+        media: &MediaNames,
+    ) -> Result<Option<Step>, AllocError>
+        ensures { (playout : Playout) (played : List Played) → config.now ≡ playout.config → media.now ≡ playout.names
+            → list_any is_line_end text.now ≡ false → AreClients playout self.old.list.items played
+            → IfOk result (λ found. Hears playout tag text.now found self.new.list.items played) }
+    {
+        let at = self.place_of(alloc, tag)?;
+        Ok(speak(&mut self.list[at].session, alloc, text, config, media))
+    }
+
+    /// The place of a connection, which has a new session where it has said nothing before.
+    fn place_of(&mut self, alloc: Global, tag: Tag) -> Result<usize, AllocError>
+        ensures { IfOk result (λ at. (at < length self.new.list.items) × IsPlaceOf tag at self.new.list.items
+            × ((playout : Playout) (played : List Played) → AreClients playout self.old.list.items played → AreClients playout self.new.list.items played)) }
+    {
+        if let Some(at) = self.find(tag) {
+            return Ok(at);
+        }
+        let session = Session::new(alloc)?;
+        self.list.push(Client { tag, session })?;
+        Ok(self.list.len() - 1)
+    }
+
+    /// The place of the first connection of this tag.
+    fn find(&self, tag: Tag) -> Option<usize>
+        ensures { result ≡ position (λ client. same_tag tag client.tag) self.now.list.items }
+    {
+        self.list.iter().position(|client| is_same(tag, client.tag))
     }
 }
 
-/// The configuration of a run that names a width and a height alone.
-fn plain_config(alloc: Global, width: u16, height: u16) -> Result<Config, AllocError>
-    requires { IsSize width height 0 }
-    ensures { IfOk result (λ config. config ≡ plain_config width height) }
+/// Whether two tags are the same.
+fn is_same(one: Tag, other: Tag) -> bool
+    ensures { result ≡ same_tag one other }
 {
-    let listen = none(alloc)?;
-    let media = none(alloc)?;
-    let channels = one_channel(alloc, width, height)?;
-    match Config::new(listen, media, 25, 4, 4_194_304, channels) {
-        Some(config) => Ok(config),
-        None => unreachable!(),
+    one.worker == other.worker && one.session == other.session
+}
+
+/// Feeds a line to a session, and answers its step: `None` where the session has ended before.
+fn speak(
+    session: &mut Session,
+    alloc: Global,
+    text: &[u8],
+    config: &Config,
+    media: &MediaNames,
+) -> Option<Step>
+    ensures { Speaks config.now media.now result text.now session.old session.new }
+{
+    if session.has_ended() {
+        return None;
     }
-}
-
-/// One channel of this width and height, without sound.
-fn one_channel(alloc: Global, width: u16, height: u16) -> Result<ChannelList, AllocError>
-    requires { IsSize width height 0 }
-    ensures { IfOk result (λ channels. channels ≡ (plain_config width height).channels) }
-{
-    let output = none(alloc)?;
-    let channel = match Channel::new(width, height, 0, output) {
-        Some(channel) => channel,
-        None => unreachable!(),
-    };
-    let mut channels = ChannelList::new(alloc);
-    channels.push(channel)?;
-    Ok(channels)
-}
-
-/// The text that stands where there is no address, folder or output.
-fn none(alloc: Global) -> Result<Text, AllocError>
-    ensures { IfOk result (λ text. text ≡ codes "none") }
-{
-    Text::copy(alloc, "none")
+    session.feed(text);
+    session.feed(b"\r\n");
+    Some(session.next(alloc, config, media))
 }

@@ -1,19 +1,21 @@
 //! A whole run: the words, the input, the output and the exit status.
-ghost use Rattle.std.specs.Prelude.{◌≡◌, ◌+◌, ◌*◌, ◌<◌, ◌≤◌, ◌^◌, ◌++◌, ◌↔◌, ◌⊎◌, ℕ, List, length, map, string_bytes, IfSome, MatchOption};
+ghost use Rattle.std.specs.Prelude.{◌≡◌, ◌+◌, ◌*◌, ◌<◌, ◌≤◌, ◌^◌, ◌++◌, ◌↔◌, ◌⊎◌, ℕ, List, length, map, string_bytes, IfOk, IfSome, MatchOption, []};
 ghost use Rattle.play_types.specs.Geometry.{IsSize};
 ghost use Rattle.play_outside.specs.Faults.{Rose};
 ghost use Rattle.play_outside.specs.SinkState.{SinkState};
-ghost use Rattle.run_script.specs.Script.{HasTaken, IsWritten};
+ghost use Rattle.run_script.specs.Script.{HasTaken};
 ghost use Rattle.run_script.specs.Run.{Continues, Runs, limit};
 ghost use Rattle.run_script.specs.Program.{IsStatus, IsUsage, IsRun, IsPlayed, IsValid};
-ghost use Rattle.run_script.specs.Words.{size_of};
+ghost use Rattle.run_script.specs.Words.{size_of, plain_playout};
+ghost use Rattle.history_model.specs.ScriptHistory.{Playout};
 
 use crate::ending::Ending;
+use crate::plain::plain_config;
 use crate::script::Script;
 use crate::words::size_of;
 use play_outside::{MediaDir, ReadStep, Sink, Source, send};
-use play_types::Geometry;
-use std::alloc::Global;
+use play_types::{Geometry, MediaNames};
+use std::alloc::{AllocError, Global};
 use std::thread::Threads;
 
 /// The most bytes that an input may have.
@@ -29,7 +31,7 @@ const PIECE: usize = 4096;
 ///
 /// | Status | Comes | The output's last line |
 /// |---|---|---|
-/// | 0 | the input was read to its end, or to a line that is the server's own stop, and all was written | |
+/// | 0 | the input was read to its end, or to a line at which the run ends, and all was written | |
 /// | 1 | exactly where the words have another form | `E usage` |
 /// | 2 | only where a line was received that says nothing that a script may say, or more than 4,294,967,296 bytes were read | `E line n`, `E input too long` |
 /// | 4 | only where a read or a write failed | `E device` |
@@ -48,11 +50,11 @@ pub fn run_main<R: Threads + Sync, I: Source, M: MediaDir, O: Sink>(
     ensures statuses { IsStatus result }
     ensures run { MatchOption (size_of (map string_bytes words.now))
         (IsUsage (I.state input.old) (I.state input.new) (O.state out.old) (O.state out.new))
-        (λ size. IsRun size.width size.height result (I.state input.old) (I.state input.new) (O.state out.old) (O.state out.new)) }
+        (λ size. IsRun (plain_playout size.width size.height) result (I.state input.old) (I.state input.new) (O.state out.old) (O.state out.new)) }
 
     // Where the input and the output tell, the input was read to its end or its first stop, and the output is the script's.
     ensures finished { result ≡ 0 → IfSome (size_of (map string_bytes words.now))
-        (λ size. IsPlayed size.width size.height (I.state input.old) (I.state input.new) (O.state out.old) (O.state out.new)) }
+        (λ size. IsPlayed (plain_playout size.width size.height) (I.state input.old) (I.state input.new) (O.state out.old) (O.state out.new)) }
     ensures device { result ≡ 4 → Rose (I.state input.old).faults (I.state input.new).faults ⊎ Rose (O.state out.old).faults (O.state out.new).faults }
     ensures complete { IfSome (size_of (map string_bytes words.now))
         (λ size. IsValid (I.state input.old) → ¬ Rose (I.state input.old).faults (I.state input.new).faults
@@ -85,10 +87,10 @@ fn take_piece<K: Sink>(
     requires lines { script.old.lines ≤ limit }
     ensures ticks { script.new.stage.ticks ≤ script.old.stage.ticks + 100000 * length piece.now }
     ensures lines { script.new.lines ≤ script.old.lines + length piece.now }
-    ensures taken { (width height : ℕ) (bytes : List ℕ) (first : SinkState)
-        → HasTaken width height script.old bytes → IsWritten width height bytes first (K.state out.old)
+    ensures taken { (playout : Playout) (bytes : List ℕ) (first : SinkState)
+        → HasTaken playout script.old bytes first (K.state out.old)
         → left + length bytes ≡ limit
-        → Continues width height result left script.new bytes piece.now first (K.state out.new) }
+        → Continues playout result left script.new bytes piece.now first (K.state out.new) }
 {
     if piece.len() as u64 > left {
         return match script.take(alloc, &piece[..left as usize], out) {
@@ -102,12 +104,22 @@ fn take_piece<K: Sink>(
     }
 }
 
+/// A script on one channel of this size, without sound and without clips.
+fn plain_script(alloc: Global, size: Geometry) -> Result<Script, AllocError>
+    requires { IsSize size.width size.height 0 }
+    ensures small { IfOk result (λ script. (script.stage.ticks ≡ 0) × (script.lines ≡ 0)) }
+    ensures taken { IfOk result (λ script. (first : SinkState) → HasTaken (plain_playout size.width size.height) script [] first first) }
+{
+    let config = plain_config(alloc, size.width, size.height)?;
+    Script::new(alloc, config, MediaNames::new(alloc))
+}
+
 /// Reads a script to its end and does what its lines say, on one channel of this size.
 pub fn run<I: Source, K: Sink>(alloc: Global, size: Geometry, input: &mut I, out: &mut K) -> Ending
     requires { IsSize size.width size.height 0 }
-    ensures { Runs size.width size.height result (I.state input.old) (I.state input.new) (K.state out.old) (K.state out.new) }
+    ensures { Runs (plain_playout size.width size.height) result (I.state input.old) (I.state input.new) (K.state out.old) (K.state out.new) }
 {
-    let mut script = match Script::new(alloc, size.width, size.height) {
+    let mut script = match plain_script(alloc, size) {
         Ok(script) => script,
         Err(_) => return Ending::Memory,
     };

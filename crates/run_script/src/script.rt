@@ -1,15 +1,16 @@
 //! The lines of a script, byte by byte.
-ghost use Rattle.std.specs.Prelude.{◌≡◌, ◌≢◌, ◌+◌, ◌*◌, ◌<◌, ◌≤◌, ◌^◌, ◌∷◌, ◌++◌, ℕ, List, [], length, true, IfOk};
-ghost use Rattle.play_types.specs.Geometry.{IsSize};
+ghost use Rattle.std.specs.Prelude.{◌≡◌, ◌≢◌, ◌+◌, ◌*◌, ◌<◌, ◌≤◌, ◌^◌, ◌∷◌, ◌++◌, ℕ, List, [], length, true, IfOk, All};
 ghost use Rattle.play_outside.specs.SinkState.{SinkState};
+ghost use Rattle.history_model.specs.ScriptHistory.{Playout};
 ghost use Rattle.run_script.specs.Run.{Ends, limit};
-ghost use Rattle.run_script.specs.Script.{HasTaken, IsWritten, Goes, GoesOver};
+ghost use Rattle.run_script.specs.Script.{HasTaken, Goes, GoesOver};
+ghost use Rattle.run_script.specs.Stage.{IsSilent};
 
-use crate::clients::Clients;
 use crate::ending::{Ending, Halt};
 use crate::reply::without_return;
 use crate::stage::Stage;
 use play_outside::Sink;
+use play_types::{Config, MediaNames};
 use std::alloc::{AllocError, Global};
 
 /// So many bytes without an end are no line that a script may have: the longest line and its end are shorter.
@@ -25,24 +26,16 @@ pub struct Script {
 }
 
 impl Script {
-    /// Nothing was taken yet, on a channel of this width and height.
-    pub fn new(alloc: Global, width: u16, height: u16) -> Result<Script, AllocError>
-        requires { IsSize width height 0 }
+    /// Nothing was taken yet, on channels without sound and without clips.
+    pub fn new(alloc: Global, config: Config, names: MediaNames) -> Result<Script, AllocError>
         ensures small { IfOk result (λ script. (script.stage.ticks ≡ 0) × (script.lines ≡ 0)) }
-        ensures taken { IfOk result (λ script. HasTaken width height script []) }
+        ensures taken { IfOk result (λ script. (playout : Playout) (first : SinkState) → IsSilent playout → config ≡ playout.config → names ≡ playout.names
+            → HasTaken playout script [] first first) }
     {
-        let clients = Clients::new(alloc, width, height)?;
         Ok(Script {
             waiting: Vec::new(alloc),
             lines: 0,
-            stage: Stage {
-                width,
-                height,
-                colour: None,
-                ticks: 0,
-                frame: Vec::new(alloc),
-                clients,
-            },
+            stage: Stage::new(alloc, config, names)?,
         })
     }
 
@@ -50,9 +43,9 @@ impl Script {
     pub fn finish<K: Sink>(&mut self, alloc: Global, out: &mut K) -> Ending
         requires ticks { self.old.stage.ticks < 2 ^ 63 }
         requires lines { self.old.lines < 2 ^ 63 }
-        ensures { (width height : ℕ) (bytes : List ℕ) (first : SinkState)
-            → HasTaken width height self.old bytes → IsWritten width height bytes first (K.state out.old) → length bytes ≤ limit
-            → Ends width height result bytes true first (K.state out.new) }
+        ensures { (playout : Playout) (bytes : List ℕ) (first : SinkState)
+            → HasTaken playout self.old bytes first (K.state out.old) → length bytes ≤ limit
+            → Ends playout result bytes true first (K.state out.new) }
     {
         if self.waiting.is_empty() {
             return Ending::Finished;
@@ -69,9 +62,9 @@ impl Script {
         requires lines { self.old.lines + length piece.now < 2 ^ 63 }
         ensures ticks { self.new.stage.ticks ≤ self.old.stage.ticks + 100000 * length piece.now }
         ensures lines { self.new.lines ≤ self.old.lines + length piece.now }
-        ensures taken { (width height : ℕ) (bytes : List ℕ) (first : SinkState)
-            → HasTaken width height self.old bytes → IsWritten width height bytes first (K.state out.old)
-            → GoesOver width height result self.new bytes piece.now first (K.state out.new) }
+        ensures taken { (playout : Playout) (bytes : List ℕ) (first : SinkState)
+            → HasTaken playout self.old bytes first (K.state out.old)
+            → GoesOver playout result self.new bytes piece.now first (K.state out.new) }
     {
         for byte in piece {
             match self.take_byte(alloc, *byte, out) {
@@ -88,9 +81,9 @@ impl Script {
         requires lines { self.old.lines < 2 ^ 63 }
         ensures ticks { self.new.stage.ticks ≤ self.old.stage.ticks + 100000 }
         ensures lines { self.new.lines ≤ self.old.lines + 1 }
-        ensures taken { (width height : ℕ) (bytes : List ℕ) (first : SinkState)
-            → HasTaken width height self.old bytes → IsWritten width height bytes first (K.state out.old)
-            → Goes width height result self.new (bytes ++ byte ∷ []) first (K.state out.new) }
+        ensures taken { (playout : Playout) (bytes : List ℕ) (first : SinkState)
+            → HasTaken playout self.old bytes first (K.state out.old)
+            → Goes playout result self.new (bytes ++ byte ∷ []) first (K.state out.new) }
     {
         if byte == b'\n' {
             self.end_line(alloc, out)
@@ -105,9 +98,9 @@ impl Script {
         requires lines { self.old.lines < 2 ^ 63 }
         ensures ticks { self.new.stage.ticks ≤ self.old.stage.ticks + 100000 }
         ensures lines { self.new.lines ≤ self.old.lines + 1 }
-        ensures taken { (width height : ℕ) (bytes : List ℕ) (first : SinkState)
-            → HasTaken width height self.old bytes → IsWritten width height bytes first (K.state out.old)
-            → Goes width height result self.new (bytes ++ 10 ∷ []) first (K.state out.new) }
+        ensures taken { (playout : Playout) (bytes : List ℕ) (first : SinkState)
+            → HasTaken playout self.old bytes first (K.state out.old)
+            → Goes playout result self.new (bytes ++ 10 ∷ []) first (K.state out.new) }
     {
         let line = without_return(self.waiting.as_slice());
         match self.stage.take_line(alloc, line, out) {
@@ -124,9 +117,9 @@ impl Script {
         requires { byte ≢ 10 }
         ensures ticks { self.new.stage.ticks ≤ self.old.stage.ticks + 100000 }
         ensures lines { self.new.lines ≤ self.old.lines + 1 }
-        ensures taken { (width height : ℕ) (bytes : List ℕ) (first state : SinkState)
-            → HasTaken width height self.old bytes → IsWritten width height bytes first state
-            → Goes width height result self.new (bytes ++ byte ∷ []) first state }
+        ensures taken { (playout : Playout) (bytes : List ℕ) (first state : SinkState)
+            → HasTaken playout self.old bytes first state
+            → Goes playout result self.new (bytes ++ byte ∷ []) first state }
     {
         match self.waiting.push(byte) {
             Ok(()) => {}

@@ -1,41 +1,72 @@
-//! The stage of the one channel: what is shown, and how many ticks there were.
-ghost use Rattle.std.specs.Prelude.{◌≡◌, ◌+◌, ◌<◌, ◌≤◌, ◌^◌, List};
+//! The stage: what each channel shows, how many ticks there were, and the connections that ask it.
+ghost use Rattle.std.specs.Prelude.{◌≡◌, ◌+◌, ◌&&◌, ◌<◌, ◌≤◌, ◌^◌, List, ℕ, Some, None, [], IfOk, IfSome, All, false, length, replicate, slice_get};
+ghost use Rattle.std.specs.List.{list_any};
+ghost use Rattle.amcp_text.specs.Lines.{is_line_end};
 ghost use Rattle.play_types.specs.declared.event.Event.{Event};
-ghost use Rattle.play_outside.specs.Sink.{Sends};
-ghost use Rattle.history_model.specs.ColourHistory.{pixel_of_colour};
-ghost use Rattle.history_model.specs.FrameText.{frame_bytes};
+ghost use Rattle.history_model.specs.ReplyText.{IsReplyTo, reply_bytes};
 ghost use Rattle.history_model.specs.Script.{meaning};
-ghost use Rattle.std.specs.Option.{option_or};
-ghost use Rattle.history_model.specs.Asked.{asked_colour};
-ghost use Rattle.run_script.specs.Request.{seen};
-ghost use Rattle.run_script.specs.Stage.{StandsFor, Takes, Ticks, Answers, IsReady, colour_frame};
+ghost use Rattle.history_model.specs.ScriptHistory.{Playout, Played};
+ghost use Rattle.history_model.specs.ScriptOutput.{tagged_lines};
+ghost use Rattle.history_model.specs.Script.{Said};
+ghost use Rattle.history_model.specs.ScriptHistory.{is_cut, is_picture};
+ghost use Rattle.history_model.specs.Session.{Ask};
+ghost use Rattle.history_model.proofs.Aiming.{IsAimed};
+ghost use Rattle.play_session.specs.Seen.{seen};
+ghost use Rattle.play_session.specs.Session.{Fits};
+ghost use Rattle.play_types.specs.declared.command.Cmd.{Cmd};
+ghost use Rattle.run_script.specs.Stage.{Shows, StandsFor, IsSilent, HasRoom, Takes, Ticks, Shown, Writes, Follows, Plays, channel_text, colour_shown, IsPlayFound, OnlyFrame, OnlyShown};
 
-use crate::answer::answer_to;
+use crate::answer::answer;
 use crate::clients::Clients;
 use crate::ending::Halt;
 use crate::frame::paint;
 use crate::line::{Line, meaning};
-use crate::reply::write_reply;
-use crate::request::{Request, request_of};
 use frame_writer::write_hex;
 use pixel_math::Pixel;
 use play_outside::{Sent, Sink};
-use play_types::{Geometry, Tag};
-use std::alloc::Global;
+use play_session::{Step, name_of};
+use play_types::{Cmd, Config, Geometry, Kind, MediaNames, Name, Reply, Spec, Tag, Take};
+use std::alloc::{AllocError, Global};
 
-/// The width and height of the channel, the colour on its layer 0, the number of ticks, room for one frame, and what
-/// clients are read and answered with.
+/// What a channel shows: a take, and the number of ticks before it.
+#[derive(Clone, Copy)]
+pub struct Showing {
+    pub take: Take,
+    pub since: u64,
+}
+
+/// The configuration and the names of the media table, the connections, what layer 0 of each channel shows, the number of
+/// ticks, and the room for a frame.
 #[derive(Drop)]
 pub struct Stage {
-    pub width: u16,
-    pub height: u16,
-    pub colour: Option<u32>,
+    pub config: Config,
+    pub names: MediaNames,
+    pub clients: Clients,
+    pub shown: Vec<Option<Showing>>,
     pub ticks: u64,
     pub frame: Vec<u8>,
-    pub clients: Clients,
 }
 
 impl Stage {
+    /// Nothing is shown yet, and no connection has said anything. It takes the room for a frame of the largest channel.
+    pub fn new(alloc: Global, config: Config, names: MediaNames) -> Result<Stage, AllocError>
+        ensures ticks { IfOk result (λ stage. stage.ticks ≡ 0) }
+        ensures stands { IfOk result (λ stage. (playout : Playout) → IsSilent playout → config ≡ playout.config → names ≡ playout.names
+            → StandsFor playout stage []) }
+    {
+        let room = largest(&config);
+        let frame = Vec::with_capacity(alloc, room)?;
+        let shown = nothing_shown(alloc, config.channels().len())?;
+        Ok(Stage {
+            config,
+            names,
+            clients: Clients::new(alloc),
+            shown,
+            ticks: 0,
+            frame,
+        })
+    }
+
     /// Does what a line says, its end left out.
     pub fn take_line<K: Sink>(
         &mut self,
@@ -45,13 +76,14 @@ impl Stage {
     ) -> Result<(), Halt>
         requires { self.old.ticks < 2 ^ 63 }
         ensures grows { self.new.ticks ≤ self.old.ticks + 100000 }
-        ensures taken { (events : List Event) → StandsFor self.old events
-            → Takes result (meaning line.now) events self.old self.new (K.state out.old) (K.state out.new) }
+        ensures taken { (playout : Playout) (played : List Played) → list_any is_line_end line.now ≡ false
+            → StandsFor playout self.old played
+            → Takes playout result (meaning line.now) played self.new (K.state out.old) (K.state out.new) }
     {
         match meaning(line) {
             Line::Comment => Ok(()),
             Line::Ticks(count) => self.tick(count, out),
-            Line::Said(tag, text) => self.answer(alloc, tag, text, out),
+            Line::Said(tag, text) => self.hear(alloc, tag, text, out),
             Line::Stop => Err(Halt::Stop),
             Line::NoForm => Err(Halt::NoForm),
         }
@@ -60,49 +92,72 @@ impl Stage {
     /// Makes the next ticks and writes their frames.
     fn tick<K: Sink>(&mut self, count: u32, out: &mut K) -> Result<(), Halt>
         requires { self.old.ticks < 2 ^ 63 }
-        ensures { Ticks result count self.old self.new (K.state out.old) (K.state out.new) }
+        ensures grows { self.new.ticks ≤ self.old.ticks + count }
+        ensures ticks { (playout : Playout) (events : List Event) → Shows playout self.old events
+            → Ticks playout result count events self.old self.new (K.state out.old) (K.state out.new) }
     {
-        let pixel = self.pixel();
-        match paint(&mut self.frame, self.width, self.height, pixel) {
-            Ok(()) => {}
-            Err(_) => return Err(Halt::Memory),
-        }
         for _turn in 0..count {
-            self.ticks += 1;
-            match self.show(out) {
-                Sent::All => {}
-                Sent::Failed => return Err(Halt::Write),
-            }
+            self.show_all(out)?;
         }
         Ok(())
     }
 
-    /// Writes the frame of this tick.
-    fn show<K: Sink>(&self, out: &mut K) -> Sent
-        requires { self.now.frame.items
-            ≡ frame_bytes self.now.width self.now.height (λ x y. pixel_of_colour self.now.colour) }
-        ensures { Sends result (colour_frame self.now.width self.now.height self.now.ticks self.now.colour) (K.state out.old) (K.state out.new) }
+    /// Makes the next tick and writes the frames of all channels.
+    fn show_all<K: Sink>(&mut self, out: &mut K) -> Result<(), Halt>
+        requires { self.old.ticks < 2 ^ 63 + 2 ^ 32 }
+        ensures grows { self.new.ticks ≤ self.old.ticks + 1 }
+        ensures tick { (playout : Playout) (events : List Event) → Shows playout self.old events
+            → Ticks playout result 1 events self.old self.new (K.state out.old) (K.state out.new) }
     {
-        let size = Geometry {
-            width: self.width,
-            height: self.height,
-            pairs: 0,
-        };
-        write_hex(1, self.ticks, size, self.frame.as_slice(), &[], out)
+        for at in 0..self.config.channels().len() {
+            self.show(at, out)?;
+        }
+        self.ticks += 1;
+        Ok(())
     }
 
-    /// The pixel that is shown everywhere.
-    fn pixel(&self) -> Pixel
-        ensures { result ≡ pixel_of_colour self.now.colour }
+    /// Writes the frame of a channel at the next tick. The channel is named by its place, from 0.
+    fn show<K: Sink>(&mut self, at: usize, out: &mut K) -> Result<(), Halt>
+        requires { self.old.ticks < 2 ^ 63 + 2 ^ 32 }
+        ensures same { OnlyFrame self.old self.new }
+        ensures shown { (playout : Playout) (events : List Event) → Shows playout self.old events
+            → at < length playout.config.channels
+            → Shows playout self.new events × Shown result (channel_text playout events (at + 1)) (K.state out.old) (K.state out.new) }
     {
-        match self.colour {
-            Some(colour) => Pixel::colour(colour),
-            None => Pixel::transparent(),
+        let Some(channel) = self.config.channels().get(at) else {
+            return Ok(());
+        };
+        let size = Geometry {
+            width: channel.width(),
+            height: channel.height(),
+            pairs: 0,
+        };
+        let pixel = self.pixel(at);
+        match paint(&mut self.frame, size.width, size.height, pixel) {
+            Ok(()) => {}
+            Err(_) => return Err(Halt::Memory),
+        }
+        match write_hex(at as u8 + 1, self.ticks + 1, size, self.frame.as_slice(), &[], out) {
+            Sent::All => Ok(()),
+            Sent::Failed => Err(Halt::Write),
         }
     }
 
-    /// Answers a text of a connection, and starts its colour where it asks for one.
-    fn answer<K: Sink>(
+    /// The pixel that a channel shows everywhere. The channel is named by its place, from 0.
+    fn pixel(&self, at: usize) -> Pixel
+        ensures { result ≡ colour_shown self.now.shown.items at }
+    {
+        match self.shown.get(at) {
+            Some(Some(showing)) => match showing.take.spec() {
+                Spec::Colour(colour) => Pixel::colour(colour),
+                _ => Pixel::transparent(),
+            },
+            _ => Pixel::transparent(),
+        }
+    }
+
+    /// Takes a line of a connection.
+    fn hear<K: Sink>(
         &mut self,
         alloc: Global,
         tag: Tag,
@@ -110,33 +165,134 @@ impl Stage {
         out: &mut K,
     ) -> Result<(), Halt>
         ensures ticks { self.new.ticks ≡ self.old.ticks }
-        ensures answers { IsReady self.old.width self.old.height self.old.clients
-            → Answers result tag text.now self.old self.new (K.state out.old) (K.state out.new) }
+        ensures heard { (playout : Playout) (played : List Played) → list_any is_line_end text.now ≡ false
+            → StandsFor playout self.old played
+            → Takes playout result (Said tag text.now) played self.new (K.state out.old) (K.state out.new) }
     {
-        let request = match request_of(alloc, &mut self.clients.reader, text) {
-            Ok(request) => request,
-            Err(_) => return Err(Halt::Memory),
-        };
-        let colour = colour_after(&request, self.colour);
-        let reply = match answer_to(alloc, request, &self.clients.config, &self.clients.media) {
-            Ok(reply) => reply,
-            Err(_) => return Err(Halt::Memory),
-        };
-        match write_reply(tag, reply.as_slice(), out) {
-            Sent::All => {}
-            Sent::Failed => return Err(Halt::Write),
+        match self.clients.hear(alloc, tag, text, &self.config, &self.names) {
+            Ok(Some(step)) => self.follow(alloc, tag, step, out),
+            Ok(None) => Ok(()),
+            Err(_) => Err(Halt::Memory),
         }
-        self.colour = colour;
+    }
+
+    /// Follows the step of a connection's line.
+    fn follow<K: Sink>(
+        &mut self,
+        alloc: Global,
+        tag: Tag,
+        step: Step,
+        out: &mut K,
+    ) -> Result<(), Halt>
+        requires { Fits self.old.config self.old.names step }
+        ensures same { OnlyShown self.old self.new }
+        ensures followed { (playout : Playout) (events : List Event) (commands : List Cmd) → Shows playout self.old events
+            → Follows playout result tag (seen step commands) events self.new (K.state out.old) (K.state out.new) }
+    {
+        match step {
+            Step::Local(reply) => self.reply(alloc, tag, &reply, out),
+            Step::Ask(cmd) => self.ask(alloc, tag, cmd, out),
+            Step::AskBatch => self.reply(alloc, tag, &Reply::Refused(403, Name::Commit), out),
+            Step::Kill => {
+                self.reply(alloc, tag, &Reply::Done(Name::Kill), out)?;
+                Err(Halt::Stop)
+            }
+            Step::Bye | Step::Skip | Step::NeedMore => Ok(()),
+        }
+    }
+
+    /// Does a command and answers it. One that is not built yet is refused.
+    fn ask<K: Sink>(&mut self, alloc: Global, tag: Tag, cmd: Cmd, out: &mut K) -> Result<(), Halt>
+        ensures same { OnlyShown self.old self.new }
+        ensures asked { (playout : Playout) (events : List Event) → Shows playout self.old events
+            → IsAimed self.old.config cmd
+            → Follows playout result tag (Some (Ask cmd)) events self.new (K.state out.old) (K.state out.new) }
+    {
+        let Some((channel, take)) = play_of(cmd) else {
+            return self.reply(alloc, tag, &Reply::Refused(403, name_of(cmd)), out);
+        };
+        self.reply(alloc, tag, &Reply::Done(Name::Play), out)?;
+        self.play(channel, take);
         Ok(())
+    }
+
+    /// Shows a take on layer 0 of a channel from now on.
+    fn play(&mut self, channel: u8, take: Take)
+        requires { 1 ≤ channel }
+        ensures same { OnlyShown self.old self.new }
+        ensures shown { Plays channel take self.old self.new }
+    {
+        let at = usize::from(channel) - 1;
+        if at < self.shown.len() {
+            self.shown[at] = Some(Showing {
+                take,
+                since: self.ticks,
+            });
+        }
+    }
+
+    /// Writes a reply to a connection.
+    fn reply<K: Sink>(
+        &self,
+        alloc: Global,
+        tag: Tag,
+        reply: &Reply,
+        out: &mut K,
+    ) -> Result<(), Halt>
+        requires { IsReplyTo self.now.config reply.now }
+        ensures { Writes result (tagged_lines tag (reply_bytes self.now.config self.now.names reply.now)) (K.state out.old) (K.state out.new) }
+    {
+        answer(alloc, tag, reply, &self.config, &self.names, out)
     }
 }
 
-/// The colour that is shown after a request, and this one before it.
-fn colour_after(request: &Request, colour: Option<u32>) -> Option<u32>
-    ensures { result ≡ option_or (asked_colour (seen request.now)) colour }
+/// The channel and the take of a play of a colour or a clip on layer 0, with a cut.
+fn play_of(cmd: Cmd) -> Option<(u8, Take)>
+    ensures { IsPlayFound result cmd }
 {
-    match request {
-        Request::Plays(started) => Some(*started),
-        _ => colour,
+    match cmd {
+        Cmd::PlayTake(place, take) if place.layer() == 0 && is_plain(take) => {
+            Some((place.channel(), take))
+        }
+        _ => None,
     }
+}
+
+/// Whether a take is a colour or a clip, with a cut.
+fn is_plain(take: Take) -> bool
+    ensures { result ≡ (is_cut take.trans.kind && is_picture take.spec) }
+{
+    matches!(take.trans().kind(), Kind::Cut) && matches!(take.spec(), Spec::Clip(_) | Spec::Colour(_))
+}
+
+/// The bytes of the largest frame of the channels.
+fn largest(config: &Config) -> usize
+    ensures { All (HasRoom result) config.now.channels }
+{
+    let mut room = 0;
+    for at in 0..config.channels().len() {
+        room = room.max(bytes_of(config, at));
+    }
+    room
+}
+
+/// The bytes of a frame of a channel, which is named by its place, from 0.
+fn bytes_of(config: &Config, at: usize) -> usize
+    ensures { IfSome (slice_get config.now.channels at) (HasRoom result) }
+{
+    match config.channels().get(at) {
+        Some(channel) => 4 * usize::from(channel.width()) * usize::from(channel.height()),
+        None => 0,
+    }
+}
+
+/// So many channels that show nothing.
+fn nothing_shown(alloc: Global, channels: usize) -> Result<Vec<Option<Showing>>, AllocError>
+    ensures { IfOk result (λ shown. shown.items ≡ replicate channels None) }
+{
+    let mut shown = Vec::new(alloc);
+    for _channel in 0..channels {
+        shown.push(None)?;
+    }
+    Ok(shown)
 }

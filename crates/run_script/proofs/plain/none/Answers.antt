@@ -2,7 +2,7 @@ use Rattle.std.proofs.Common.{◌≡◌, ◌∙◌, List, ℕ, rules}
 use Rattle.std.specs.Prelude.{Result, Ok, Err, IfOk, codes}
 use Rattle.std.specs.Str.{chars}
 use Rattle.std.proofs.lemmas.Str.{chars-IsAscii}
-use Rattle.run_script.proofs.clients.none.Goals as goal
+use Rattle.run_script.proofs.plain.none.Goals as goal
 
 copied : {E : Type 0} (result : Result (List ℕ) E) → IfOk result (λ text. text ≡ chars (codes "none")) → IfOk result (λ text. text ≡ codes "none")
 copied (Ok text) is = is ∙ chars-IsAscii (codes "none") (search rules)

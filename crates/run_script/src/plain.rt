@@ -1,0 +1,43 @@
+//! A run that names a width and a height alone.
+ghost use Rattle.std.specs.Prelude.{◌≡◌, IfOk, codes};
+ghost use Rattle.play_types.specs.Geometry.{IsSize};
+ghost use Rattle.history_model.specs.ScriptOutput.{plain_config};
+
+use play_types::{Channel, ChannelList, Config, Text};
+use std::alloc::{AllocError, Global};
+
+/// The configuration of a run that names a width and a height alone.
+pub fn plain_config(alloc: Global, width: u16, height: u16) -> Result<Config, AllocError>
+    requires { IsSize width height 0 }
+    ensures { IfOk result (λ config. config ≡ plain_config width height) }
+{
+    let listen = none(alloc)?;
+    let media = none(alloc)?;
+    let channels = one_channel(alloc, width, height)?;
+    match Config::new(listen, media, 25, 4, 4_194_304, channels) {
+        Some(config) => Ok(config),
+        None => unreachable!(),
+    }
+}
+
+/// One channel of this width and height, without sound.
+fn one_channel(alloc: Global, width: u16, height: u16) -> Result<ChannelList, AllocError>
+    requires { IsSize width height 0 }
+    ensures { IfOk result (λ channels. channels ≡ (plain_config width height).channels) }
+{
+    let output = none(alloc)?;
+    let channel = match Channel::new(width, height, 0, output) {
+        Some(channel) => channel,
+        None => unreachable!(),
+    };
+    let mut channels = ChannelList::new(alloc);
+    channels.push(channel)?;
+    Ok(channels)
+}
+
+/// The text that stands where there is no address, folder or output.
+fn none(alloc: Global) -> Result<Text, AllocError>
+    ensures { IfOk result (λ text. text ≡ codes "none") }
+{
+    Text::copy(alloc, "none")
+}

@@ -5,7 +5,9 @@ pub mod Later
 pub mod Liveness
 pub mod Placing
 pub mod Colours
+pub mod Plays
 pub mod Frames
 pub mod Parts
 pub mod ScriptColours
 pub mod Outputs
+pub mod PlayFrames

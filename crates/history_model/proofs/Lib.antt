@@ -5,6 +5,7 @@ pub mod Later
 pub mod Liveness
 pub mod Placing
 pub mod Colours
+pub mod Plays
 pub mod Frames
 pub mod Parts
 pub mod ScriptColours
@@ -12,3 +13,4 @@ pub mod Outputs
 pub mod Streams
 pub mod Asking
 pub mod Aiming
+pub mod PlayFrames

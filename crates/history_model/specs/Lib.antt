@@ -15,6 +15,7 @@ pub mod Sound
 pub mod Answer
 pub mod Steps
 pub mod ColourHistory
+pub mod PlayHistory
 pub mod Touched
 pub mod Worked
 pub mod FrameText

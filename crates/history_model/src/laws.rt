@@ -5,4 +5,5 @@ pub mod frames;
 pub mod histories;
 pub mod lives;
 pub mod placing;
+pub mod plays;
 pub mod trails;

@@ -9,3 +9,4 @@ pub mod Frames
 pub mod Parts
 pub mod ScriptColours
 pub mod Outputs
+pub mod Sessions

@@ -22,20 +22,12 @@ use Rattle.play_types.specs.declared.parsed.Refusal.TheVariants.{Channel, Illega
 use Rattle.play_types.specs.declared.transition.Curve.TheVariants.{Linear}
 use Rattle.play_types.specs.Setting.{setting_of}
 use Rattle.play_types.specs.Take.{loaded, played}
+use Rattle.history_model.specs.CommandChannels.{IsConfigured, IsAimed}
 use Rattle.history_model.specs.CommandWords.{◌>>=◌, whole_within, is_word, ended, required, legal, flag_at}
 use Rattle.history_model.specs.CommandPlace.{Area, place_of, area_of, area_at, is_dash, layer_of}
 use Rattle.history_model.specs.CommandMixer.{mixer, mixer_command, property_command, reset, numbers_of, timing_of, property_of}
 use Rattle.history_model.specs.CommandProducer.{take_at}
 use Rattle.history_model.specs.Command.{parsed, meaning, name_of, least_words, staged, play, load, load_bg, clear, cleared, swap, swapped, only_place, place_command}
-
--- the channel is a configured one
-abbrev pub IsConfigured : ConfigView → ℕ → Type 0
-IsConfigured config channel = (1 ≤ channel) × (channel ≤ length config.channels)
-
--- a play is on a configured channel
-abbrev pub IsAimed : ConfigView → Cmd → Type 0
-IsAimed config (cmd.PlayTake place take) = IsConfigured config place.channel
-IsAimed config other = Unit {0}
 
 abbrev pub IsAimedParsed : ConfigView → Parsed → Type 0
 IsAimedParsed config (asked.Stage command) = IsAimed config command

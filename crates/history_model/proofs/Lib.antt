@@ -4,13 +4,12 @@ pub mod Events
 pub mod Later
 pub mod Liveness
 pub mod Placing
-pub mod Colours
 pub mod Plays
 pub mod Frames
 pub mod Parts
-pub mod ScriptColours
 pub mod Outputs
 pub mod Streams
 pub mod Asking
 pub mod Aiming
 pub mod PlayFrames
+pub mod Sessions

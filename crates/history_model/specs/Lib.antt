@@ -14,7 +14,6 @@ pub mod Frame
 pub mod Sound
 pub mod Answer
 pub mod Steps
-pub mod ColourHistory
 pub mod PlayHistory
 pub mod Touched
 pub mod Worked
@@ -29,6 +28,7 @@ pub mod CommandOptions
 pub mod CommandProducer
 pub mod CommandMixer
 pub mod Command
+pub mod CommandChannels
 pub mod SessionLine
 pub mod Session
 pub mod Script

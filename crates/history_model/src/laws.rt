@@ -1,6 +1,5 @@
 //! Laws of the definitions. Each is a function that does nothing, and its contract is the law.
 
-pub mod colours;
 pub mod frames;
 pub mod histories;
 pub mod lives;

@@ -1,2 +1,4 @@
 pub mod SessionState
+pub mod BatchState
+pub mod Seen
 pub mod Session

@@ -1,16 +1,14 @@
 -- The stream that a session stands for, and the steps that it gives.
-use Rattle.std.specs.Prelude.{◌≡◌, ℕ, ◌+◌, ◌<◌, Bool, true, false, Option, Some, List, [], ◌∷◌, ◌++◌, length, slice_get, All}
+use Rattle.std.specs.Prelude.{◌≡◌, ℕ, ◌+◌, ◌<◌, true, List, [], ◌∷◌, ◌++◌, length, slice_get, All}
 use Rattle.std.specs.List.{list_any}
 use Rattle.amcp_text.specs.Lines.{IsEnded, lines_of}
 use Rattle.amcp_text.specs.Reader as reader
 use Rattle.play_types.specs.Config.{ConfigView}
 use Rattle.play_types.specs.Media.{MediaNameView}
-use Rattle.play_types.specs.declared.command.Cmd.{Cmd}
-use Rattle.play_types.specs.declared.reply.Reply.{Reply}
 use Rattle.play_types.specs.declared.reply.Reply.TheVariants as reply
 use Rattle.history_model.specs.Session.{is_open, batch, asks, line_steps, is_end, steps}
-use Rattle.history_model.specs.Session as model
 use Rattle.play_session.specs.SessionState.{SessionState}
+use Rattle.play_session.specs.Seen.{seen}
 use Rattle.play_session.specs.declared.step.Step.{Step}
 use Rattle.play_session.specs.declared.step.Step.TheVariants as step
 
@@ -28,16 +26,6 @@ pub record StandsFor (config : ConfigView) (media : List MediaNameView) (session
   pub batch : session.batch_open ≡ true → session.batch ≡ batch (asks config media given_up (lines_of before))
   pub ended : session.ended ≡ list_any is_end (line_steps config media given_up (lines_of before))
 
--- the step that was given, with the batch that is asked for; none where more bytes are needed
-abbrev pub seen : Step → List Cmd → Option model.Step
-seen (step.Local answer) commands = Some (model.Local answer)
-seen (step.Ask command) commands = Some (model.Ask command)
-seen step.AskBatch commands = Some (model.AskBatch commands)
-seen step.Kill commands = Some model.KillServer
-seen step.Bye commands = Some model.EndConnection
-seen step.Skip commands = Some model.Skip
-seen step.NeedMore commands = None
-
 -- the lines that were given up, this one with them where memory ran out for it
 abbrev pub given_up_after : Step → List ℕ → ℕ → List ℕ
 given_up_after (step.Local reply.NoMemory) given_up number = given_up ++ number ∷ []
@@ -50,3 +38,7 @@ Gives config media step.NeedMore session stream given_up given =
 Gives config media result session stream given_up given =
     (slice_get (steps config media (given_up_after result given_up given) stream) given ≡ seen result session.batch)
     × StandsFor config media session stream (given_up_after result given_up given) (given + 1)
+
+-- whether a batch is open, its commands and whether the connection has ended are as before
+abbrev pub IsAsBefore : SessionState → SessionState → Type 0
+IsAsBefore before after = (after.batch_open ≡ before.batch_open) × (after.batch ≡ before.batch) × (after.ended ≡ before.ended)

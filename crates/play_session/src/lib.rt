@@ -1,13 +1,17 @@
 //! The state of one connection: the bytes of an unfinished line, and an open batch or none.
 //!
-//! A `Session` takes a client's bytes in pieces of any size and gives a step for each line. However the stream is cut, the
-//! steps are those that the definition gives for the whole of it.
+//! A `Session` takes a client's bytes in pieces of any size and gives a step for each line. However the stream is cut,
+//! the steps are those that the definition in `history_model` gives for the whole of it. A batch has at most 256
+//! commands, and its room is taken when the session is made.
 #![tactic(auto)]
 
+mod batch;
+mod meaning;
 mod session;
 mod step;
-#[cfg(test)]
-mod tests;
 
 pub use session::Session;
 pub use step::Step;
+
+#[cfg(test)]
+mod tests;

@@ -1,4 +1,6 @@
 //! What is to be done for a line of a connection.
+ghost use Rattle.std.specs.Prelude.{◌≡◌};
+ghost use Rattle.play_session.specs.Seen.{ends};
 
 use play_types::{Cmd, Reply};
 
@@ -19,4 +21,16 @@ pub enum Step {
     Skip,
     /// No whole line is held.
     NeedMore,
+}
+
+impl Step {
+    /// Whether nothing more is done for the connection: at `Kill` and at `Bye`.
+    pub fn is_end(&self) -> bool
+        ensures { result ≡ ends self.now }
+    {
+        match self {
+            Step::Kill | Step::Bye => true,
+            Step::Local(_) | Step::Ask(_) | Step::AskBatch | Step::Skip | Step::NeedMore => false,
+        }
+    }
 }

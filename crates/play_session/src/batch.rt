@@ -1,0 +1,203 @@
+//! The batch of a connection.
+ghost use Rattle.std.specs.Prelude.{◌≡◌, ◌∷◌, [], IfOk, Some, true, false};
+ghost use Rattle.history_model.specs.SessionLine.{Asks};
+ghost use Rattle.history_model.specs.Session.{command_name, is_query, step_commit, step_inside, step_outside, step_waiting};
+ghost use Rattle.play_session.specs.BatchState.{after_inside, after_meaning, after_outside, step_for, with_command};
+ghost use Rattle.play_session.specs.Seen.{meaning_seen, seen};
+
+use crate::meaning::Meaning;
+use crate::step::Step;
+use play_types::{Cmd, Name, Parsed, Reply};
+use std::alloc::{AllocError, Global};
+use std::marker::Model;
+
+/// The most commands of a batch.
+const LIMIT: usize = 256;
+
+/// A batch, open or closed. A closed one keeps its commands until the next one is opened.
+#[derive(Debug, Drop)]
+pub struct Batch {
+    is_open: bool,
+    commands: Vec<Cmd>,
+}
+
+impl Model for Batch {
+    ghost use Rattle.std.specs.Prelude.{◌≤◌, vec_capacity, vec_len};
+    ghost use Rattle.play_session.specs.BatchState.{BatchState};
+
+    ghost Value = { BatchState };
+
+    ghost view = { λ b. record { is_open = b.is_open; commands = b.commands.items } };
+
+    ghost invariant = { λ b. (vec_len b.commands ≤ 256) × (256 ≤ vec_capacity b.commands) };
+}
+
+impl Batch {
+    /// A closed batch without commands. It takes the room for 256 of them.
+    pub fn new(alloc: Global) -> Result<Batch, AllocError>
+        ensures { IfOk result (λ batch. batch ≡ record { is_open = false; commands = [] }) }
+    {
+        let commands = Vec::with_capacity(alloc, LIMIT)?;
+        Ok(Batch {
+            is_open: false,
+            commands,
+        })
+    }
+
+    /// Closes the batch and drops its commands.
+    pub fn clear(&mut self)
+        ensures { self.new ≡ record { is_open = false; commands = [] } }
+    {
+        self.is_open = false;
+        self.commands.clear();
+    }
+
+    pub fn commands(&self) -> &[Cmd]
+        ensures { result.now ≡ self.now.commands }
+    {
+        self.commands.as_slice()
+    }
+
+    /// What is done for what a line means.
+    pub fn step(&mut self, meaning: Meaning) -> Step
+        ensures step { seen result self.new.commands ≡ Some (step_for self.old (meaning_seen meaning)) }
+        ensures batch { self.new ≡ after_meaning self.old (meaning_seen meaning) }
+    {
+        match meaning {
+            Meaning::Blank => Step::Skip,
+            Meaning::Wrong(reply) => Step::Local(reply),
+            Meaning::Asks(asked) => self.step_for_ask(asked),
+        }
+    }
+
+    /// What is done for what the words of a line ask for.
+    fn step_for_ask(&mut self, asked: Parsed) -> Step
+        ensures step { seen result self.new.commands ≡ Some (step_for self.old (Asks asked)) }
+        ensures batch { self.new ≡ after_meaning self.old (Asks asked) }
+    {
+        if self.is_open {
+            self.step_inside(asked)
+        } else {
+            self.step_outside(asked)
+        }
+    }
+
+    /// What is done where no batch is open.
+    fn step_outside(&mut self, asked: Parsed) -> Step
+        ensures step { seen result self.new.commands ≡ Some (step_outside asked) }
+        ensures batch { self.new ≡ after_outside self.old asked }
+    {
+        match asked {
+            Parsed::Stage(command) => Step::Ask(command),
+            Parsed::Begin => self.begin(),
+            Parsed::Commit => refused(Name::Commit),
+            Parsed::Discard => refused(Name::Discard),
+            Parsed::Cls => Step::Local(Reply::Cls),
+            Parsed::Version => Step::Local(Reply::Version),
+            Parsed::Bye => Step::Bye,
+            Parsed::Kill => Step::Kill,
+        }
+    }
+
+    /// What is done where a batch is open.
+    fn step_inside(&mut self, asked: Parsed) -> Step
+        ensures step { seen result self.new.commands ≡ Some (step_inside self.old.commands asked) }
+        ensures batch { self.new ≡ after_inside self.old asked }
+    {
+        match asked {
+            Parsed::Stage(command) => self.add(command),
+            Parsed::Begin => refused(Name::Begin),
+            Parsed::Commit => self.commit(),
+            Parsed::Discard => self.discard(),
+            Parsed::Cls => refused(Name::Cls),
+            Parsed::Version => refused(Name::Version),
+            Parsed::Bye => refused(Name::Bye),
+            Parsed::Kill => refused(Name::Kill),
+        }
+    }
+
+    /// Opens an empty batch.
+    fn begin(&mut self) -> Step
+        ensures step { result ≡ Step.Local (Reply.Done Name.Begin) }
+        ensures batch { self.new ≡ record { is_open = true; commands = [] } }
+    {
+        self.is_open = true;
+        self.commands.clear();
+        done(Name::Begin)
+    }
+
+    /// Adds a command to the open batch. It is refused where it is a query, and where there is no room.
+    fn add(&mut self, command: Cmd) -> Step
+        ensures step { seen result self.new.commands ≡ Some (step_waiting self.old.commands command) }
+        ensures batch { self.new ≡ record { is_open = self.old.is_open; commands = with_command self.old.commands command } }
+    {
+        let name = name_of(&command);
+        if is_query(&command) || self.commands.len() >= LIMIT {
+            return refused(name);
+        }
+        self.commands.push_reserved(command);
+        done(name)
+    }
+
+    /// Closes the open batch, which is asked for where it has a command.
+    fn commit(&mut self) -> Step
+        ensures step { seen result self.new.commands ≡ Some (step_commit self.old.commands) }
+        ensures batch { self.new ≡ record { is_open = false; commands = self.old.commands } }
+    {
+        self.is_open = false;
+        if self.commands.is_empty() {
+            return done(Name::Commit);
+        }
+        Step::AskBatch
+    }
+
+    /// Closes the open batch.
+    fn discard(&mut self) -> Step
+        ensures step { result ≡ Step.Local (Reply.Done Name.Discard) }
+        ensures batch { self.new ≡ record { is_open = false; commands = self.old.commands } }
+    {
+        self.is_open = false;
+        done(Name::Discard)
+    }
+}
+
+fn done(name: Name) -> Step
+    ensures { result ≡ Step.Local (Reply.Done name) }
+{
+    Step::Local(Reply::Done(name))
+}
+
+fn refused(name: Name) -> Step
+    ensures { result ≡ Step.Local (Reply.Refused 403 name) }
+{
+    Step::Local(Reply::Refused(403, name))
+}
+
+/// The name that a command begins with.
+fn name_of(command: &Cmd) -> Name
+    ensures { result ≡ command_name command.now }
+{
+    match command {
+        Cmd::Load(..) => Name::Load,
+        Cmd::LoadBg(..) => Name::LoadBg,
+        Cmd::Play(_) | Cmd::PlayTake(..) => Name::Play,
+        Cmd::Pause(_) => Name::Pause,
+        Cmd::Resume(_) => Name::Resume,
+        Cmd::StopLayer(_) => Name::Stop,
+        Cmd::ClearLayer(_) | Cmd::ClearChannel(_) => Name::Clear,
+        Cmd::SwapLayers(..) | Cmd::SwapChannels(..) => Name::Swap,
+        Cmd::Set(_)
+        | Cmd::CommitMixer(_)
+        | Cmd::ResetLayer(_)
+        | Cmd::ResetChannel(_)
+        | Cmd::Value(..) => Name::Mixer,
+        Cmd::Info => Name::Info,
+    }
+}
+
+/// Whether a command only asks.
+fn is_query(command: &Cmd) -> bool
+    ensures { result ≡ is_query command.now }
+{
+    matches!(command, Cmd::Value(..) | Cmd::Info)
+}

@@ -17,7 +17,7 @@ use Rattle.play_types.specs.declared.parsed.Refusal.{Refusal}
 use Rattle.play_types.specs.declared.parsed.Refusal.TheVariants as refusal
 use Rattle.history_model.specs.ReplyText.{IsReplyTo, IsRefusalCode}
 use Rattle.history_model.specs.Command.{parsed}
-use Rattle.history_model.specs.SessionLine.{line_meaning, meaning_of_words, meaning_of_parsed, refusal_reply}
+use Rattle.history_model.specs.SessionLine.{LineMeaning, Blank, Wrong, Asks, line_meaning, meaning_of_words, meaning_of_parsed, refusal_reply}
 use Rattle.history_model.specs.Session.{Step, Local, Ask, AskBatch, KillServer, EndConnection, Skip, command_name, is_query, batch_limit, asks, is_open, batch, step_outside, step_waiting, step_commit, step_inside, step_after, step_of_meaning, is_given_up, step_of_line, is_end, line_steps, steps}
 
 -- a reply that fits, an ask of a command that words ask for, or another step
@@ -79,28 +79,39 @@ outside_given config media words Version is = tt
 outside_given config media words Bye is = tt
 outside_given config media words Kill is = tt
 
-after_given : (config : ConfigView) (media : List MediaNameView) (before : List Parsed) (words : List (List ℕ)) (asked : Parsed) → parsed config media words ≡ Ok asked → IsGiven config media (step_after before asked)
-after_given config media before words asked is = by_open (is_open before)
-  where
-    by_open : (b : Bool) → IsGiven config media (if b then step_inside (batch before) asked else step_outside asked)
-    by_open true = inside_given config media (batch before) asked
-    by_open false = outside_given config media words asked is
+-- what is done for an ask, where this batch is open or none is
+pub asked_given : (config : ConfigView) (media : List MediaNameView) (open_now : Bool) (commands : List Cmd) (words : List (List ℕ)) (asked : Parsed) → parsed config media words ≡ Ok asked
+    → IsGiven config media (if open_now then step_inside commands asked else step_outside asked)
+asked_given config media true commands words asked is = inside_given config media commands asked
+asked_given config media false commands words asked is = outside_given config media words asked is
 
-words_given : (config : ConfigView) (media : List MediaNameView) (before : List Parsed) (line : List ℕ) (words : Result (List (List ℕ)) TokenFault)
-    → IsGiven config media (step_of_meaning before (meaning_of_words config media line words))
-words_given config media before line (Err fault) = tt
-words_given config media before line (Ok []) = tt
-words_given config media before line (Ok (word ∷ words)) = by_parsed (parsed config media (word ∷ words)) refl
+-- a refusal whose reply fits, or what words ask for
+abbrev pub IsMeant : ConfigView → List MediaNameView → LineMeaning → Type 0
+IsMeant config media Blank = Unit {0}
+IsMeant config media (Wrong answer) = IsReplyTo config answer
+IsMeant config media (Asks asked) = (words : List (List ℕ)) × (parsed config media words ≡ Ok asked)
+
+words_meant : (config : ConfigView) (media : List MediaNameView) (line : List ℕ) (words : Result (List (List ℕ)) TokenFault)
+    → IsMeant config media (meaning_of_words config media line words)
+words_meant config media line (Err fault) = tt
+words_meant config media line (Ok []) = tt
+words_meant config media line (Ok (word ∷ words)) = by_parsed (parsed config media (word ∷ words)) refl
   where
-    by_parsed : (result : Result Parsed Refusal) → parsed config media (word ∷ words) ≡ result → IsGiven config media (step_of_meaning before (meaning_of_parsed line result))
-    by_parsed (Ok asked) is = after_given config media before (word ∷ words) asked is
+    by_parsed : (result : Result Parsed Refusal) → parsed config media (word ∷ words) ≡ result → IsMeant config media (meaning_of_parsed line result)
+    by_parsed (Ok asked) is = (word ∷ words, is)
     by_parsed (Err reason) is = refusal_fits config line reason
 
-meaning_given : (config : ConfigView) (media : List MediaNameView) (before : List Parsed) (line : Line) → IsGiven config media (step_of_meaning before (line_meaning config media line))
+-- what a line means
+pub line_meant : (config : ConfigView) (media : List MediaNameView) (line : Line) → IsMeant config media (line_meaning config media line)
 unfolding line_meaning
-meaning_given config media before (Text line) = words_given config media before line (words_of line)
-meaning_given config media before TooLong = tt
-meaning_given config media before NotUtf8 = tt
+line_meant config media (Text line) = words_meant config media line (words_of line)
+line_meant config media TooLong = tt
+line_meant config media NotUtf8 = tt
+
+meaning_given : (config : ConfigView) (media : List MediaNameView) (before : List Parsed) (meant : LineMeaning) → IsMeant config media meant → IsGiven config media (step_of_meaning before meant)
+meaning_given config media before Blank is = tt
+meaning_given config media before (Wrong answer) is = is
+meaning_given config media before (Asks asked) is = asked_given config media (is_open before) (batch before) is.0 asked is.1
 
 line_given : (config : ConfigView) (media : List MediaNameView) (given_up : List ℕ) (lines : List Line) (line : ℕ × Line) → IsGiven config media (step_of_line config media given_up lines line)
 line_given config media given_up lines line = by_memory (is_given_up given_up line.0)
@@ -108,7 +119,7 @@ line_given config media given_up lines line = by_memory (is_given_up given_up li
     by_memory : (b : Bool) → IsGiven config media
         (if b then Local reply.NoMemory else step_of_meaning (asks config media given_up (take line.0 lines)) (line_meaning config media line.1))
     by_memory true = tt
-    by_memory false = meaning_given config media (asks config media given_up (take line.0 lines)) line.1
+    by_memory false = meaning_given config media (asks config media given_up (take line.0 lines)) (line_meaning config media line.1) (line_meant config media line.1)
 
 among_taken : {A : Type 0} (k n : ℕ) (xs : List A) (x : A) → slice_get (take k xs) n ≡ Some x → slice_get xs n ≡ Some x
 among_taken zero n xs x is = absurd (none-some x is)

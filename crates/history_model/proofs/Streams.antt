@@ -104,3 +104,17 @@ pub given_up_of-lost : (tag : Tag) (played : List Played) (line : Played) (text 
 given_up_of-lost tag played line text said lost =
     given_up_of-more tag played line text said
     ∙ ap (λ (b : Bool). given_up_of tag played ++ filter_map number_given_up ((length (texts_of tag played), b) ∷ [])) lost
+
+-- a connection that has said nothing has no stream
+pub stream_of-none : (tag : Tag) (played : List Played) → texts_of tag played ≡ [] → stream_of tag played ≡ []
+unfolding stream_of
+stream_of-none tag played none = ap (flat_map (λ text. text ++ 13 ∷ 10 ∷ [])) none
+
+no_marks : (ms : List Bool) → length ms ≡ 0 → ms ≡ []
+no_marks [] none = refl
+no_marks (m ∷ ms) none = absurd (omega (arith, none))
+
+pub given_up_of-none : (tag : Tag) (played : List Played) → texts_of tag played ≡ [] → given_up_of tag played ≡ []
+unfolding given_up_of
+given_up_of-none tag played none =
+    ap (λ (ms : List Bool). filter_map number_given_up (enumerate_from 0 ms)) (no_marks (marks tag played) (length-marks tag played ∙ ap length none))

@@ -1,3 +1,4 @@
 pub mod Batches
 pub mod Standing
 pub mod NextLine
+pub mod Fitting

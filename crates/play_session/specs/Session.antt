@@ -6,6 +6,8 @@ use Rattle.amcp_text.specs.Reader as reader
 use Rattle.play_types.specs.Config.{ConfigView}
 use Rattle.play_types.specs.Media.{MediaNameView}
 use Rattle.play_types.specs.declared.reply.Reply.TheVariants as reply
+use Rattle.history_model.specs.ReplyText.{IsReplyTo}
+use Rattle.history_model.specs.CommandChannels.{IsAimed}
 use Rattle.history_model.specs.Session.{is_open, batch, asks, line_steps, is_end, steps}
 use Rattle.play_session.specs.SessionState.{SessionState}
 use Rattle.play_session.specs.Seen.{seen}
@@ -42,3 +44,9 @@ Gives config media result session stream given_up given =
 -- whether a batch is open, its commands and whether the connection has ended are as before
 abbrev pub IsAsBefore : SessionState → SessionState → Type 0
 IsAsBefore before after = (after.batch_open ≡ before.batch_open) × (after.batch ≡ before.batch) × (after.ended ≡ before.ended)
+
+-- what is sent fits the configuration, and what the stage is asked for is on its channels
+abbrev pub Fits : ConfigView → Step → Type 0
+Fits config (step.Local answer) = IsReplyTo config answer
+Fits config (step.Ask command) = IsAimed config command
+Fits config other = Unit {0}

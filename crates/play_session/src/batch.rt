@@ -174,7 +174,7 @@ fn refused(name: Name) -> Step
 }
 
 /// The name that a command begins with.
-fn name_of(command: &Cmd) -> Name
+pub fn name_of(command: &Cmd) -> Name
     ensures { result ≡ command_name command.now }
 {
     match command {

@@ -4,7 +4,7 @@ ghost use Rattle.amcp_text.specs.Reader.{taken_len};
 ghost use Rattle.play_types.specs.Config.{ConfigView};
 ghost use Rattle.play_types.specs.Media.{MediaNameView};
 ghost use Rattle.play_session.specs.Seen.{ends};
-ghost use Rattle.play_session.specs.Session.{StandsFor, Gives, IsAsBefore};
+ghost use Rattle.play_session.specs.Session.{StandsFor, Gives, Fits, IsAsBefore};
 
 use crate::batch::Batch;
 use crate::meaning::meaning_of;
@@ -83,6 +83,7 @@ impl Session {
         ensures gives { (stream given_up : List ℕ) (given : ℕ) → StandsFor config.now media.now self.old stream given_up given
             → Gives config.now media.now result self.new stream given_up given }
         ensures ended { self.new.ended ≡ ends result }
+        ensures fits { Fits config.now result }
         ensures given_up { result ≡ Step.Local Reply.NoMemory → IsAsBefore self.old self.new }
     {
         let meaning = match self.reader.line() {

@@ -6,31 +6,30 @@ use Rattle.play_outside.specs.SourceState.{SourceState}
 use Rattle.play_outside.specs.Source.{Consumes}
 use Rattle.play_outside.specs.SinkState.{SinkState}
 use Rattle.play_outside.proofs.Reading.{Consumes-then, Consumes-nil}
+use Rattle.history_model.specs.ScriptHistory.{Playout}
 use Rattle.run_script.specs.declared.ending.Ending.{Ending}
 use Rattle.run_script.specs.declared.ending.Ending.TheVariants.{Memory}
 use Rattle.run_script.specs.declared.script.Script.{Script}
-use Rattle.run_script.specs.Script.{HasTaken, IsWritten}
+use Rattle.run_script.specs.Script.{HasTaken}
 use Rattle.run_script.specs.Run.{limit, FaultsOf, Runs, Continues}
-use Rattle.run_script.proofs.Endings.{none_written}
+use Rattle.run_script.proofs.Endings.{none_done}
 
 -- what was read so far was taken, and so many bytes more are allowed
-pub record HasRead (width height turn left : ℕ) (script : Script) (source source' : SourceState) (first state : SinkState) : Type 0 where
+pub record HasRead (playout : Playout) (turn left : ℕ) (script : Script) (source source' : SourceState) (first state : SinkState) : Type 0 where
   pub read : List ℕ
   pub consumed : Consumes read source source'
-  pub taken : HasTaken width height script read
-  pub written : IsWritten width height read first state
+  pub taken : HasTaken playout script read first state
   pub allowed : left + length read ≡ limit
   pub turns : turn ≤ length read
   pub ticks : script.stage.ticks ≤ 100000 * length read
   pub lines : script.lines ≤ length read
 
 -- nothing was read yet
-pub none_read : (width height : ℕ) (script : Script) (source : SourceState) (first : SinkState) → HasTaken width height script [] → script.stage.ticks ≡ 0 → script.lines ≡ 0 → HasRead width height 0 limit script source source first first
-none_read width height script source first taken ticks lines = record {
+pub none_read : (playout : Playout) (script : Script) (source : SourceState) (first : SinkState) → HasTaken playout script [] first first → script.stage.ticks ≡ 0 → script.lines ≡ 0 → HasRead playout 0 limit script source source first first
+none_read playout script source first taken ticks lines = record {
   read = [];
   consumed = Consumes-nil source;
   taken = taken;
-  written = none_written width height first;
   allowed = refl;
   turns = omega arith;
   ticks = omega arith;
@@ -38,24 +37,24 @@ none_read width height script source first taken ticks lines = record {
 }
 
 -- the run ends for want of memory before anything was read
-pub nothing_read : (width height : ℕ) (source : SourceState) (first : SinkState) → Runs width height Memory source source first first
-nothing_read width height source first = record {
+pub nothing_read : (playout : Playout) (source : SourceState) (first : SinkState) → Runs playout Memory source source first first
+nothing_read playout source first = record {
   read = [];
   ended = false;
   gives = (Consumes-nil source).gives;
   faults = refl;
   at_end = λ e. absurd (false≢true e);
-  ends = ([], record { rest = []; parts = refl; whole = λ e. absurd (false≢true e) }, none_written width height first);
+  ends = ([], record { rest = []; parts = refl; whole = λ e. absurd (false≢true e) }, none_done playout first);
 }
 
 -- one more piece was read and taken
-pub piece_read : (width height turn left rest : ℕ) (script script' : Script) (piece : List ℕ) (source source' source'' : SourceState) (first state state' : SinkState)
-    → (before : HasRead width height turn left script source source' first state)
+pub piece_read : (playout : Playout) (turn left rest : ℕ) (script script' : Script) (piece : List ℕ) (source source' source'' : SourceState) (first state state' : SinkState)
+    → (before : HasRead playout turn left script source source' first state)
     → 0 < length piece → Consumes piece source' source''
     → script'.stage.ticks ≤ script.stage.ticks + 100000 * length piece → script'.lines ≤ script.lines + length piece
-    → Continues width height (Ok rest) left script' before.read piece first state'
-    → HasRead width height (turn + 1) rest script' source source'' first state'
-piece_read width height turn left rest script script' piece source source' source'' first state state' before some consumed ticks lines goes =
+    → Continues playout (Ok rest) left script' before.read piece first state'
+    → HasRead playout (turn + 1) rest script' source source'' first state'
+piece_read playout turn left rest script script' piece source source' source'' first state state' before some consumed ticks lines goes =
     let both = length-append before.read piece in
     let allowed = before.allowed in
     let turns = before.turns in
@@ -66,7 +65,6 @@ piece_read width height turn left rest script script' piece source source' sourc
       read = before.read ++ piece;
       consumed = Consumes-then before.read piece source source' source'' before.consumed consumed;
       taken = goes.1;
-      written = goes.2;
       allowed = omega arith;
       turns = omega arith;
       ticks = omega arith;
@@ -74,12 +72,12 @@ piece_read width height turn left rest script script' piece source source' sourc
     }
 
 -- the run ends in a piece that was read
-pub piece_ends : (width height turn left : ℕ) (script script' : Script) (piece : List ℕ) (ending : Ending) (source source' source'' : SourceState) (first state state' : SinkState)
-    → (before : HasRead width height turn left script source source' first state)
+pub piece_ends : (playout : Playout) (turn left : ℕ) (script script' : Script) (piece : List ℕ) (ending : Ending) (source source' source'' : SourceState) (first state state' : SinkState)
+    → (before : HasRead playout turn left script source source' first state)
     → Consumes piece source' source''
-    → Continues width height (Err ending) left script' before.read piece first state'
-    → Runs width height ending source source'' first state'
-piece_ends width height turn left script script' piece ending source source' source'' first state state' before consumed ends =
+    → Continues playout (Err ending) left script' before.read piece first state'
+    → Runs playout ending source source'' first state'
+piece_ends playout turn left script script' piece ending source source' source'' first state state' before consumed ends =
     let all = Consumes-then before.read piece source source' source'' before.consumed consumed in
     record {
       read = before.read ++ piece;

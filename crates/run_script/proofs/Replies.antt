@@ -1,7 +1,5 @@
 -- The lines of a reply, written one by one.
 use Rattle.std.proofs.Common.{◌≡◌, ◌≢◌, ℕ, ◌+◌, ◌-◌, ◌<◌, ◌≤◌, false, eqb, List, [], ◌∷◌, ◌++◌, take, drop, get_or, length, refl, sym, ap, ap₂, ◌∙◌, arith, append-nil}
-use Rattle.play_types.specs.declared.reply.Reply.{Reply}
-use Rattle.history_model.specs.Asked.{Asked, asked_reply}
 use Rattle.std.specs.Prelude.{Option, Some, None, flat_map}
 use Rattle.std.specs.Str.Lines.{strip_carriage_return}
 use Rattle.std.proofs.lemmas.Bool.Decides.{nat_tests}
@@ -13,9 +11,7 @@ use Rattle.play_outside.specs.Sink.{Fails}
 use Rattle.play_outside.proofs.Taking.{after_taking-nil}
 use Rattle.play_outside.proofs.Sending.{taken_more, Fails-within}
 use Rattle.history_model.specs.ScriptInput.{ended_lines, unended}
-use Rattle.history_model.specs.ScriptOutput.{plain_config, reply_line, tagged_lines, reply_output}
-use Rattle.run_script.specs.declared.clients.Clients.{Clients}
-use Rattle.run_script.specs.Stage.{bytes_of_reply, IsReady}
+use Rattle.history_model.specs.ScriptOutput.{reply_line, tagged_lines}
 use Rattle.history_model.proofs.Parts.{ended_lines-feed, unended-feed, ended_lines-other, unended-other, ended_lines-more}
 
 -- the bytes before a place are written up to their last line end, and the next line begins after it
@@ -108,17 +104,3 @@ line_failed tag bytes at start first state after inside feed so_far fails =
     (ap (tagged_lines tag) (sym (take-append-drop (at + 1) bytes)) ∙ more.1
     ∙ ap (λ (text : List ℕ). text ++ more.0) (line_front tag bytes at start first state inside feed so_far))
     so_far.written fails
-
--- what is written for a reply is its lines, each after the tag
-pub reply_lines_of : (width height : ℕ) (tag : Tag) (reply : Option Reply) → tagged_lines tag (bytes_of_reply (plain_config width height) [] reply) ≡ reply_output width height tag reply
-unfolding tagged_lines ended_lines
-reply_lines_of width height tag None = refl
-reply_lines_of width height tag (Some reply) = refl
-
--- what was written for a request is what is written for the text that it is read from
-pub request_written : (width height : ℕ) (tag : Tag) (clients : Clients) (what asks : Asked) (bytes : List ℕ) → IsReady width height clients → bytes ≡ bytes_of_reply clients.config clients.media (asked_reply what) → what ≡ asks
-    → tagged_lines tag bytes ≡ reply_output width height tag (asked_reply asks)
-request_written width height tag clients what asks bytes ready are is =
-    ap (tagged_lines tag) (are ∙ ap₂ (λ config media. bytes_of_reply config media (asked_reply what)) ready.config ready.media
-    ∙ ap (λ w. bytes_of_reply (plain_config width height) [] (asked_reply w)) is)
-    ∙ reply_lines_of width height tag (asked_reply asks)

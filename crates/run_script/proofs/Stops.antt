@@ -1,32 +1,21 @@
--- The line at which a run stops, among all lines of the input.
-use Rattle.std.proofs.Common.{◌≡◌, ℕ, ◌+◌, ◌<◌, ◌≤◌, ◌&&◌, Bool, true, false, eqb, List, [], ◌∷◌, ◌++◌, length, refl, sym, ap, ap₂, ◌∙◌, arith, append-nil, append_assoc, length-append}
+-- The line at which a run ends, among all lines of the input.
+use Rattle.std.proofs.Common.{◌≡◌, ◌≢◌, ◌⊎◌, inl, inr, ℕ, ◌+◌, ◌<◌, ◌≤◌, ◌&&◌, Bool, true, false, cond, eqb, List, [], ◌∷◌, ◌++◌, length, map, refl, sym, ap, ap₂, ◌∙◌, arith, append-nil, append_assoc, length-append}
 use Rattle.std.specs.List.{list_all}
 use Rattle.std.specs.Prelude.{nat_le}
 use Rattle.std.specs.Str.Lines.{lines, strip_carriage_return}
 use Rattle.std.proofs.lemmas.Bool.{false≢true}
 use Rattle.std.proofs.lemmas.Bool.Decides.{nat_tests}
 use Rattle.std.proofs.lemmas.Grind.{common_steps}
-use Rattle.std.proofs.lemmas.List.{map-append}
-use Rattle.history_model.specs.Script.{ScriptLine, Comment, Said, NoForm, goes_on, meaning, until_stop, line_events}
+use Rattle.std.proofs.lemmas.List.{map-append, length-map}
+use Rattle.history_model.specs.Script.{ScriptLine, Comment, Said, NoForm, meaning, until_stop}
 use Rattle.history_model.specs.Script as script
+use Rattle.history_model.specs.ScriptHistory.{Playout, Played, ends_at, goes_on_after, goes_on}
 use Rattle.history_model.specs.ScriptInput.{ended_lines, unended, overlong, received}
-use Rattle.history_model.specs.ScriptOutput.{script_output}
-use Rattle.history_model.proofs.Outputs.{script_output-snoc}
 use Rattle.history_model.proofs.Parts.{last_line, lines-ended, ended_lines-feed, ended_lines-other, unended-other, ended_lines-more}
-use Rattle.run_script.specs.Script.{meanings}
+use Rattle.run_script.specs.Script.{meanings, said_by, IsAtLast}
 use Rattle.run_script.specs.Program.{is_formed}
 use Rattle.run_script.proofs.Growth.{long-meaning}
 use Rattle.run_script.proofs.Endings.{last_line-some, received-short}
-
-snoc_same : {A : Type 0} (xs ys : List A) (x y : A) → xs ++ x ∷ [] ≡ ys ++ y ∷ [] → (xs ≡ ys) × (x ≡ y)
-snoc_same [] [] x y e = (refl, cc)
-snoc_same [] (b ∷ ys) x y e = absurd (let sizes = ap length e in omega (arith, sizes, length-append ys (y ∷ [])))
-snoc_same (a ∷ xs) [] x y e = absurd (let sizes = ap length e in omega (arith, sizes, length-append xs (x ∷ [])))
-snoc_same (a ∷ xs) (b ∷ ys) x y e =
-    let heads : a ≡ b = cc in
-    let tails : xs ++ x ∷ [] ≡ ys ++ y ∷ [] = cc in
-    let rest = snoc_same xs ys x y tails in
-    (ap₂ (λ c cs. c ∷ cs) heads rest.0, rest.1)
 
 -- the lines that have ended stand first among all lines
 pub lines_front : (front more : List ℕ) → (rest : List (List ℕ)) × (lines (front ++ more) ≡ ended_lines front ++ rest)
@@ -76,108 +65,115 @@ long_front front (c ∷ more) long = by_byte (eqb c 10) refl (λ longer. long_fr
               ∙ ap (λ (ls : List (List ℕ)). ls ++ next.0 ∷ next.1) (ended_lines-other front c is),
         )
 
-overlong-is : (text : List ℕ) (b : Bool) → nat_le 8194 (length text) ≡ b → b ≡ true → (overlong text ≡ text ∷ []) × (8194 ≤ length text)
-overlong-is text true is e = (rw is refl, grind (arith, nat_tests))
-overlong-is text false is e = absurd (false≢true e)
-
 short_by : (text : List ℕ) → nat_le 8194 (length text) ≡ false → length text < 8194
 short_by text is = grind (arith, nat_tests)
 
--- the line at which a run stops stands among all lines after those before it
-pub stop_found : (what : ScriptLine) (front more : List ℕ) (before : List (List ℕ)) (line : List ℕ) → received front false ≡ before ++ line ∷ [] → meaning line ≡ what
-    → (found : List ℕ) × (rest : List (List ℕ)) × (lines (front ++ more) ≡ before ++ found ∷ rest) × (meaning found ≡ what)
-stop_found what front more before line got form = by_size (nat_le 8194 (length (unended front))) refl
+long_by : (text : List ℕ) → nat_le 8194 (length text) ≡ true → (overlong text ≡ text ∷ []) × (8194 ≤ length text)
+long_by text is = (rw is refl, grind (arith, nat_tests))
+
+-- what the lines say that were received stands first in what all lines say
+pub received_front : (front more : List ℕ) → (rest : List ScriptLine) × (meanings (lines (front ++ more)) ≡ meanings (received front false) ++ rest)
+received_front front more = by_size (nat_le 8194 (length (unended front))) refl
   where
-    by_size : (b : Bool) → nat_le 8194 (length (unended front)) ≡ b
-        → (found : List ℕ) × (rest : List (List ℕ)) × (lines (front ++ more) ≡ before ++ found ∷ rest) × (meaning found ≡ what)
+    by_size : (b : Bool) → nat_le 8194 (length (unended front)) ≡ b → (rest : List ScriptLine) × (meanings (lines (front ++ more)) ≡ meanings (received front false) ++ rest)
     by_size false is =
-        let ended : ended_lines front ≡ before ++ line ∷ [] = sym (received-short front (short_by (unended front) is)) ∙ got in
-        let all = lines_front front more in
-        (line, all.0, all.1 ∙ ap (λ (ls : List (List ℕ)). ls ++ all.0) ended ∙ append_assoc before (line ∷ []) all.0, form)
+        let all = lines_front front more in (
+          meanings all.0,
+          ap meanings all.1 ∙ map-append meaning (ended_lines front) all.0
+              ∙ ap (λ ls. meanings ls ++ meanings all.0) (sym (received-short front (short_by (unended front) is))),
+        )
     by_size true is =
-        let over = overlong-is (unended front) true is refl in
-        let same = snoc_same (ended_lines front) before (unended front) line (sym (ap (λ (ls : List (List ℕ)). ended_lines front ++ ls) over.0) ∙ got) in
-        let all = long_front front more over.1 in
-        let size = over.1 in (
-          all.0,
-          all.1,
-          all.3 ∙ ap (λ (ls : List (List ℕ)). ls ++ all.0 ∷ all.1) same.0,
-          long-meaning all.0 all.2 ∙ sym (long-meaning (unended front) (omega (arith, size))) ∙ ap meaning same.1 ∙ form,
+        let over = long_by (unended front) is in
+        let size = over.1 in
+        let all = long_front front more over.1 in (
+          meanings all.1,
+          ap meanings all.3 ∙ map-append meaning (ended_lines front) (all.0 ∷ all.1)
+              ∙ ap (λ (m : ScriptLine). meanings (ended_lines front) ++ m ∷ meanings all.1)
+                  (long-meaning all.0 all.2 ∙ sym (long-meaning (unended front) (omega (arith, size))))
+              ∙ sym (append_assoc (meanings (ended_lines front)) (meaning (unended front) ∷ []) (meanings all.1))
+              ∙ ap (λ (ms : List ScriptLine). ms ++ meanings all.1)
+                  (sym (map-append meaning (ended_lines front) (unended front ∷ []))
+                  ∙ ap (λ (ls : List (List ℕ)). meanings (ended_lines front ++ ls)) (sym over.0)),
         )
 
--- a line that is a stop has ended where the input goes on
-pub stop_ended : (front : List ℕ) (before : List (List ℕ)) (line : List ℕ) → received front false ≡ before ++ line ∷ [] → meaning line ≡ script.Stop → ended_lines front ≡ before ++ line ∷ []
-stop_ended front before line got form = by_size (nat_le 8194 (length (unended front))) refl
+snoc_last : {A : Type 0} (xs ys : List A) (x y : A) → xs ++ x ∷ [] ≡ ys ++ y ∷ [] → x ≡ y
+snoc_last [] [] x y e = cc
+snoc_last [] (b ∷ ys) x y e = absurd (let sizes = ap length e in omega (arith, sizes, length-append ys (y ∷ [])))
+snoc_last (a ∷ xs) [] x y e = absurd (let sizes = ap length e in omega (arith, sizes, length-append xs (x ∷ [])))
+snoc_last (a ∷ xs) (b ∷ ys) x y e = let tails : xs ++ x ∷ [] ≡ ys ++ y ∷ [] = cc in snoc_last xs ys x y tails
+
+-- a last line that is of a form has ended where the input goes on
+pub stop_ended : (playout : Playout) (front : List ℕ) → (at : IsAtLast playout front false) → at.last.line ≢ NoForm → length (ended_lines front) ≡ length at.before + 1
+stop_ended playout front at formed = by_size (nat_le 8194 (length (unended front))) refl
   where
-    differ : NoForm ≡ script.Stop → ⊥
-    differ e = cc
+    line_of : Played → ScriptLine
+    line_of one = one.line
 
-    by_size : (b : Bool) → nat_le 8194 (length (unended front)) ≡ b → ended_lines front ≡ before ++ line ∷ []
-    by_size false is = sym (received-short front (short_by (unended front) is)) ∙ got
+    said : said_by at.before ++ at.last.line ∷ [] ≡ meanings (received front false)
+    said = sym (map-append (λ (one : Played). one.line) at.before (at.last ∷ [])) ∙ at.said
+
+    by_size : (b : Bool) → nat_le 8194 (length (unended front)) ≡ b → length (ended_lines front) ≡ length at.before + 1
+    by_size false is =
+        let same = ap length said in
+        let one = length-append (said_by at.before) (at.last.line ∷ []) in
+        let two = length-map (λ (p : Played). p.line) at.before in
+        let three = length-map meaning (received front false) in
+        let four = ap length (received-short front (short_by (unended front) is)) in
+        omega (arith, same, one, two, three, four)
     by_size true is =
-        let over = overlong-is (unended front) true is refl in
-        let same = snoc_same (ended_lines front) before (unended front) line (sym (ap (λ (ls : List (List ℕ)). ended_lines front ++ ls) over.0) ∙ got) in
+        let over = long_by (unended front) is in
         let size = over.1 in
-        absurd (differ (sym (long-meaning (unended front) (omega (arith, size))) ∙ ap meaning same.1 ∙ form))
+        let last : at.last.line ≡ meaning (unended front) =
+        snoc_last (said_by at.before) (meanings (ended_lines front)) at.last.line (meaning (unended front))
+        (said ∙ ap (λ (ls : List (List ℕ)). meanings (ended_lines front ++ ls)) over.0 ∙ map-append meaning (ended_lines front) (unended front ∷ [])) in
+        absurd (formed (last ∙ long-meaning (unended front) (omega (arith, size))))
 
--- up to the first stop: all lines where none of them stops the run
-pub until_stop-all : (ms : List ScriptLine) → list_all goes_on ms ≡ true → until_stop ms ≡ ms
-until_stop-all [] on = refl
-until_stop-all (Comment ∷ ms) on = ap (λ (ls : List ScriptLine). Comment ∷ ls) (until_stop-all ms on)
-until_stop-all (script.Ticks count ∷ ms) on = ap (λ (ls : List ScriptLine). script.Ticks count ∷ ls) (until_stop-all ms on)
-until_stop-all (Said tag text ∷ ms) on = ap (λ (ls : List ScriptLine). Said tag text ∷ ls) (until_stop-all ms on)
-until_stop-all (script.Stop ∷ ms) on = absurd (false≢true on)
-until_stop-all (NoForm ∷ ms) on = absurd (false≢true on)
+-- lines that were not played, as if none was given up
+pub unplayed : List ScriptLine → List Played
+unplayed [] = []
+unplayed (line ∷ lines) = record { line = line; given_up = false } ∷ unplayed lines
 
--- and the first stop with what stands before it
-pub until_stop-stop : (ms rest : List ScriptLine) → list_all goes_on ms ≡ true → until_stop (ms ++ script.Stop ∷ rest) ≡ ms ++ script.Stop ∷ []
-until_stop-stop [] rest on = refl
-until_stop-stop (Comment ∷ ms) rest on = ap (λ (ls : List ScriptLine). Comment ∷ ls) (until_stop-stop ms rest on)
-until_stop-stop (script.Ticks count ∷ ms) rest on = ap (λ (ls : List ScriptLine). script.Ticks count ∷ ls) (until_stop-stop ms rest on)
-until_stop-stop (Said tag text ∷ ms) rest on = ap (λ (ls : List ScriptLine). Said tag text ∷ ls) (until_stop-stop ms rest on)
-until_stop-stop (script.Stop ∷ ms) rest on = absurd (false≢true on)
-until_stop-stop (NoForm ∷ ms) rest on = absurd (false≢true on)
+pub said-unplayed : (lines : List ScriptLine) → said_by (unplayed lines) ≡ lines
+unfolding unplayed
+said-unplayed [] = refl
+said-unplayed (line ∷ lines) = ap (λ (ls : List ScriptLine). line ∷ ls) (said-unplayed lines)
 
--- lines after which a run goes on are of a form
-pub formed_all : (ms : List ScriptLine) → list_all goes_on ms ≡ true → list_all is_formed ms ≡ true
-formed_all [] on = refl
-formed_all (Comment ∷ ms) on = formed_all ms on
-formed_all (script.Ticks count ∷ ms) on = formed_all ms on
-formed_all (Said tag text ∷ ms) on = formed_all ms on
-formed_all (script.Stop ∷ ms) on = absurd (false≢true on)
-formed_all (NoForm ∷ ms) on = absurd (false≢true on)
+-- the lines up to the last that was played, and those after it
+pub said-later : (before : List Played) (last : Played) (rest : List ScriptLine) → said_by (before ++ last ∷ unplayed rest) ≡ said_by (before ++ last ∷ []) ++ rest
+said-later before last rest =
+    map-append (λ (one : Played). one.line) before (last ∷ unplayed rest)
+    ∙ ap (λ (ls : List ScriptLine). said_by before ++ last.line ∷ ls) (said-unplayed rest)
+    ∙ sym (append_assoc (said_by before) (last.line ∷ []) rest)
+    ∙ ap (λ (ls : List ScriptLine). ls ++ rest) (sym (map-append (λ (one : Played). one.line) before (last ∷ [])))
 
-pub formed_stop : (ms : List ScriptLine) → list_all goes_on ms ≡ true → list_all is_formed (ms ++ script.Stop ∷ []) ≡ true
-formed_stop [] on = refl
-formed_stop (Comment ∷ ms) on = formed_stop ms on
-formed_stop (script.Ticks count ∷ ms) on = formed_stop ms on
-formed_stop (Said tag text ∷ ms) on = formed_stop ms on
-formed_stop (script.Stop ∷ ms) on = absurd (false≢true on)
-formed_stop (NoForm ∷ ms) on = absurd (false≢true on)
+end_true : (b more : Bool) → b ≡ true → cond b false more ≡ true → ⊥
+end_true true more is on = false≢true on
+end_true false more is on = false≢true is
 
--- a line of no form before the first stop
-pub no_form : (ms rest : List ScriptLine) → list_all goes_on ms ≡ true → list_all is_formed (until_stop (ms ++ NoForm ∷ rest)) ≡ true → ⊥
-no_form [] rest on formed = false≢true formed
-no_form (Comment ∷ ms) rest on formed = no_form ms rest on formed
-no_form (script.Ticks count ∷ ms) rest on formed = no_form ms rest on formed
-no_form (Said tag text ∷ ms) rest on formed = no_form ms rest on formed
-no_form (script.Stop ∷ ms) rest on formed = false≢true on
-no_form (NoForm ∷ ms) rest on formed = false≢true on
+goes_later : (b more : Bool) → cond b false more ≡ true → more ≡ true
+goes_later true more on = absurd (false≢true on)
+goes_later false more on = on
 
-and_false : (b : Bool) → (b && false) ≡ false
-and_false true = refl
-and_false false = refl
+-- a line of no form after lines after which the run goes on is before the first stop
+no_form_after : (playout : Playout) (before played : List Played) (rest : List ScriptLine) → goes_on_after playout before played ≡ true
+    → list_all is_formed (until_stop (said_by played ++ NoForm ∷ rest)) ≡ true → ⊥
+unfolding goes_on_after
+no_form_after playout before [] rest on formed = false≢true formed
+no_form_after playout before (one ∷ played) rest on formed =
+    by_line one.line refl formed
+  where
+    later : goes_on_after playout (before ++ one ∷ []) played ≡ true
+    later = goes_later (ends_at playout before one one.line) (goes_on_after playout (before ++ one ∷ []) played) on
 
--- a run does not go on after all of lines with a stop among them
-pub stops_among : (ms rest : List ScriptLine) → list_all goes_on (ms ++ script.Stop ∷ rest) ≡ false
-stops_among [] rest = refl
-stops_among (m ∷ ms) rest = ap (λ (b : Bool). goes_on m && b) (stops_among ms rest) ∙ and_false (goes_on m)
+    by_line : (line : ScriptLine) → one.line ≡ line → list_all is_formed (until_stop (line ∷ (said_by played ++ NoForm ∷ rest))) ≡ true → ⊥
+    by_line Comment is formed = no_form_after playout (before ++ one ∷ []) played rest later formed
+    by_line (script.Ticks count) is formed = no_form_after playout (before ++ one ∷ []) played rest later formed
+    by_line (Said tag text) is formed = no_form_after playout (before ++ one ∷ []) played rest later formed
+    by_line script.Stop is formed =
+        end_true (ends_at playout before one one.line) (goes_on_after playout (before ++ one ∷ []) played) (ap (ends_at playout before one) is) on
+    by_line NoForm is formed = false≢true formed
 
--- what lines say that stand before another one
-pub meanings-between : (before : List (List ℕ)) (line : List ℕ) (rest : List (List ℕ)) (what : ScriptLine) → meaning line ≡ what → meanings (before ++ line ∷ rest) ≡ meanings before ++ what ∷ meanings rest
-meanings-between before line rest what is =
-    map-append meaning before (line ∷ rest) ∙ ap (λ (m : ScriptLine). meanings before ++ m ∷ meanings rest) is
-
--- nothing is written for a stop
-pub output-stop : (width height : ℕ) (ms : List ScriptLine) → script_output width height (ms ++ script.Stop ∷ []) ≡ script_output width height ms
-output-stop width height ms = script_output-snoc width height ms script.Stop ∙ append-nil (script_output width height ms)
+pub no_form : (playout : Playout) (played : List Played) (rest : List ScriptLine) → goes_on playout played ≡ true
+    → list_all is_formed (until_stop (said_by played ++ NoForm ∷ rest)) ≡ true → ⊥
+unfolding goes_on
+no_form playout played rest on formed = no_form_after playout [] played rest on formed

@@ -1,22 +1,22 @@
 //! The connections of a script, each with the session of its lines.
-ghost use Rattle.std.specs.Prelude.{◌≡◌, ◌<◌, IfOk, List, ℕ, Some, [], false, length, option_copied, slice_get};
+ghost use Rattle.std.specs.Prelude.{◌≡◌, ◌<◌, IfOk, IfSome, List, Some, [], false, length};
 ghost use Rattle.std.specs.List.{list_any, position};
-ghost use Rattle.amcp_text.specs.Lines.{is_line_end, lines_of};
-ghost use Rattle.play_types.specs.Config.{ConfigView};
-ghost use Rattle.play_types.specs.Media.{MediaNameView};
+ghost use Rattle.amcp_text.specs.Lines.{is_line_end};
 ghost use Rattle.history_model.specs.ScriptHistory.{Playout, Played, same_tag};
-ghost use Rattle.play_session.specs.Session.{StandsFor};
-ghost use Rattle.run_script.specs.Clients.{AreClients, Hears, Speaks, client_of};
+ghost use Rattle.play_session.specs.Seen.{ends};
+ghost use Rattle.play_session.specs.Session.{Fits};
+ghost use Rattle.run_script.specs.Clients.{AreClients, Serves, Hears, Speaks, IsPlaceOf};
 
 use play_session::{Session, Step};
 use play_types::{Config, MediaNames, Tag};
 use std::alloc::{AllocError, Global};
 
-/// A connection: its tag and its session.
+/// A connection: its tag, its session, and whether it has ended.
 #[derive(Drop)]
 pub struct Client {
     pub tag: Tag,
     pub session: Session,
+    pub over: bool,
 }
 
 /// The connections that have said something.
@@ -45,12 +45,13 @@ impl Clients {
         config: &Config,
         media: &MediaNames,
     ) -> Result<Option<Step>, AllocError>
-        ensures { (playout : Playout) (played : List Played) → config.now ≡ playout.config → media.now ≡ playout.names
+        ensures fits { IfOk result (λ found. IfSome found (Fits config.now)) }
+        ensures hears { (playout : Playout) (played : List Played) → config.now ≡ playout.config → media.now ≡ playout.names
             → list_any is_line_end text.now ≡ false → AreClients playout self.old.list.items played
             → IfOk result (λ found. Hears playout tag text.now found self.new.list.items played) }
     {
         let at = self.place_of(alloc, tag)?;
-        Ok(speak(&mut self.list[at].session, alloc, text, config, media))
+        Ok(speak(&mut self.list[at], alloc, text, config, media))
     }
 
     /// The place of a connection, which has a new session where it has said nothing before.
@@ -62,7 +63,11 @@ impl Clients {
             return Ok(at);
         }
         let session = Session::new(alloc)?;
-        self.list.push(Client { tag, session })?;
+        self.list.push(Client {
+            tag,
+            session,
+            over: false,
+        })?;
         Ok(self.list.len() - 1)
     }
 
@@ -81,20 +86,33 @@ fn is_same(one: Tag, other: Tag) -> bool
     one.worker == other.worker && one.session == other.session
 }
 
-/// Feeds a line to a session, and answers its step: `None` where the session has ended before.
+/// Feeds a line to a connection's session, and answers its step: `None` where the connection has ended before.
 fn speak(
-    session: &mut Session,
+    client: &mut Client,
     alloc: Global,
     text: &[u8],
     config: &Config,
     media: &MediaNames,
 ) -> Option<Step>
-    ensures { Speaks config.now media.now result text.now session.old session.new }
+    ensures tag { client.new.tag ≡ client.old.tag }
+    ensures fits { IfSome result (Fits config.now) }
+    ensures speaks { (playout : Playout) (played : List Played) → config.now ≡ playout.config → media.now ≡ playout.names
+        → list_any is_line_end text.now ≡ false → Serves playout client.old played
+        → Speaks playout text.now result client.old client.new played }
 {
-    if session.has_ended() {
+    if client.over {
         return None;
     }
-    session.feed(text);
-    session.feed(b"\r\n");
-    Some(session.next(alloc, config, media))
+    client.session.feed(text);
+    client.session.feed(b"\r\n");
+    let step = client.session.next(alloc, config, media);
+    client.over = ends(&step);
+    Some(step)
+}
+
+/// Whether a step ends its connection.
+fn ends(step: &Step) -> bool
+    ensures { result ≡ ends step.now }
+{
+    matches!(step, Step::Kill | Step::Bye)
 }

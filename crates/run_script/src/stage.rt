@@ -184,7 +184,7 @@ impl Stage {
         step: Step,
         out: &mut K,
     ) -> Result<(), Halt>
-        requires { Fits self.old.config self.old.names step }
+        requires { Fits self.old.config step }
         ensures same { OnlyShown self.old self.new }
         ensures followed { (playout : Playout) (events : List Event) (commands : List Cmd) → Shows playout self.old events
             → Follows playout result tag (seen step commands) events self.new (K.state out.old) (K.state out.new) }
@@ -209,7 +209,7 @@ impl Stage {
             → Follows playout result tag (Some (Ask cmd)) events self.new (K.state out.old) (K.state out.new) }
     {
         let Some((channel, take)) = play_of(cmd) else {
-            return self.reply(alloc, tag, &Reply::Refused(403, name_of(cmd)), out);
+            return self.reply(alloc, tag, &Reply::Refused(403, name_of(&cmd)), out);
         };
         self.reply(alloc, tag, &Reply::Done(Name::Play), out)?;
         self.play(channel, take);

@@ -6,17 +6,17 @@ use Rattle.run_script.proofs.run.run.Goals as goal
 pub loop-turn-init : goal.loop-turn-init
 loop-turn-init g c = record {
   buffer = refl;
-  progress = none_read _ _ _ _ _ c.in-Ok.ensures.taken c.in-Ok.ensures.small.0 c.in-Ok.ensures.small.1;
+  progress = none_read _ _ _ _ (c.in-Ok.ensures.taken _) c.in-Ok.ensures.small.0 c.in-Ok.ensures.small.1;
 }
 
 pub returns-in-Err : goal.returns-in-Err
-returns-in-Err g c = nothing_read _ _ _ _
+returns-in-Err g c = nothing_read _ _ _
 
 pub returns-in-Err-take_piece : goal.returns-in-Err-take_piece
 returns-in-Err-take_piece g c =
     let before = c.loop-turn.invariant.progress in
-    piece_ends _ _ _ _ _ c.take_piece.new.script _ _ _ _ _ _ _ _ before c.in-Got.ensures.2
-    (c.in-Err-take_piece.ensures.taken _ _ before.read _ before.taken before.written before.allowed)
+    piece_ends _ _ _ _ c.take_piece.new.script _ _ _ _ _ _ _ _ before c.in-Got.ensures.2
+    (c.in-Err-take_piece.ensures.taken _ before.read _ before.taken before.allowed)
 
 pub loop-turn-preserved : goal.loop-turn-preserved
 loop-turn-preserved g c =
@@ -27,7 +27,7 @@ loop-turn-preserved g c =
     let size : length piece ≡ count = length-take-le count c.read.new.buf got.1 in
     record {
       buffer = search rules;
-      progress = piece_read _ _ _ _ _ _ c.take_piece.new.script piece _ _ _ _ _ _ before
+      progress = piece_read _ _ _ _ _ c.take_piece.new.script piece _ _ _ _ _ _ before
           (omega (arith, size, got.0)) got.2 c.in-Ok-take_piece.ensures.ticks c.in-Ok-take_piece.ensures.lines
-          (c.in-Ok-take_piece.ensures.taken _ _ before.read _ before.taken before.written before.allowed);
+          (c.in-Ok-take_piece.ensures.taken _ before.read _ before.taken before.allowed);
     }

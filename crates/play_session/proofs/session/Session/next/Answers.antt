@@ -1,8 +1,9 @@
 use Rattle.std.proofs.Common.{◌≡◌, refl, ap, sym, ◌∙◌, subst}
 use Rattle.amcp_text.specs.Reader.{line_seen}
 use Rattle.play_session.specs.SessionState.{SessionState}
-use Rattle.play_session.specs.Session.{StandsFor}
+use Rattle.play_session.specs.Session.{StandsFor, Fits}
 use Rattle.play_session.specs.Seen.{ends}
+use Rattle.play_session.proofs.Fitting.{line_fits}
 use Rattle.play_session.proofs.Standing.{all_given}
 use Rattle.play_session.proofs.NextLine.{TookLine, Gives-given_up, Gives-read}
 use Rattle.play_session.proofs.session.Session.next.Goals as goal
@@ -34,4 +35,14 @@ returns-clause-gives c = λ stream given_up given s.
           rw (w.self-inside-is, w.step-is)
           (Gives-given_up c.args.config.now c.args.media.now _ before after line took refl refl
           (c.is_end-self-inside.ensures ∙ ap ends w.step-is) stream given_up given inner)
+    ]
+
+pub returns-clause-fits : goal.returns-clause-fits
+returns-clause-fits c =
+    elim c.match-meaning.branch [
+      | in-Ok w ↦
+          subst (Fits c.args.config.now) (sym w.step-is)
+          (line_fits c.args.config.now c.args.media.now c.self.inside.batch (line_seen c.in-Some.line) w.step-step.result w.step-step.new.self.commands
+          (rw (← w.in-Ok.ensures) w.step-step.ensures.step))
+      | in-Err w ↦ subst (Fits c.args.config.now) (sym w.step-is) tt
     ]

@@ -1,0 +1,182 @@
+-- The connections of a script when one of them says one line more.
+use Rattle.std.proofs.Common.{◌≡◌, ℕ, zero, suc, ◌+◌, ◌<◌, ◌≤◌, ◌&&◌, ◌==◌, Bool, true, false, cond, List, [], ◌∷◌, ◌++◌, length, get_or, set, refl, sym, ap, ap₂, ◌∙◌, subst, arith, inl}
+use Rattle.std.specs.Prelude.{Option, Some, None, find}
+use Rattle.std.specs.List.{position, position_or_len}
+use Rattle.std.specs.Option.{option_or}
+use Rattle.std.specs.Prelude.{nat_lt}
+use Rattle.std.proofs.lemmas.Grind.{common_steps}
+use Rattle.std.proofs.lemmas.Bool.Decides.{nat_tests}
+use Rattle.std.proofs.lemmas.Option.{none-some, same_Some, slice_get_past}
+use Rattle.std.proofs.lemmas.List.Folds.{find_at, find-set, find_past}
+use Rattle.std.proofs.lemmas.List.Quantifiers.{position-Some}
+use Rattle.amcp_text.specs.Lines.{lines_of, IsEnded}
+use Rattle.play_types.specs.declared.event.Tag.{Tag}
+use Rattle.play_types.specs.Config.{ConfigView}
+use Rattle.play_types.specs.Media.{MediaNameView}
+use Rattle.history_model.specs.Script.{Said}
+use Rattle.history_model.specs.ScriptHistory.{Playout, Played, same_tag, text_by, texts_of, stream_of, given_up_of, said_step}
+use Rattle.history_model.proofs.Streams.{texts_of-other, stream_of-other, given_up_of-other, stream_of-none, given_up_of-none}
+use Rattle.play_session.specs.Session.{StandsFor}
+use Rattle.play_session.specs.declared.step.Step.{Step}
+use Rattle.run_script.specs.declared.clients.Client.{Client}
+use Rattle.run_script.specs.Clients.{IsServed, Serves, IsClient, client_of, AreClients, IsPlaceOf, played_as, seen_step, Hears, Speaks}
+use Rattle.run_script.proofs.Speaking.{same_tag-refl}
+
+and_parts : (a b : Bool) → (a && b) ≡ true → (a ≡ true) × (b ≡ true)
+and_parts true b is = (refl, is)
+and_parts false b is = (is, absurd (let no : false ≡ true = is in cc))
+
+number_is : (a b : ℕ) → (a == b) ≡ true → a ≡ b
+number_is a b is = grind (arith, nat_tests)
+
+same_tag-is : (one other : Tag) → same_tag one other ≡ true → one ≡ other
+same_tag-is one other is =
+    let parts = and_parts (one.worker == other.worker) (one.session == other.session) is in
+    ap₂ (λ (w s : ℕ). record { worker = w; session = s }) (number_is one.worker other.worker parts.0) (number_is one.session other.session parts.1)
+
+-- a line of another connection changes nothing for this one
+serves_other : (playout : Playout) (client : Client) (played : List Played) (line : Played) → text_by client.tag line.line ≡ None → Serves playout client played
+    → Serves playout client (played ++ line ∷ [])
+serves_other playout client played line other serves =
+    let texts = texts_of-other client.tag played line other in
+    let stream = stream_of-other client.tag played line other in
+    let lost = given_up_of-other client.tag played line other in
+    record {
+      whole = subst IsEnded (sym stream) serves.whole;
+      count = ap (λ (s : List ℕ). length (lines_of s)) stream ∙ serves.count ∙ ap length (sym texts);
+      served = by_over client.over serves.served;
+    }
+  where
+    by_over : (over : Bool) → IsServed playout over client played → IsServed playout over client (played ++ line ∷ [])
+    by_over over served = rw (texts_of-other client.tag played line other, stream_of-other client.tag played line other, given_up_of-other client.tag played line other) served
+
+client_other : (playout : Playout) (tag : Tag) (found : Option Client) (played : List Played) (line : Played) → text_by tag line.line ≡ None
+    → ((client : Client) → found ≡ Some client → client.tag ≡ tag) → IsClient playout tag found played → IsClient playout tag found (played ++ line ∷ [])
+client_other playout tag None played line other tags is = texts_of-other tag played line other ∙ is
+client_other playout tag (Some client) played line other tags is =
+    serves_other playout client played line (ap (λ t. text_by t line.line) (tags client refl) ∙ other) is
+
+-- what is found passes the test
+find_passes : (p : Client → Bool) (clients : List Client) (client : Client) → find p clients ≡ Some client → p client ≡ true
+find_passes p [] client is = absurd (none-some client is)
+find_passes p (c ∷ clients) client is = by_test (p c) refl is
+  where
+    by_test : (b : Bool) → p c ≡ b → cond b (Some c) (find p clients) ≡ Some client → p client ≡ true
+    by_test true passes is = ap p (sym (same_Some c client is)) ∙ passes
+    by_test false passes is = find_passes p clients client is
+
+-- one more at the end
+find_snoc : (p : Client → Bool) (clients : List Client) (last : Client) → find p (clients ++ last ∷ []) ≡ option_or (find p clients) (find p (last ∷ []))
+find_snoc p [] last = refl
+find_snoc p (c ∷ clients) last = by_test (p c)
+  where
+    by_test : (b : Bool) → cond b (Some c) (find p (clients ++ last ∷ [])) ≡ option_or (cond b (Some c) (find p clients)) (find p (last ∷ []))
+    by_test true = refl
+    by_test false = find_snoc p clients last
+
+-- the connection at its place
+pub tag_at : (tag : Tag) (at : ℕ) (clients : List Client) (client : Client) → IsPlaceOf tag at clients → get_or clients at client ≡ client → tag ≡ client.tag
+tag_at tag at clients client place is =
+    let found = position-Some (λ (one : Client). same_tag tag one.tag) clients at client place in
+    same_tag-is tag client.tag (ap (λ (one : Client). same_tag tag one.tag) (sym is) ∙ found.1)
+
+module _ (playout : Playout) (tag : Tag) (text : List ℕ) (found : Option Step) (clients : List Client) (at : ℕ) (old new : Client) (played : List Played)
+    (place : IsPlaceOf tag at clients) (there : get_or clients at old ≡ old) (are : AreClients playout clients played)
+    (kept_tag : new.tag ≡ old.tag) (speaks : Speaks playout text found old new played) where
+  own : tag ≡ old.tag
+  own = tag_at tag at clients old place there
+
+  heard_tag : (other : Tag) (b : Bool) → same_tag other tag ≡ b → IsClient playout other (client_of other (set clients at new)) (played ++ played_as tag text found ∷ [])
+  heard_tag other true is =
+      let same = same_tag-is other tag is in
+      let first = position-Some (λ (one : Client). same_tag tag one.tag) clients at old place in
+      let at_is : at ≡ position_or_len (λ (one : Client). same_tag tag one.tag) clients = grind (arith, common_steps) in
+      let here : find (λ (one : Client). same_tag tag one.tag) (set clients at new) ≡ Some new =
+      find-set (λ (one : Client). same_tag tag one.tag) clients at new at_is first.0
+      (ap (same_tag tag) (kept_tag ∙ sym own) ∙ same_tag-refl tag) in
+      subst (λ t. IsClient playout t (client_of t (set clients at new)) (played ++ played_as tag text found ∷ [])) (sym same)
+      (subst (λ o. IsClient playout tag o (played ++ played_as tag text found ∷ [])) (sym here)
+      (subst (λ t. Serves playout new (played ++ played_as t text found ∷ [])) (sym own) speaks.serves))
+  heard_tag other false is =
+      let before : same_tag other (get_or clients at old).tag ≡ false = ap (λ (one : Client). same_tag other one.tag) there ∙ ap (same_tag other) (sym own) ∙ is in
+      let after : same_tag other new.tag ≡ false = ap (same_tag other) (kept_tag ∙ sym own) ∙ is in
+      let same = find_past (λ (one : Client). same_tag other one.tag) clients at new old before after in
+      subst (λ o. IsClient playout other o (played ++ played_as tag text found ∷ [])) (sym same)
+      (client_other playout other (client_of other clients) played (played_as tag text found)
+      (ap (λ (b : Bool). cond b (Some text) None) is)
+      (λ client got. sym (same_tag-is other client.tag (find_passes (λ (one : Client). same_tag other one.tag) clients client got)))
+      (are other))
+
+  -- a line of one connection was heard, and the others are as before
+  pub heard : Hears playout tag text found (set clients at new) played
+  heard = record {
+    commands = speaks.commands;
+    given = subst (λ t. said_step playout played (played_as t text found) t ≡ seen_step found speaks.commands) (sym own) speaks.given;
+    clients = λ other. heard_tag other (same_tag other tag) refl;
+  }
+
+-- no connection of this tag was found
+none_found : (tag : Tag) (clients : List Client) → position (λ (one : Client). same_tag tag one.tag) clients ≡ None → client_of tag clients ≡ None
+none_found tag clients none =
+    let p = λ (one : Client). same_tag tag one.tag in
+    find_at p clients ∙ slice_get_past clients (position_or_len p clients) (past (nat_lt (position_or_len p clients) (length clients)) refl none)
+  where
+    past : (b : Bool) → nat_lt (position_or_len (λ (one : Client). same_tag tag one.tag) clients) (length clients) ≡ b
+        → cond b (Some (position_or_len (λ (one : Client). same_tag tag one.tag) clients)) None ≡ None
+        → length clients ≤ position_or_len (λ (one : Client). same_tag tag one.tag) clients
+    past true is e = absurd (none-some (position_or_len (λ (one : Client). same_tag tag one.tag) clients) (sym e))
+    past false is e = grind (arith, nat_tests)
+
+-- the new connection of a tag that has said nothing
+serves_new : (playout : Playout) (client : Client) (played : List Played) → texts_of client.tag played ≡ []
+    → ((config : ConfigView) (media : List MediaNameView) → StandsFor config media client.session [] [] 0) → client.session.ended ≡ false → client.over ≡ false
+    → Serves playout client played
+serves_new playout client played none stands going open = record {
+  whole = inl (stream_of-none client.tag played none);
+  count = ap (λ (s : List ℕ). length (lines_of s)) (stream_of-none client.tag played none) ∙ sym (ap length none);
+  served = subst (λ b. IsServed playout b client played) (sym open)
+      (going, rw (stream_of-none client.tag played none, given_up_of-none client.tag played none, none) (stands playout.config playout.names));
+}
+
+module _ (playout : Playout) (clients : List Client) (new : Client) (played : List Played)
+    (none : position (λ (one : Client). same_tag new.tag one.tag) clients ≡ None) (are : AreClients playout clients played)
+    (stands : (config : ConfigView) (media : List MediaNameView) → StandsFor config media new.session [] [] 0) (going : new.session.ended ≡ false) (open : new.over ≡ false) where
+  added_tag : (other : Tag) (b : Bool) → same_tag other new.tag ≡ b → IsClient playout other (client_of other (clients ++ new ∷ [])) played
+  added_tag other true is =
+      let same = same_tag-is other new.tag is in
+      let nothing = none_found new.tag clients none in
+      let said : texts_of new.tag played ≡ [] = subst (λ o. IsClient playout new.tag o played) nothing (are new.tag) in
+      let here : client_of new.tag (clients ++ new ∷ []) ≡ Some new =
+      find_snoc (λ (one : Client). same_tag new.tag one.tag) clients new
+      ∙ ap (λ (o : Option Client). option_or o (find (λ (one : Client). same_tag new.tag one.tag) (new ∷ []))) nothing
+      ∙ ap (λ (b : Bool). cond b (Some new) None) (same_tag-refl new.tag) in
+      subst (λ t. IsClient playout t (client_of t (clients ++ new ∷ [])) played) (sym same)
+      (subst (λ o. IsClient playout new.tag o played) (sym here) (serves_new playout new played said stands going open))
+  added_tag other false is =
+      let here : client_of other (clients ++ new ∷ []) ≡ client_of other clients =
+      find_snoc (λ (one : Client). same_tag other one.tag) clients new
+      ∙ ap (λ (b : Bool). option_or (client_of other clients) (cond b (Some new) None)) is
+      ∙ or_none (client_of other clients) in
+      subst (λ o. IsClient playout other o played) (sym here) (are other)
+    where
+      or_none : (o : Option Client) → option_or o None ≡ o
+      or_none None = refl
+      or_none (Some c) = refl
+
+  -- a connection that says its first line has a session of its own
+  pub added : AreClients playout (clients ++ new ∷ []) played
+  added = λ other. added_tag other (same_tag other new.tag) refl
+
+-- and its place is the last
+pub added_place : (tag : Tag) (clients : List Client) (new : Client) → new.tag ≡ tag → position (λ (one : Client). same_tag tag one.tag) clients ≡ None
+    → IsPlaceOf tag (length clients) (clients ++ new ∷ [])
+added_place tag [] new is none = ap (λ (b : Bool). first_by b) (ap (same_tag tag) is ∙ same_tag-refl tag)
+  where
+    first_by : Bool → Option ℕ
+    first_by b = None
+added_place tag (c ∷ clients) new is none = ?
+
+-- before any line there is no connection
+pub no_clients : (playout : Playout) → AreClients playout [] []
+unfolding texts_of
+no_clients playout = λ tag. refl

@@ -99,6 +99,13 @@ impl Session {
         step
     }
 
+    /// Whether it gave a `Kill` or a `Bye`, so that no further step may be asked for.
+    pub fn has_ended(&self) -> bool
+        ensures { result ≡ self.now.ended }
+    {
+        self.ended
+    }
+
     /// The commands of the batch that an `AskBatch` asks for, until the next step.
     pub fn batch(&self) -> &[Cmd]
         ensures { result.now ≡ self.now.batch }

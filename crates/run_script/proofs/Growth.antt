@@ -36,7 +36,7 @@ said-snoc played last lines all line said is same =
 
 pub said-length : (played : List Played) (lines : List (List ℕ)) → said_by played ≡ meanings lines → length played ≡ length lines
 said-length played lines said =
-    sym (length-map (λ (one : Played). one.line) played) ∙ ap length said ∙ length-map meaning lines
+    sym (length-map played (λ (one : Played). one.line)) ∙ ap length said ∙ length-map lines meaning
 
 -- the output of one line more
 pub written-snoc : (playout : Playout) (played : List Played) (last : Played) (first before after : SinkState) → goes_on playout played ≡ true
@@ -57,7 +57,7 @@ failed-snoc playout played last first before after on so_far fails =
     (subst (λ s. Fails (output_at playout played last last.line) s after) so_far fails))
 
 -- the lines were played up to this one
-pub at_last : (playout : Playout) (bytes : List ℕ) (ended : Bool) (lines : List (List ℕ)) (line : List ℕ) (last : Played) (first state : SinkState)
+abbrev pub at_last : (playout : Playout) (bytes : List ℕ) (ended : Bool) (lines : List (List ℕ)) (line : List ℕ) (last : Played) (first state : SinkState)
     → IsDone playout lines first state → received bytes ended ≡ lines ++ line ∷ [] → last.line ≡ meaning line → IsAtLast playout bytes ended
 at_last playout bytes ended lines line last first state done is same = record {
   before = done.played;

@@ -1,17 +1,17 @@
 -- An input that is read piece by piece.
-use Rattle.std.proofs.Common.{◌≡◌, ℕ, ◌+◌, ◌*◌, ◌<◌, ◌≤◌, false, List, [], ◌++◌, length, refl, sym, subst, arith, length-append}
+use Rattle.std.proofs.Common.{◌≡◌, ℕ, ◌+◌, ◌*◌, ◌<◌, ◌≤◌, false, true, List, [], ◌++◌, length, refl, sym, ap, ◌∙◌, subst, arith, length-append}
 use Rattle.std.specs.Prelude.{Ok, Err}
 use Rattle.std.proofs.lemmas.Bool.{false≢true}
 use Rattle.play_outside.specs.SourceState.{SourceState}
-use Rattle.play_outside.specs.Source.{Consumes}
+use Rattle.play_outside.specs.Source.{Consumes, Gives, IsAtEnd}
 use Rattle.play_outside.specs.SinkState.{SinkState}
 use Rattle.play_outside.proofs.Reading.{Consumes-then, Consumes-nil}
 use Rattle.history_model.specs.ScriptHistory.{Playout}
 use Rattle.run_script.specs.declared.ending.Ending.{Ending}
-use Rattle.run_script.specs.declared.ending.Ending.TheVariants.{Memory}
+use Rattle.run_script.specs.declared.ending.Ending.TheVariants.{Finished, Stopped, BadLine, TooLong, ReadFault, WriteFault, Memory}
 use Rattle.run_script.specs.declared.script.Script.{Script}
 use Rattle.run_script.specs.Script.{HasTaken}
-use Rattle.run_script.specs.Run.{limit, FaultsOf, Runs, Continues}
+use Rattle.run_script.specs.Run.{limit, Ends, FaultsOf, Runs, Continues}
 use Rattle.run_script.proofs.Endings.{none_done}
 
 -- what was read so far was taken, and so many bytes more are allowed
@@ -87,3 +87,27 @@ piece_ends playout turn left script script' piece ending source source' source''
       at_end = λ e. absurd (false≢true e);
       ends = ends.0;
     }
+
+-- the end of the input is no fault of it
+faults_at_end : (playout : Playout) (ending : Ending) (read : List ℕ) (first state : SinkState) (faults : ℕ) → Ends playout ending read true first state → FaultsOf ending faults faults
+faults_at_end playout Finished read first state faults ends = refl
+faults_at_end playout Stopped read first state faults ends = refl
+faults_at_end playout (BadLine number) read first state faults ends = refl
+faults_at_end playout TooLong read first state faults ends = refl
+faults_at_end playout ReadFault read first state faults ends = absurd (false≢true (sym ends.0))
+faults_at_end playout WriteFault read first state faults ends = refl
+faults_at_end playout Memory read first state faults ends = refl
+
+-- the input ended
+pub input_ended : (playout : Playout) (turn left : ℕ) (script : Script) (ending : Ending) (source source' source'' : SourceState) (first state state' : SinkState)
+    → (before : HasRead playout turn left script source source' first state) → IsAtEnd source' → source'' ≡ source' → Ends playout ending before.read true first state'
+    → Runs playout ending source source'' first state'
+input_ended playout turn left script ending source source' source'' first state state' before at_end same ends = record {
+  read = before.read;
+  ended = true;
+  gives = subst (λ (s : SourceState). Gives before.read source.left s.left) (sym same) before.consumed.gives;
+  faults = subst (λ n. FaultsOf ending source.faults n) (sym (ap (λ (s : SourceState). s.faults) same ∙ before.consumed.faults))
+      (faults_at_end playout ending before.read first state' source.faults ends);
+  at_end = λ e. subst IsAtEnd (sym same) at_end;
+  ends = ends;
+}

@@ -23,7 +23,7 @@ use Rattle.history_model.specs.Session.{line_steps, is_end, until_end, steps}
 use Rattle.history_model.specs.Session as model
 use Rattle.history_model.proofs.Streams.{texts_of-said, texts_of-other, stream_of-said, stream_of-other, given_up_of-kept, given_up_of-lost, given_up_of-other}
 use Rattle.history_model.proofs.Sessions.{until_end-lines_ended, length-until_end, length-line_steps, line_steps-longer}
-use Rattle.play_session.specs.Seen.{seen, ends}
+use Rattle.play_session.specs.Seen.{seen}
 use Rattle.play_session.specs.Session.{StandsFor, Gives, given_up_after}
 use Rattle.play_session.specs.SessionState.{SessionState}
 use Rattle.play_session.specs.declared.step.Step.{Step}
@@ -33,7 +33,7 @@ use Rattle.run_script.specs.Clients.{IsServed, Serves, IsClient, client_of, AreC
 use Rattle.run_script.proofs.OneLine.{IsOneLine}
 
 -- a tag is the same as itself
-same_number : (n : ℕ) → (n == n) ≡ true
+pub same_number : (n : ℕ) → (n == n) ≡ true
 same_number n = grind (arith, nat_tests)
 
 pub same_tag-refl : (tag : Tag) → same_tag tag tag ≡ true
@@ -60,24 +60,24 @@ some_parts (c ∷ bytes) = by_end (is_line_end c)
 
 more_parts : (bytes : List ℕ) → list_any is_line_end bytes ≡ true → 2 ≤ length (slice_split is_line_end bytes)
 more_parts [] some = absurd (false≢true some)
-more_parts (c ∷ bytes) some = by_end (is_line_end c) refl
+more_parts (c ∷ bytes) some = by_end (is_line_end c) refl (λ later. more_parts bytes later)
   where
     onto : (parts : List (List ℕ)) → 2 ≤ length parts → 2 ≤ length (onto_first c parts)
     onto [] many = omega (arith, many)
     onto (part ∷ parts) many = omega (arith, many)
 
-    rest : (b : Bool) → is_line_end c ≡ b → b ≡ false → list_any is_line_end bytes ≡ true
-    rest true is e = absurd (false≢true (sym e))
-    rest false is e = sym (ap (λ (b : Bool). cond b true (list_any is_line_end bytes)) is) ∙ some
+    rest : is_line_end c ≡ false → list_any is_line_end bytes ≡ true
+    rest is = sym (ap (λ (b : Bool). b || list_any is_line_end bytes) is) ∙ some
 
-    by_end : (b : Bool) → is_line_end c ≡ b → 2 ≤ length (cond b ([] ∷ slice_split is_line_end bytes) (onto_first c (slice_split is_line_end bytes)))
-    by_end true is = omega (arith, some_parts bytes)
-    by_end false is = onto (slice_split is_line_end bytes) (more_parts bytes (rest false is refl))
+    by_end : (b : Bool) → is_line_end c ≡ b → (list_any is_line_end bytes ≡ true → 2 ≤ length (slice_split is_line_end bytes))
+        → 2 ≤ length (cond b ([] ∷ slice_split is_line_end bytes) (onto_first c (slice_split is_line_end bytes)))
+    by_end true is later = omega (arith, some_parts bytes)
+    by_end false is later = onto (slice_split is_line_end bytes) (later (rest is))
 
 has_line : (bytes : List ℕ) → list_any is_line_end bytes ≡ true → 1 ≤ length (lines_of bytes)
 has_line bytes some =
     let parts = slice_split is_line_end bytes in
-    omega (arith, more_parts bytes some, length-map line_of (ended_parts bytes), length-take (length parts - 1) parts)
+    omega (arith, more_parts bytes some, length-map (ended_parts bytes) line_of, length-take (length parts - 1) parts)
 
 held_by : (b : Bool) (bytes : List ℕ) → list_any is_line_end bytes ≡ b → length (lines_of bytes) ≡ 0 → b ≡ false
 held_by true bytes is none = let some = has_line bytes is in absurd (omega (arith, some, none))
@@ -103,10 +103,10 @@ taken_whole : (text : List ℕ) (count : ℕ) → IsOneLine text → count ≡ t
 taken_whole text count none is = take_all count text (omega (arith, is, no_end text none))
 
 -- the stream of a connection with one more text
-record Fed (playout : Playout) (client : Client) (text : List ℕ) (state : SessionState) (played : List Played) : Type 0 where
-  stands : StandsFor playout.config playout.names state ((stream_of client.tag played ++ text) ++ 13 ∷ 10 ∷ []) (given_up_of client.tag played) (length (texts_of client.tag played))
-  whole : IsEnded ((stream_of client.tag played ++ text) ++ 13 ∷ 10 ∷ [])
-  count : length (lines_of ((stream_of client.tag played ++ text) ++ 13 ∷ 10 ∷ [])) ≡ length (texts_of client.tag played) + 1
+pub record Fed (playout : Playout) (client : Client) (text : List ℕ) (state : SessionState) (played : List Played) : Type 0 where
+  pub stands : StandsFor playout.config playout.names state ((stream_of client.tag played ++ text) ++ 13 ∷ 10 ∷ []) (given_up_of client.tag played) (length (texts_of client.tag played))
+  pub whole : IsEnded ((stream_of client.tag played ++ text) ++ 13 ∷ 10 ∷ [])
+  pub count : length (lines_of ((stream_of client.tag played ++ text) ++ 13 ∷ 10 ∷ [])) ≡ length (texts_of client.tag played) + 1
 
 lines_more : (stream text : List ℕ) → IsEnded stream → IsOneLine text → lines_of ((stream ++ text) ++ 13 ∷ 10 ∷ []) ≡ lines_of stream ++ line_of_text text ∷ []
 lines_more stream text whole none =
@@ -118,7 +118,7 @@ ended_more : (stream text : List ℕ) → IsEnded ((stream ++ text) ++ 13 ∷ 10
 ended_more stream text = inr ((stream ++ text) ++ 13 ∷ [], sym (append_assoc (stream ++ text) (13 ∷ []) (10 ∷ [])))
 
 pub fed : (playout : Playout) (client : Client) (text : List ℕ) (played : List Played) (first second : SessionState) (taken more : ℕ)
-    → IsOneLine text → Serves playout client played → client.over ≡ false
+    → IsOneLine text → Serves playout client played → client.session.ended ≡ false
     → taken ≡ taken_len client.session.reader.held text
     → ((config : ConfigView) (media : List MediaNameView) (stream given_up : List ℕ) (given : ℕ) → StandsFor config media client.session stream given_up given → StandsFor config media first (stream ++ take taken text) given_up given)
     → more ≡ taken_len first.reader.held (13 ∷ 10 ∷ [])
@@ -204,10 +204,10 @@ served_by playout new played true ended count stands =
 pub spoken : (playout : Playout) (client new : Client) (text : List ℕ) (found : Step) (state : SessionState) (played : List Played)
     → Fed playout client text state played
     → Gives playout.config playout.names found new.session ((stream_of client.tag played ++ text) ++ 13 ∷ 10 ∷ []) (given_up_of client.tag played) (length (texts_of client.tag played))
-    → new.tag ≡ client.tag → new.over ≡ ends found → new.session.ended ≡ ends found
+    → new.tag ≡ client.tag
     → Speaks playout text (Some found) client new played
 unfolding said_step
-spoken playout client new text found state played fed gives same_tag over ended =
+spoken playout client new text found state played fed gives same_tag =
     let tag = client.tag in
     let line = played_as tag text (Some found) in
     let all = played ++ line ∷ [] in
@@ -229,15 +229,14 @@ spoken playout client new text found state played fed gives same_tag over ended 
         whole = subst (λ t. IsEnded (stream_of t all)) (sym same_tag) (subst IsEnded (sym stream) fed.whole);
         count = ap (λ t. length (lines_of (stream_of t all))) same_tag ∙ count ∙ ap (λ t. length (texts_of t all)) (sym same_tag);
         served =
-            subst (λ b. IsServed playout b new all) (sym over)
-            (served_by playout new all (ends found) ended
+            served_by playout new all new.session.ended refl
             (ap (λ t. length (lines_of (stream_of t all))) same_tag ∙ count ∙ ap (λ t. length (texts_of t all)) (sym same_tag))
-            (subst (λ t. StandsFor playout.config playout.names new.session (stream_of t all) (given_up_of t all) (length (texts_of t all))) (sym same_tag) stands));
+            (subst (λ t. StandsFor playout.config playout.names new.session (stream_of t all) (given_up_of t all) (length (texts_of t all))) (sym same_tag) stands);
       };
     }
 
 -- a line of a connection that has ended is passed over
-pub passed_over : (playout : Playout) (client : Client) (text : List ℕ) (played : List Played) → IsOneLine text → Serves playout client played → client.over ≡ true
+pub passed_over : (playout : Playout) (client : Client) (text : List ℕ) (played : List Played) → IsOneLine text → Serves playout client played → client.session.ended ≡ true
     → Speaks playout text None client client played
 unfolding said_step steps
 passed_over playout client text played none serves over =
@@ -254,8 +253,8 @@ passed_over playout client text played none serves over =
     let ended : list_any is_end (line_steps playout.config playout.names given_up lines) ≡ true = subst (λ b. IsServed playout b client played) over serves.served in
     let same : line_steps playout.config playout.names (given_up_of tag all) (lines_of (stream_of tag all)) ≡ line_steps playout.config playout.names (given_up ++ []) (lines ++ more) =
     ap₂ (λ g ls. line_steps playout.config playout.names g ls) (lost ∙ sym (append-nil given_up)) now in
-    let longer = line_steps-longer playout.config playout.names given_up [] lines more All-nil in
-    let ends_all = until_end-lines_ended playout.config playout.names given_up [] lines more All-nil ended in
+    let longer = line_steps-longer playout.config playout.names given_up [] lines more (All-nil (λ (k : ℕ). length lines ≤ k)) in
+    let ends_all = until_end-lines_ended playout.config playout.names given_up [] lines more (All-nil (λ (k : ℕ). length lines ≤ k)) ended in
     let few = length-until_end (line_steps playout.config playout.names given_up lines) in
     let one_each = length-line_steps playout.config playout.names given_up lines in
     let count = serves.count in

@@ -116,8 +116,8 @@ stop_ended playout front at formed = by_size (nat_le 8194 (length (unended front
     by_size false is =
         let same = ap length said in
         let one = length-append (said_by at.before) (at.last.line ∷ []) in
-        let two = length-map (λ (p : Played). p.line) at.before in
-        let three = length-map meaning (received front false) in
+        let two = length-map at.before (λ (p : Played). p.line) in
+        let three = length-map (received front false) meaning in
         let four = ap length (received-short front (short_by (unended front) is)) in
         omega (arith, same, one, two, three, four)
     by_size true is =
@@ -160,18 +160,19 @@ no_form_after : (playout : Playout) (before played : List Played) (rest : List S
 unfolding goes_on_after
 no_form_after playout before [] rest on formed = false≢true formed
 no_form_after playout before (one ∷ played) rest on formed =
-    by_line one.line refl formed
+    by_line one.line refl formed (no_form_after playout (before ++ one ∷ []) played rest later)
   where
     later : goes_on_after playout (before ++ one ∷ []) played ≡ true
     later = goes_later (ends_at playout before one one.line) (goes_on_after playout (before ++ one ∷ []) played) on
 
-    by_line : (line : ScriptLine) → one.line ≡ line → list_all is_formed (until_stop (line ∷ (said_by played ++ NoForm ∷ rest))) ≡ true → ⊥
-    by_line Comment is formed = no_form_after playout (before ++ one ∷ []) played rest later formed
-    by_line (script.Ticks count) is formed = no_form_after playout (before ++ one ∷ []) played rest later formed
-    by_line (Said tag text) is formed = no_form_after playout (before ++ one ∷ []) played rest later formed
-    by_line script.Stop is formed =
+    by_line : (line : ScriptLine) → one.line ≡ line → list_all is_formed (until_stop (line ∷ (said_by played ++ NoForm ∷ rest))) ≡ true
+        → (list_all is_formed (until_stop (said_by played ++ NoForm ∷ rest)) ≡ true → ⊥) → ⊥
+    by_line Comment is formed next = next formed
+    by_line (script.Ticks count) is formed next = next formed
+    by_line (Said tag text) is formed next = next formed
+    by_line script.Stop is formed next =
         end_true (ends_at playout before one one.line) (goes_on_after playout (before ++ one ∷ []) played) (ap (ends_at playout before one) is) on
-    by_line NoForm is formed = false≢true formed
+    by_line NoForm is formed next = false≢true formed
 
 pub no_form : (playout : Playout) (played : List Played) (rest : List ScriptLine) → goes_on playout played ≡ true
     → list_all is_formed (until_stop (said_by played ++ NoForm ∷ rest)) ≡ true → ⊥

@@ -28,7 +28,7 @@ IsServed playout true client played =
 pub record Serves (playout : Playout) (client : Client) (played : List Played) : Type 0 where
   pub whole : IsEnded (stream_of client.tag played)
   pub count : length (lines_of (stream_of client.tag played)) ≡ length (texts_of client.tag played)
-  pub served : IsServed playout client.over client played
+  pub served : IsServed playout client.session.ended client played
 
 -- a connection without a session has said nothing
 abbrev pub IsClient : Playout → Tag → Option Client → List Played → Type 0
@@ -58,10 +58,10 @@ seen_step None commands = None
 seen_step (Some found) commands = seen found commands
 
 -- a line of a connection was taken: its step was found, none where the connection has ended before
-pub record Hears (playout : Playout) (tag : Tag) (text : List ℕ) (found : Option Step) (clients : List Client) (played : List Played) : Type 0 where
+pub record Hears (playout : Playout) (tag : Tag) (text : List ℕ) (found : Option Step) (new : List Client) (played : List Played) : Type 0 where
   pub commands : List Cmd
   pub given : said_step playout played (played_as tag text found) tag ≡ seen_step found commands
-  pub clients : AreClients playout clients (played ++ played_as tag text found ∷ [])
+  pub serves : AreClients playout new (played ++ played_as tag text found ∷ [])
 
 -- the same for the one connection
 pub record Speaks (playout : Playout) (text : List ℕ) (found : Option Step) (old new : Client) (played : List Played) : Type 0 where

@@ -1,5 +1,5 @@
 -- What the stage stands for, and what a line makes of it.
-use Rattle.std.specs.Prelude.{◌≡◌, ◌≢◌, ℕ, ◌+◌, ◌-◌, ◌*◌, ◌≤◌, Bool, true, false, Option, Some, None, IfSome, Result, Ok, Err, List, [], ◌∷◌, ◌++◌, length, map, replicate, slice_get, All, vec_capacity}
+use Rattle.std.specs.Prelude.{◌≡◌, ◌≢◌, ℕ, ◌+◌, ◌-◌, ◌*◌, ◌<◌, ◌≤◌, Bool, true, false, Option, Some, None, IfSome, IfOk, Result, Ok, Err, List, [], ◌∷◌, ◌++◌, length, map, set, replicate, slice_get, All, vec_capacity}
 use Rattle.std.specs.List.{range_with_len}
 use Rattle.play_types.specs.Config.{ConfigView, ChannelView}
 use Rattle.play_types.specs.Media.{MediaNameView}
@@ -28,6 +28,7 @@ use Rattle.run_script.specs.declared.ending.Halt.{Halt}
 use Rattle.run_script.specs.declared.ending.Halt.TheVariants as halt
 use Rattle.run_script.specs.declared.stage.Showing.{Showing}
 use Rattle.run_script.specs.declared.stage.Stage.{Stage}
+use Rattle.run_script.specs.declared.stage.Start.{Start}
 use Rattle.run_script.specs.Clients.{AreClients}
 
 -- what a channel shows after so many ticks
@@ -108,18 +109,20 @@ pub record OnlyFrame (old new : Stage) : Type 0 where
   pub clients : new.clients ≡ old.clients
   pub shown : new.shown ≡ old.shown
   pub ticks : new.ticks ≡ old.ticks
+  pub room : vec_capacity old.frame ≤ vec_capacity new.frame
 
--- each of so many ticks was written
-pub record Ticks (playout : Playout) (result : Result (Unit {0}) Halt) (count : ℕ) (events : List Event) (old new : Stage) (before after : SinkState) : Type 0 where
+-- the text of ticks was written, and the stage stands where these events put it, or a write failed
+pub record HasShown (playout : Playout) (result : Result (Unit {0}) Halt) (text : List ℕ) (events : List Event) (old new : Stage) (before after : SinkState) : Type 0 where
   pub clients : new.clients ≡ old.clients
-  pub written : Shown result (ticks_output playout events count) before after
-  pub shows : result ≡ Ok tt → Shows playout new (events ++ replicate count event.Tick)
+  pub written : Shown result text before after
+  pub shows : IfOk result (λ done. Shows playout new events)
 
--- a play that the stage can do, and its channel and take
-abbrev pub IsPlayFound : Option (ℕ × TakeView) → Cmd → Type 0
-IsPlayFound None command = is_built command ≡ false
-IsPlayFound (Some found) command =
-    (place : PlaceView) × (command ≡ PlayTake place found.1) × (place.channel ≡ found.0) × (1 ≤ found.0) × (is_built command ≡ true) × model.IsPlay command
+-- the start of a command that the stage can do, none for another
+abbrev pub IsStartOf : Cmd → Option Start → Type 0
+IsStartOf command None = is_built command ≡ false
+IsStartOf command (Some start) =
+    (place : PlaceView) × (command ≡ PlayTake place start.take) × (place.channel ≡ start.channel) × (1 ≤ start.channel) × (is_built command ≡ true)
+    × model.IsPlay command
 
 -- a step was followed after these events, or its reply was not written
 abbrev pub Follows : Playout → Result (Unit {0}) Halt → Tag → Option Step → List Event → Stage → SinkState → SinkState → Type 0
@@ -156,7 +159,7 @@ Takes playout (Err halt.Stop) line played new before after =
 Takes playout (Err halt.NoForm) line played new before after = (line ≡ NoForm) × (after ≡ before)
 
 -- a take is shown on layer 0 of a channel from now on
-abbrev pub Plays : ℕ → TakeView → Stage → Stage → Type 0
-Plays channel take old new =
+abbrev pub Plays : Start → Stage → Stage → Type 0
+Plays start old new =
     (vec_capacity new.frame ≡ vec_capacity old.frame)
-    × ((channel - 1 < length old.shown.items) → new.shown.items ≡ set_at (channel - 1) (Some (record { take = take; since = old.ticks })) old.shown.items)
+    × ((start.channel - 1 < length old.shown.items) → new.shown.items ≡ set old.shown.items (start.channel - 1) (Some (record { take = start.take; since = old.ticks })))

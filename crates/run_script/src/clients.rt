@@ -3,7 +3,6 @@ ghost use Rattle.std.specs.Prelude.{◌≡◌, ◌<◌, IfOk, IfSome, List, Some
 ghost use Rattle.std.specs.List.{list_any, position};
 ghost use Rattle.amcp_text.specs.Lines.{is_line_end};
 ghost use Rattle.history_model.specs.ScriptHistory.{Playout, Played, same_tag};
-ghost use Rattle.play_session.specs.Seen.{ends};
 ghost use Rattle.play_session.specs.Session.{Fits};
 ghost use Rattle.run_script.specs.Clients.{AreClients, Serves, Hears, Speaks, IsPlaceOf};
 
@@ -11,12 +10,11 @@ use play_session::{Session, Step};
 use play_types::{Config, MediaNames, Tag};
 use std::alloc::{AllocError, Global};
 
-/// A connection: its tag, its session, and whether it has ended.
+/// A connection: its tag and its session.
 #[derive(Drop)]
 pub struct Client {
     pub tag: Tag,
     pub session: Session,
-    pub over: bool,
 }
 
 /// The connections that have said something.
@@ -63,11 +61,7 @@ impl Clients {
             return Ok(at);
         }
         let session = Session::new(alloc)?;
-        self.list.push(Client {
-            tag,
-            session,
-            over: false,
-        })?;
+        self.list.push(Client { tag, session })?;
         Ok(self.list.len() - 1)
     }
 
@@ -100,19 +94,10 @@ fn speak(
         → list_any is_line_end text.now ≡ false → Serves playout client.old played
         → Speaks playout text.now result client.old client.new played }
 {
-    if client.over {
+    if client.session.has_ended() {
         return None;
     }
     client.session.feed(text);
     client.session.feed(b"\r\n");
-    let step = client.session.next(alloc, config, media);
-    client.over = ends(&step);
-    Some(step)
-}
-
-/// Whether a step ends its connection.
-fn ends(step: &Step) -> bool
-    ensures { result ≡ ends step.now }
-{
-    matches!(step, Step::Kill | Step::Bye)
+    Some(client.session.next(alloc, config, media))
 }

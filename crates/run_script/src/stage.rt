@@ -1,20 +1,21 @@
 //! The stage: what each channel shows, how many ticks there were, and the connections that ask it.
-ghost use Rattle.std.specs.Prelude.{◌≡◌, ◌+◌, ◌&&◌, ◌<◌, ◌≤◌, ◌^◌, List, ℕ, Some, None, [], IfOk, IfSome, All, false, length, replicate, slice_get};
+ghost use Rattle.std.specs.Prelude.{◌≡◌, ◌+◌, ◌&&◌, ◌<◌, ◌≤◌, ◌^◌, ◌∷◌, ◌++◌, List, ℕ, Some, None, [], IfOk, IfSome, All, true, false, length, replicate, slice_get};
 ghost use Rattle.std.specs.List.{list_any};
 ghost use Rattle.amcp_text.specs.Lines.{is_line_end};
 ghost use Rattle.play_types.specs.declared.event.Event.{Event};
+ghost use Rattle.play_types.specs.declared.event.Event.TheVariants.{Tick};
 ghost use Rattle.history_model.specs.ReplyText.{IsReplyTo, reply_bytes};
 ghost use Rattle.history_model.specs.Script.{meaning};
-ghost use Rattle.history_model.specs.ScriptHistory.{Playout, Played};
-ghost use Rattle.history_model.specs.ScriptOutput.{tagged_lines};
+ghost use Rattle.history_model.specs.ScriptHistory.{Playout, Played, goes_on};
+ghost use Rattle.history_model.specs.ScriptOutput.{tagged_lines, tick_output, ticks_output};
 ghost use Rattle.history_model.specs.Script.{Said};
 ghost use Rattle.history_model.specs.ScriptHistory.{is_cut, is_picture};
 ghost use Rattle.history_model.specs.Session.{Ask};
-ghost use Rattle.history_model.proofs.Aiming.{IsAimed};
+ghost use Rattle.history_model.specs.CommandChannels.{IsAimed};
 ghost use Rattle.play_session.specs.Seen.{seen};
 ghost use Rattle.play_session.specs.Session.{Fits};
 ghost use Rattle.play_types.specs.declared.command.Cmd.{Cmd};
-ghost use Rattle.run_script.specs.Stage.{Shows, StandsFor, IsSilent, HasRoom, Takes, Ticks, Shown, Writes, Follows, Plays, channel_text, colour_shown, IsPlayFound, OnlyFrame, OnlyShown};
+ghost use Rattle.run_script.specs.Stage.{Shows, StandsFor, IsSilent, HasRoom, Takes, HasShown, Shown, Writes, Follows, Plays, channel_text, colour_shown, IsStartOf, OnlyFrame, OnlyShown};
 
 use crate::answer::answer;
 use crate::clients::Clients;
@@ -33,6 +34,13 @@ use std::alloc::{AllocError, Global};
 pub struct Showing {
     pub take: Take,
     pub since: u64,
+}
+
+/// A play that the stage can do: a channel, on whose layer 0 this take starts.
+#[derive(Clone, Copy)]
+pub struct Start {
+    pub channel: u8,
+    pub take: Take,
 }
 
 /// The configuration and the names of the media table, the connections, what layer 0 of each channel shows, the number of
@@ -76,7 +84,7 @@ impl Stage {
     ) -> Result<(), Halt>
         requires { self.old.ticks < 2 ^ 63 }
         ensures grows { self.new.ticks ≤ self.old.ticks + 100000 }
-        ensures taken { (playout : Playout) (played : List Played) → list_any is_line_end line.now ≡ false
+        ensures taken { (playout : Playout) (played : List Played) → list_any is_line_end line.now ≡ false → goes_on playout played ≡ true
             → StandsFor playout self.old played
             → Takes playout result (meaning line.now) played self.new (K.state out.old) (K.state out.new) }
     {
@@ -94,10 +102,13 @@ impl Stage {
         requires { self.old.ticks < 2 ^ 63 }
         ensures grows { self.new.ticks ≤ self.old.ticks + count }
         ensures ticks { (playout : Playout) (events : List Event) → Shows playout self.old events
-            → Ticks playout result count events self.old self.new (K.state out.old) (K.state out.new) }
+            → HasShown playout result (ticks_output playout events count) (events ++ replicate count Tick) self.old self.new (K.state out.old) (K.state out.new) }
     {
         for _turn in 0..count {
-            self.show_all(out)?;
+            match self.show_all(out) {
+                Ok(()) => {}
+                Err(halt) => return Err(halt),
+            }
         }
         Ok(())
     }
@@ -106,11 +117,15 @@ impl Stage {
     fn show_all<K: Sink>(&mut self, out: &mut K) -> Result<(), Halt>
         requires { self.old.ticks < 2 ^ 63 + 2 ^ 32 }
         ensures grows { self.new.ticks ≤ self.old.ticks + 1 }
+        ensures clients { self.new.clients ≡ self.old.clients }
         ensures tick { (playout : Playout) (events : List Event) → Shows playout self.old events
-            → Ticks playout result 1 events self.old self.new (K.state out.old) (K.state out.new) }
+            → HasShown playout result (tick_output playout events) (events ++ Tick ∷ []) self.old self.new (K.state out.old) (K.state out.new) }
     {
         for at in 0..self.config.channels().len() {
-            self.show(at, out)?;
+            match self.show(at, out) {
+                Ok(()) => {}
+                Err(halt) => return Err(halt),
+            }
         }
         self.ticks += 1;
         Ok(())
@@ -165,7 +180,7 @@ impl Stage {
         out: &mut K,
     ) -> Result<(), Halt>
         ensures ticks { self.new.ticks ≡ self.old.ticks }
-        ensures heard { (playout : Playout) (played : List Played) → list_any is_line_end text.now ≡ false
+        ensures heard { (playout : Playout) (played : List Played) → list_any is_line_end text.now ≡ false → goes_on playout played ≡ true
             → StandsFor playout self.old played
             → Takes playout result (Said tag text.now) played self.new (K.state out.old) (K.state out.new) }
     {
@@ -194,8 +209,10 @@ impl Stage {
             Step::Ask(cmd) => self.ask(alloc, tag, cmd, out),
             Step::AskBatch => self.reply(alloc, tag, &Reply::Refused(403, Name::Commit), out),
             Step::Kill => {
-                self.reply(alloc, tag, &Reply::Done(Name::Kill), out)?;
-                Err(Halt::Stop)
+                match self.reply(alloc, tag, &Reply::Done(Name::Kill), out) {
+                    Ok(()) => Err(Halt::Stop),
+                    Err(halt) => Err(halt),
+                }
             }
             Step::Bye | Step::Skip | Step::NeedMore => Ok(()),
         }
@@ -208,24 +225,27 @@ impl Stage {
             → IsAimed self.old.config cmd
             → Follows playout result tag (Some (Ask cmd)) events self.new (K.state out.old) (K.state out.new) }
     {
-        let Some((channel, take)) = play_of(cmd) else {
+        let Some(start) = start_of(cmd) else {
             return self.reply(alloc, tag, &Reply::Refused(403, name_of(&cmd)), out);
         };
-        self.reply(alloc, tag, &Reply::Done(Name::Play), out)?;
-        self.play(channel, take);
+        match self.reply(alloc, tag, &Reply::Done(Name::Play), out) {
+            Ok(()) => {}
+            Err(halt) => return Err(halt),
+        }
+        self.play(start);
         Ok(())
     }
 
     /// Shows a take on layer 0 of a channel from now on.
-    fn play(&mut self, channel: u8, take: Take)
-        requires { 1 ≤ channel }
+    fn play(&mut self, start: Start)
+        requires { 1 ≤ start.channel }
         ensures same { OnlyShown self.old self.new }
-        ensures shown { Plays channel take self.old self.new }
+        ensures shown { Plays start self.old self.new }
     {
-        let at = usize::from(channel) - 1;
+        let at = usize::from(start.channel) - 1;
         if at < self.shown.len() {
             self.shown[at] = Some(Showing {
-                take,
+                take: start.take,
                 since: self.ticks,
             });
         }
@@ -246,13 +266,16 @@ impl Stage {
     }
 }
 
-/// The channel and the take of a play of a colour or a clip on layer 0, with a cut.
-fn play_of(cmd: Cmd) -> Option<(u8, Take)>
-    ensures { IsPlayFound result cmd }
+/// The start of a command that plays a colour or a clip on layer 0, with a cut.
+fn start_of(cmd: Cmd) -> Option<Start>
+    ensures { IsStartOf cmd result }
 {
     match cmd {
         Cmd::PlayTake(place, take) if place.layer() == 0 && is_plain(take) => {
-            Some((place.channel(), take))
+            Some(Start {
+                channel: place.channel(),
+                take,
+            })
         }
         _ => None,
     }

@@ -1,8 +1,25 @@
+use Rattle.std.proofs.Common.{◌≡◌, ◌≤◌, ◌<◌, ◌+◌, ◌*◌, length, length-append, refl, ap, ◌∙◌, arith}
+use Rattle.std.specs.Prelude.{flat_map}
+use Rattle.std.specs.List.{range_with_len}
 use Rattle.pixel_math.specs.Pixel.{pixel_bytes}
-use Rattle.run_script.proofs.Rows.{pieces_more}
+use Rattle.run_script.proofs.Rows.{pieces_more, length-pieces}
 use Rattle.run_script.proofs.frame.paint_row.Goals as goal
+
+pub returns-in-Err-clause-fits : goal.returns-in-Err-clause-fits
+returns-in-Err-clause-fits c = λ fits.
+    let before = c.loop-column.invariant in
+    let items = ap length before.items ∙ length-append c.args.frame.now.items (flat_map (λ x. pixel_bytes c.args.pixel) (range_with_len 0 c.loop-column._column)) in
+    let pieces = length-pieces (λ x. pixel_bytes c.args.pixel) 4 0 c.loop-column._column (λ k. refl) in
+    let room = before.room in
+    let inside = c.loop-column-test.true in
+    let four : length c.bytes.result ≡ 4 = ap length c.bytes.ensures in
+    let len = c.loop-column.frame.ok.0 in
+    c.in-Err.ensures.succeeds (omega (arith, items, pieces, room, inside, four, len, fits))
 
 pub loop-column-preserved : goal.loop-column-preserved
 loop-column-preserved c =
-    pieces_more (λ x. pixel_bytes c.args.pixel) c.loop-column._column _ _ _ _ c.loop-column.invariant
-    c.in_ok-extend_from_slice.ensures.items c.bytes.ensures
+    let before = c.loop-column.invariant in
+    record {
+      items = pieces_more (λ x. pixel_bytes c.args.pixel) c.loop-column._column _ _ _ _ before.items c.in-Ok.ensures.items c.bytes.ensures;
+      room = (let a = before.room in let b = c.in-Ok.ensures.capacity in omega (arith, a, b));
+    }

@@ -1,6 +1,6 @@
 use Rattle.std.proofs.Common.{◌≡◌, take, length, refl, arith, rules}
 use Rattle.std.proofs.lemmas.List.{length-take-le}
-use Rattle.run_script.proofs.Progress.{nothing_read, none_read, piece_read, piece_ends}
+use Rattle.run_script.proofs.Progress.{nothing_read, none_read, piece_read, piece_ends, input_ended}
 use Rattle.run_script.proofs.run.run.Goals as goal
 
 pub loop-turn-init : goal.loop-turn-init
@@ -31,3 +31,10 @@ loop-turn-preserved g c =
           (omega (arith, size, got.0)) got.2 c.in-Ok-take_piece.ensures.ticks c.in-Ok-take_piece.ensures.lines
           (c.in-Ok-take_piece.ensures.taken _ before.read _ before.taken before.allowed);
     }
+
+pub returns-in-End : goal.returns-in-End
+returns-in-End g c =
+    let before = c.loop-turn.invariant.progress in
+    let allowed = before.allowed in
+    input_ended _ _ _ _ _ _ _ _ _ _ _ before c.in-End.ensures.0 c.in-End.ensures.1
+    (c.finish.ensures _ before.read _ before.taken (omega (arith, allowed)))

@@ -36,3 +36,9 @@ returns-in-Err-take-clause-taken g c = λ playout bytes first taken exact.
           (c.in-Err-take.ensures.taken playout bytes first taken)),
       λ faults. subst (λ e. FaultsOf e faults faults) (sym c.ending-in-Err-take.ensures) (no_fault c.in-Err-take.halt c.take-2.new.self.lines faults),
     )
+
+pub returns-in-Ok-take-clause-taken : goal.returns-in-Ok-take-clause-taken
+returns-in-Ok-take-clause-taken g c = λ playout bytes first taken exact. (
+  (let short = c.if-piece-left.false in omega (arith, short)),
+  c.in-Ok-take.ensures.taken playout bytes first taken,
+)

@@ -1,4 +1,4 @@
-use Rattle.std.proofs.Common.{◌≡◌, ℕ, ◌<◌, length, sym, ap, subst, ◌∙◌, arith}
+use Rattle.std.proofs.Common.{◌≡◌, ℕ, ◌<◌, true, length, sym, ap, subst, ◌∙◌, arith}
 use Rattle.std.specs.Prelude.{Ok, Err, vec_len}
 use Rattle.std.specs.List.{list_any}
 use Rattle.std.proofs.lemmas.Bool.Decides.{nat_tests}
@@ -24,7 +24,7 @@ returns-in-Ok g c = λ playout bytes first taken short.
     ended_done playout c.args.self.now c.take_line.new.self bytes first _ _ taken short (subst (λ l. 0 < length l) taken.waiting there) c.in-Ok.field-0
     (subst
     (λ l. Takes playout (Ok c.in-Ok.field-0) (meaning l) taken.done.played c.take_line.new.self (g.K.Sink.state c.args.out.now) (g.K.Sink.state c.take_line.new.out))
-    line_is (c.in-Ok.ensures.taken playout taken.done.played (ap (list_any is_line_end) line_is ∙ taken.one_line) taken.stage))
+    line_is (c.in-Ok.ensures.taken playout taken.done.played (ap (list_any is_line_end) line_is ∙ taken.one_line) taken.done.formed taken.stage))
 
 pub returns-in-Err : goal.returns-in-Err
 returns-in-Err g c = λ playout bytes first taken short.
@@ -36,4 +36,4 @@ returns-in-Err g c = λ playout bytes first taken short.
     (ended_stops playout c.args.self.now c.take_line.new.self bytes first _ _ taken short (subst (λ l. 0 < length l) taken.waiting there) c.in-Err.halt
     (subst
     (λ l. Takes playout (Err c.in-Err.halt) (meaning l) taken.done.played c.take_line.new.self (g.K.Sink.state c.args.out.now) (g.K.Sink.state c.take_line.new.out))
-    line_is (c.in-Err.ensures.taken playout taken.done.played (ap (list_any is_line_end) line_is ∙ taken.one_line) taken.stage)))
+    line_is (c.in-Err.ensures.taken playout taken.done.played (ap (list_any is_line_end) line_is ∙ taken.one_line) taken.done.formed taken.stage)))

@@ -1,7 +1,7 @@
 use Rattle.std.proofs.Common.{◌<◌, ◌+◌, ◌++◌, take, drop, length, sym, subst, arith}
 use Rattle.std.specs.Prelude.{Ok, Err}
-use Rattle.std.proofs.lemmas.List.{take-append-drop}
-use Rattle.run_script.specs.Script.{Goes}
+use Rattle.std.proofs.lemmas.List.{take_all, take-append-drop}
+use Rattle.run_script.specs.Script.{HasTaken, Goes}
 use Rattle.run_script.proofs.Growth.{front_more}
 use Rattle.run_script.proofs.script.Script.take.Goals as goal
 
@@ -32,3 +32,9 @@ loop-byte-preserved g c = record {
       (front_more bytes piece i inside)
       (c.in-Ok.ensures.taken playout (bytes ++ take i piece) first so_far);
 }
+
+pub returns-clause-taken : goal.returns-clause-taken
+returns-clause-taken g c = λ playout bytes first taken.
+    let past = c.loop-byte-test.false in
+    subst (λ t. HasTaken playout c.loop-byte.self (bytes ++ t) first (g.K.Sink.state c.loop-byte.out)) (take_all c.loop-byte.byte-index c.args.piece.now (omega (arith, past)))
+    (c.loop-byte.invariant.taken playout bytes first taken)

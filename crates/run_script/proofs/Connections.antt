@@ -1,13 +1,15 @@
 -- The connections of a script when one of them says one line more.
-use Rattle.std.proofs.Common.{◌≡◌, ℕ, zero, suc, ◌+◌, ◌<◌, ◌≤◌, ◌&&◌, ◌==◌, Bool, true, false, cond, List, [], ◌∷◌, ◌++◌, length, get_or, set, refl, sym, ap, ap₂, ◌∙◌, subst, arith, inl}
+use Rattle.std.proofs.Common.{◌≡◌, ℕ, zero, suc, ◌+◌, ◌<◌, ◌≤◌, ◌&&◌, ◌==◌, Bool, true, false, cond, not, eqb, List, [], ◌∷◌, ◌++◌, length, length-append, get_or, set, refl, sym, ap, ap₂, ◌∙◌, subst, arith, inl}
 use Rattle.std.specs.Prelude.{Option, Some, None, find}
 use Rattle.std.specs.List.{position, position_or_len}
 use Rattle.std.specs.Option.{option_or}
-use Rattle.std.specs.Prelude.{nat_lt}
+use Rattle.std.specs.Prelude.{nat_lt, slice_get}
 use Rattle.std.proofs.lemmas.Grind.{common_steps}
+use Rattle.std.proofs.lemmas.Bool.{lt-ltb}
+use Rattle.std.proofs.lemmas.List.Sums.{prefix_len-le-length}
 use Rattle.std.proofs.lemmas.Bool.Decides.{nat_tests}
-use Rattle.std.proofs.lemmas.Option.{none-some, same_Some, slice_get_past}
-use Rattle.std.proofs.lemmas.List.Folds.{find_at, find-set, find_past}
+use Rattle.std.proofs.lemmas.Option.{none-some, same_Some, slice_get_past, slice_get-get_or}
+use Rattle.std.proofs.lemmas.List.Folds.{find_at, find-set, find_past, position_or_len_push}
 use Rattle.std.proofs.lemmas.List.Quantifiers.{position-Some}
 use Rattle.amcp_text.specs.Lines.{lines_of, IsEnded}
 use Rattle.play_types.specs.declared.event.Tag.{Tag}
@@ -20,7 +22,7 @@ use Rattle.play_session.specs.Session.{StandsFor}
 use Rattle.play_session.specs.declared.step.Step.{Step}
 use Rattle.run_script.specs.declared.clients.Client.{Client}
 use Rattle.run_script.specs.Clients.{IsServed, Serves, IsClient, client_of, AreClients, IsPlaceOf, played_as, seen_step, Hears, Speaks}
-use Rattle.run_script.proofs.Speaking.{same_tag-refl}
+use Rattle.run_script.proofs.Speaking.{same_number, same_tag-refl}
 
 and_parts : (a b : Bool) → (a && b) ≡ true → (a ≡ true) × (b ≡ true)
 and_parts true b is = (refl, is)
@@ -44,11 +46,13 @@ serves_other playout client played line other serves =
     record {
       whole = subst IsEnded (sym stream) serves.whole;
       count = ap (λ (s : List ℕ). length (lines_of s)) stream ∙ serves.count ∙ ap length (sym texts);
-      served = by_over client.over serves.served;
+      served = by_over client.session.ended serves.served;
     }
   where
     by_over : (over : Bool) → IsServed playout over client played → IsServed playout over client (played ++ line ∷ [])
-    by_over over served = rw (texts_of-other client.tag played line other, stream_of-other client.tag played line other, given_up_of-other client.tag played line other) served
+    by_over false served =
+        (served.0, rw (texts_of-other client.tag played line other, stream_of-other client.tag played line other, given_up_of-other client.tag played line other) served.1)
+    by_over true served = rw (stream_of-other client.tag played line other, given_up_of-other client.tag played line other) served
 
 client_other : (playout : Playout) (tag : Tag) (found : Option Client) (played : List Played) (line : Played) → text_by tag line.line ≡ None
     → ((client : Client) → found ≡ Some client → client.tag ≡ tag) → IsClient playout tag found played → IsClient playout tag found (played ++ line ∷ [])
@@ -59,26 +63,38 @@ client_other playout tag (Some client) played line other tags is =
 -- what is found passes the test
 find_passes : (p : Client → Bool) (clients : List Client) (client : Client) → find p clients ≡ Some client → p client ≡ true
 find_passes p [] client is = absurd (none-some client is)
-find_passes p (c ∷ clients) client is = by_test (p c) refl is
+find_passes p (c ∷ clients) client is = by_test (p c) refl is (find_passes p clients client)
   where
-    by_test : (b : Bool) → p c ≡ b → cond b (Some c) (find p clients) ≡ Some client → p client ≡ true
-    by_test true passes is = ap p (sym (same_Some c client is)) ∙ passes
-    by_test false passes is = find_passes p clients client is
+    by_test : (b : Bool) → p c ≡ b → cond b (Some c) (find p clients) ≡ Some client → (find p clients ≡ Some client → p client ≡ true) → p client ≡ true
+    by_test true passes is later = ap p (sym (same_Some c client is)) ∙ passes
+    by_test false passes is later = later is
 
 -- one more at the end
 find_snoc : (p : Client → Bool) (clients : List Client) (last : Client) → find p (clients ++ last ∷ []) ≡ option_or (find p clients) (find p (last ∷ []))
 find_snoc p [] last = refl
-find_snoc p (c ∷ clients) last = by_test (p c)
+find_snoc p (c ∷ clients) last = by_test (p c) (find_snoc p clients last)
   where
-    by_test : (b : Bool) → cond b (Some c) (find p (clients ++ last ∷ [])) ≡ option_or (cond b (Some c) (find p clients)) (find p (last ∷ []))
-    by_test true = refl
-    by_test false = find_snoc p clients last
+    by_test : (b : Bool) → find p (clients ++ last ∷ []) ≡ option_or (find p clients) (find p (last ∷ []))
+        → cond b (Some c) (find p (clients ++ last ∷ [])) ≡ option_or (cond b (Some c) (find p clients)) (find p (last ∷ []))
+    by_test true later = refl
+    by_test false later = later
 
 -- the connection at its place
 pub tag_at : (tag : Tag) (at : ℕ) (clients : List Client) (client : Client) → IsPlaceOf tag at clients → get_or clients at client ≡ client → tag ≡ client.tag
 tag_at tag at clients client place is =
     let found = position-Some (λ (one : Client). same_tag tag one.tag) clients at client place in
     same_tag-is tag client.tag (ap (λ (one : Client). same_tag tag one.tag) (sym is) ∙ found.1)
+
+-- the connection at its place is served
+pub served_at : (playout : Playout) (tag : Tag) (at : ℕ) (clients : List Client) (client : Client) (played : List Played) → IsPlaceOf tag at clients → get_or clients at client ≡ client
+    → AreClients playout clients played → Serves playout client played
+served_at playout tag at clients client played place there are =
+    let p = λ (one : Client). same_tag tag one.tag in
+    let first = position-Some p clients at client place in
+    let at_is : position_or_len p clients ≡ at = grind (arith, common_steps) in
+    let found : client_of tag clients ≡ Some client =
+    find_at p clients ∙ ap (slice_get clients) at_is ∙ slice_get-get_or clients at client first.0 ∙ ap Some there in
+    subst (λ o. IsClient playout tag o played) found (are tag)
 
 module _ (playout : Playout) (tag : Tag) (text : List ℕ) (found : Option Step) (clients : List Client) (at : ℕ) (old new : Client) (played : List Played)
     (place : IsPlaceOf tag at clients) (there : get_or clients at old ≡ old) (are : AreClients playout clients played)
@@ -112,35 +128,39 @@ module _ (playout : Playout) (tag : Tag) (text : List ℕ) (found : Option Step)
   heard = record {
     commands = speaks.commands;
     given = subst (λ t. said_step playout played (played_as t text found) t ≡ seen_step found speaks.commands) (sym own) speaks.given;
-    clients = λ other. heard_tag other (same_tag other tag) refl;
+    serves = λ other. heard_tag other (same_tag other tag) refl;
   }
 
--- no connection of this tag was found
+-- where no connection of this tag is found, its place would be after all
+past_all : (tag : Tag) (clients : List Client) → position (λ (one : Client). same_tag tag one.tag) clients ≡ None
+    → length clients ≤ position_or_len (λ (one : Client). same_tag tag one.tag) clients
+past_all tag clients none = by_place (nat_lt (position_or_len (λ (one : Client). same_tag tag one.tag) clients) (length clients)) refl none
+  where
+    by_place : (b : Bool) → nat_lt (position_or_len (λ (one : Client). same_tag tag one.tag) clients) (length clients) ≡ b
+        → cond b (Some (position_or_len (λ (one : Client). same_tag tag one.tag) clients)) None ≡ None
+        → length clients ≤ position_or_len (λ (one : Client). same_tag tag one.tag) clients
+    by_place true is e = absurd (none-some (position_or_len (λ (one : Client). same_tag tag one.tag) clients) (sym e))
+    by_place false is e = grind (arith, nat_tests)
+
 none_found : (tag : Tag) (clients : List Client) → position (λ (one : Client). same_tag tag one.tag) clients ≡ None → client_of tag clients ≡ None
 none_found tag clients none =
     let p = λ (one : Client). same_tag tag one.tag in
-    find_at p clients ∙ slice_get_past clients (position_or_len p clients) (past (nat_lt (position_or_len p clients) (length clients)) refl none)
-  where
-    past : (b : Bool) → nat_lt (position_or_len (λ (one : Client). same_tag tag one.tag) clients) (length clients) ≡ b
-        → cond b (Some (position_or_len (λ (one : Client). same_tag tag one.tag) clients)) None ≡ None
-        → length clients ≤ position_or_len (λ (one : Client). same_tag tag one.tag) clients
-    past true is e = absurd (none-some (position_or_len (λ (one : Client). same_tag tag one.tag) clients) (sym e))
-    past false is e = grind (arith, nat_tests)
+    find_at p clients ∙ slice_get_past clients (position_or_len p clients) (past_all tag clients none)
 
 -- the new connection of a tag that has said nothing
 serves_new : (playout : Playout) (client : Client) (played : List Played) → texts_of client.tag played ≡ []
-    → ((config : ConfigView) (media : List MediaNameView) → StandsFor config media client.session [] [] 0) → client.session.ended ≡ false → client.over ≡ false
+    → ((config : ConfigView) (media : List MediaNameView) → StandsFor config media client.session [] [] 0) → client.session.ended ≡ false
     → Serves playout client played
-serves_new playout client played none stands going open = record {
+serves_new playout client played none stands going = record {
   whole = inl (stream_of-none client.tag played none);
   count = ap (λ (s : List ℕ). length (lines_of s)) (stream_of-none client.tag played none) ∙ sym (ap length none);
-  served = subst (λ b. IsServed playout b client played) (sym open)
+  served = subst (λ b. IsServed playout b client played) (sym going)
       (going, rw (stream_of-none client.tag played none, given_up_of-none client.tag played none, none) (stands playout.config playout.names));
 }
 
 module _ (playout : Playout) (clients : List Client) (new : Client) (played : List Played)
     (none : position (λ (one : Client). same_tag new.tag one.tag) clients ≡ None) (are : AreClients playout clients played)
-    (stands : (config : ConfigView) (media : List MediaNameView) → StandsFor config media new.session [] [] 0) (going : new.session.ended ≡ false) (open : new.over ≡ false) where
+    (stands : (config : ConfigView) (media : List MediaNameView) → StandsFor config media new.session [] [] 0) (going : new.session.ended ≡ false) where
   added_tag : (other : Tag) (b : Bool) → same_tag other new.tag ≡ b → IsClient playout other (client_of other (clients ++ new ∷ [])) played
   added_tag other true is =
       let same = same_tag-is other new.tag is in
@@ -151,7 +171,7 @@ module _ (playout : Playout) (clients : List Client) (new : Client) (played : Li
       ∙ ap (λ (o : Option Client). option_or o (find (λ (one : Client). same_tag new.tag one.tag) (new ∷ []))) nothing
       ∙ ap (λ (b : Bool). cond b (Some new) None) (same_tag-refl new.tag) in
       subst (λ t. IsClient playout t (client_of t (clients ++ new ∷ [])) played) (sym same)
-      (subst (λ o. IsClient playout new.tag o played) (sym here) (serves_new playout new played said stands going open))
+      (subst (λ o. IsClient playout new.tag o played) (sym here) (serves_new playout new played said stands going))
   added_tag other false is =
       let here : client_of other (clients ++ new ∷ []) ≡ client_of other clients =
       find_snoc (λ (one : Client). same_tag other one.tag) clients new
@@ -170,13 +190,26 @@ module _ (playout : Playout) (clients : List Client) (new : Client) (played : Li
 -- and its place is the last
 pub added_place : (tag : Tag) (clients : List Client) (new : Client) → new.tag ≡ tag → position (λ (one : Client). same_tag tag one.tag) clients ≡ None
     → IsPlaceOf tag (length clients) (clients ++ new ∷ [])
-added_place tag [] new is none = ap (λ (b : Bool). first_by b) (ap (same_tag tag) is ∙ same_tag-refl tag)
-  where
-    first_by : Bool → Option ℕ
-    first_by b = None
-added_place tag (c ∷ clients) new is none = ?
+added_place tag clients new is none =
+    let p = λ (one : Client). same_tag tag one.tag in
+    let passes : p new ≡ true = ap (same_tag tag) is ∙ same_tag-refl tag in
+    let all : position_or_len p clients ≡ length clients = omega (arith, past_all tag clients none, prefix_len-le-length (λ (one : Client). not (p one)) clients) in
+    let last : position_or_len p (clients ++ new ∷ []) ≡ length clients =
+    position_or_len_push p clients new
+    ∙ ap₂ (λ (n : ℕ) (b : Bool). cond (eqb n (length clients)) (length clients + cond b 0 1) n) all passes
+    ∙ ap (λ (b : Bool). cond b (length clients + 0) (length clients)) (same_number (length clients)) ∙ omega arith in
+    ap (λ (n : ℕ). cond (nat_lt n (length (clients ++ new ∷ []))) (Some n) None) last
+    ∙ ap (λ (b : Bool). cond b (Some (length clients)) None) (lt-ltb (length clients) (length (clients ++ new ∷ [])) (omega (arith, length-append clients (new ∷ []))))
 
 -- before any line there is no connection
 pub no_clients : (playout : Playout) → AreClients playout [] []
 unfolding texts_of
 no_clients playout = λ tag. refl
+
+-- a line of no connection changes nothing for any
+pub clients_other : (playout : Playout) (clients : List Client) (played : List Played) (line : Played) → ((tag : Tag) → text_by tag line.line ≡ None)
+    → AreClients playout clients played → AreClients playout clients (played ++ line ∷ [])
+clients_other playout clients played line none are = λ tag.
+    client_other playout tag (client_of tag clients) played line (none tag)
+    (λ client got. sym (same_tag-is tag client.tag (find_passes (λ (one : Client). same_tag tag one.tag) clients client got)))
+    (are tag)

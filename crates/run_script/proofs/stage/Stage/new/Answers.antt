@@ -1,0 +1,12 @@
+use Rattle.std.proofs.Common.{◌≡◌, ◌∙◌, ◌≤◌, [], length, replicate, sym, ap, subst, arith, refl}
+use Rattle.std.specs.Prelude.{All, None, vec_capacity}
+use Rattle.run_script.specs.Stage.{HasRoom}
+use Rattle.run_script.proofs.Beginning.{nothing_stands}
+use Rattle.run_script.proofs.stage.Stage.new.Goals as goal
+
+pub returns-clause-stands : goal.returns-clause-stands
+returns-clause-stands c = λ playout plain same_config same_names.
+    let size = c.len.ensures.value ∙ ap length c.channels.ensures.value in
+    nothing_stands playout _ plain same_config same_names c.new.ensures
+    (λ k d inside. (let fits = c.largest-room.ensures k d inside in let cap = c.in_ok-frame.ensures.capacity in omega (arith, fits, cap)))
+    (c.in_ok-shown.ensures ∙ ap (λ n. replicate n None) size) refl

@@ -9,6 +9,7 @@ use Rattle.std.proofs.lemmas.List.Elements.{filter_map-append}
 use Rattle.std.proofs.lemmas.List.Folds.{list_any-append, list_any_none}
 use Rattle.std.proofs.lemmas.List.FromFn.{length-enumerate_from}
 use Rattle.amcp_text.specs.Lines.{Line, lines_of, IsEnded}
+use Rattle.amcp_text.proofs.FirstEnd.{position_or_len_some}
 use Rattle.amcp_text.proofs.LineLaws.{lines_of-append}
 use Rattle.play_types.specs.Config.{ConfigView}
 use Rattle.play_types.specs.Media.{MediaNameView}
@@ -144,28 +145,20 @@ line_steps-longer config media given_up later lines more high =
       one_a_line = length-map (enumerate_from (length lines) more) step ∙ length-enumerate_from (length lines) more;
     }
 
--- the first end of steps with more after them
-position-append : (xs ys : List Step) → list_any is_end xs ≡ true → position_or_len is_end (xs ++ ys) ≡ position_or_len is_end xs
-position-append [] ys h = cc
-position-append (x ∷ xs) ys h = elim (cases_Bool (is_end x)) [
-  | inl ends ↦ rw ends refl
-  | inr goes ↦ rw (goes, position-append xs ys (rw goes at h)) refl
-]
-
-position_within : (xs : List Step) → list_any is_end xs ≡ true → position_or_len is_end xs < length xs
-position_within [] h = cc
-position_within (x ∷ xs) h = elim (cases_Bool (is_end x)) [
-  | inl ends ↦ rw ends (omega arith)
-  | inr goes ↦
-      let rest = position_within xs (rw goes at h) in
-      rw goes (omega arith)
+-- the first element that passes, in a list with more after it
+pub position_or_len-append : {X : Type 0} (p : X → Bool) (xs ys : List X) → list_any p xs ≡ true
+    → position_or_len p (xs ++ ys) ≡ position_or_len p xs
+position_or_len-append p [] ys h = cc
+position_or_len-append p (x ∷ xs) ys h = elim (cases_Bool (p x)) [
+  | inl passes ↦ rw passes refl
+  | inr fails ↦ rw (fails, position_or_len-append p xs ys (rw fails at h)) refl
 ]
 
 -- after an end nothing more is given
 pub until_end-ended : (before more : List Step) → list_any is_end before ≡ true → until_end (before ++ more) ≡ until_end before
 until_end-ended before more ends =
-    let within = position_within before ends in
-    rw (position-append before more ends, take-append-le (position_or_len is_end before + 1) before more (omega arith)) refl
+    let within = position_or_len_some is_end before ends in
+    rw (position_or_len-append is_end before more ends, take-append-le (position_or_len is_end before + 1) before more (omega arith)) refl
 
 -- where no step ends the session, all of them are given
 pub until_end-going : (before more : List Step) → list_any is_end before ≡ false → until_end (before ++ more) ≡ before ++ until_end more

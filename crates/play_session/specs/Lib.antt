@@ -2,3 +2,4 @@ pub mod SessionState
 pub mod BatchState
 pub mod Seen
 pub mod Session
+pub mod Worked

@@ -6,6 +6,7 @@
 #![tactic(auto)]
 
 mod batch;
+pub mod examples;
 mod meaning;
 mod session;
 mod step;

@@ -1,0 +1,41 @@
+//! Worked streams. Each function does nothing, and its contract says which steps lines have. There is one channel, and
+//! no clip.
+#![tactic(auto, unfolding(history_model::specs::CommandWords::is_word, history_model::specs::CommandWords::whole_within, history_model::specs::CommandPlace::area_of, history_model::specs::Command::name_of, history_model::specs::Command::session_name, history_model::specs::Command::parsed, history_model::specs::SessionLine::line_meaning, history_model::specs::Session::asks, history_model::specs::Session::line_steps))]
+
+ghost use Rattle.std.specs.Prelude.{◌≡◌, ◌∷◌, [], codes};
+ghost use Rattle.amcp_text.specs.Lines.{TooLong};
+ghost use Rattle.play_types.specs.declared.command.Cmd.TheVariants.{StopLayer, Info};
+ghost use Rattle.play_types.specs.declared.reply.Name.TheVariants as name;
+ghost use Rattle.play_types.specs.declared.reply.Reply.TheVariants.{Done, Refused, Unknown, NoMemory};
+ghost use Rattle.history_model.specs.Session.{Local, Ask, AskBatch, KillServer, EndConnection, Skip};
+ghost use Rattle.play_session.specs.Worked.{gives, gives_without, line, layer};
+
+/// What opens a batch, and what closes it.
+pub fn batches()
+    ensures discarded { gives (line "BEGIN" ∷ line "FROB 1" ∷ line "DISCARD" ∷ line "COMMIT" ∷ [])
+        ≡ Local (Done name.Begin) ∷ Local (Unknown (codes "FROB 1")) ∷ Local (Done name.Discard) ∷ Local (Refused 403 name.Commit) ∷ [] }
+    ensures committed { gives (line "BEGIN" ∷ line "STOP 1-2" ∷ line "COMMIT" ∷ line "STOP 1-2" ∷ [])
+        ≡ Local (Done name.Begin) ∷ Local (Done name.Stop) ∷ AskBatch (StopLayer (layer 2) ∷ []) ∷ Ask (StopLayer (layer 2)) ∷ [] }
+    ensures empty { gives (line "BEGIN" ∷ line "COMMIT" ∷ line "COMMIT" ∷ [])
+        ≡ Local (Done name.Begin) ∷ Local (Done name.Commit) ∷ Local (Refused 403 name.Commit) ∷ [] }
+    ensures second_begin { gives (line "BEGIN" ∷ line "STOP 1-2" ∷ line "BEGIN" ∷ line "COMMIT" ∷ [])
+        ≡ Local (Done name.Begin) ∷ Local (Done name.Stop) ∷ Local (Refused 403 name.Begin) ∷ AskBatch (StopLayer (layer 2) ∷ []) ∷ [] }
+    ensures refused { gives (line "BEGIN" ∷ line "STOP 1-2" ∷ line "STOP 2-2" ∷ line "INFO" ∷ TooLong ∷ line "COMMIT" ∷ [])
+        ≡ Local (Done name.Begin) ∷ Local (Done name.Stop) ∷ Local (Refused 401 name.Stop) ∷ Local (Refused 403 name.Info) ∷ Local (Unknown []) ∷ AskBatch (StopLayer (layer 2) ∷ []) ∷ [] }
+{}
+
+/// What ends a connection, where no batch is open.
+pub fn ends()
+    ensures bye { gives (line "" ∷ line "BYE" ∷ line "INFO" ∷ []) ≡ Skip ∷ EndConnection ∷ [] }
+    ensures kill { gives (line "INFO" ∷ line "KILL" ∷ line "INFO" ∷ []) ≡ Ask Info ∷ KillServer ∷ [] }
+    ensures in_a_batch { gives (line "BEGIN" ∷ line "BYE" ∷ line "KILL" ∷ [])
+        ≡ Local (Done name.Begin) ∷ Local (Refused 403 name.Bye) ∷ Local (Refused 403 name.Kill) ∷ [] }
+{}
+
+/// Lines that were given up for want of memory.
+pub fn given_up()
+    ensures command { gives_without (1 ∷ []) (line "BEGIN" ∷ line "STOP 1-2" ∷ line "COMMIT" ∷ [])
+        ≡ Local (Done name.Begin) ∷ Local NoMemory ∷ Local (Done name.Commit) ∷ [] }
+    ensures commit { gives_without (2 ∷ []) (line "BEGIN" ∷ line "STOP 1-2" ∷ line "COMMIT" ∷ line "COMMIT" ∷ [])
+        ≡ Local (Done name.Begin) ∷ Local (Done name.Stop) ∷ Local NoMemory ∷ AskBatch (StopLayer (layer 2) ∷ []) ∷ [] }
+{}

@@ -72,7 +72,7 @@ area_aimed config name at word =
     (λ channel. layer_of name at word >>= (λ layer. Ok (record { channel = channel; layer = layer })))
     (λ channel found.
     let inside = whole_within-is 1 (length config.channels) (before_first is_dash word) channel
-        (ok_or-is (whole_within 1 (length config.channels) (before_first is_dash word)) (Channel name) channel found) in
+    (ok_or-is (whole_within 1 (length config.channels) (before_first is_dash word)) (Channel name) channel found) in
     bound (λ (area : Area). IsConfigured config area.channel) (layer_of name at word) (λ layer. Ok (record { channel = channel; layer = layer }))
     (λ layer has. inside))
 
@@ -90,7 +90,7 @@ unfolding play
 play_aimed config media words =
     bound (IsAimed config) (area_at config name.Play words 1)
     (λ area. if length words == 2 then Ok (cmd.Play (place_of area))
-        else (take_at config media name.Play words 2 >>= (λ take. Ok (cmd.PlayTake (place_of area) (played take)))))
+    else (take_at config media name.Play words 2 >>= (λ take. Ok (cmd.PlayTake (place_of area) (played take)))))
     (λ area found. by_length area (known (λ (area : Area). IsConfigured config area.channel) (area_at config name.Play words 1) area (area_at_aimed config name.Play words 1) found) (length words == 2))
   where
     by_length : (area : Area) → IsConfigured config area.channel → (b : Bool)

@@ -18,7 +18,7 @@ use Rattle.play_types.specs.declared.parsed.Refusal.TheVariants as refusal
 use Rattle.history_model.specs.ReplyText.{IsReplyTo, IsRefusalCode}
 use Rattle.history_model.specs.Command.{parsed}
 use Rattle.history_model.specs.SessionLine.{LineMeaning, Blank, Wrong, Asks, line_meaning, meaning_of_words, meaning_of_parsed, refusal_reply}
-use Rattle.history_model.specs.Session.{Step, Local, Ask, AskBatch, KillServer, EndConnection, Skip, command_name, is_query, batch_limit, asks, is_open, batch, step_outside, step_waiting, step_commit, step_inside, step_after, step_of_meaning, is_given_up, step_of_line, is_end, line_steps, steps}
+use Rattle.history_model.specs.Session.{Step, Local, Ask, AskBatch, KillServer, EndConnection, Skip, command_name, is_query, batch_limit, asks, is_open, batch, step_outside, step_waiting, step_commit, step_inside, step_of_meaning, is_given_up, step_of_line, is_end, line_steps, steps}
 
 -- a reply that fits, an ask of a command that words ask for, or another step
 abbrev pub IsGiven : ConfigView → List MediaNameView → Step → Type 0

@@ -1,6 +1,6 @@
 -- A step fits the configuration, whatever batch is open.
 use Rattle.std.proofs.Common.{◌≡◌, List, subst, sym}
-use Rattle.std.specs.Prelude.{Option, Some}
+use Rattle.std.specs.Prelude.{Some}
 use Rattle.std.proofs.lemmas.Option.{same_Some}
 use Rattle.amcp_text.specs.Lines.{Line}
 use Rattle.play_types.specs.Config.{ConfigView}

@@ -1,5 +1,5 @@
 -- The stage before the first line.
-use Rattle.std.proofs.Common.{◌≡◌, ℕ, zero, suc, ◌+◌, ◌<◌, List, [], ◌∷◌, length, map, replicate, refl, sym, ap, ap₂, ◌∙◌, subst, arith}
+use Rattle.std.proofs.Common.{◌≡◌, ℕ, zero, suc, ◌+◌, List, [], ◌∷◌, length, map, replicate, refl, sym, ap, ap₂, ◌∙◌, subst}
 use Rattle.std.specs.Prelude.{Option, None, All, vec_capacity}
 use Rattle.std.specs.List.{range_with_len}
 use Rattle.std.proofs.lemmas.List.Elements.{All-nil, All-cons}
@@ -7,7 +7,6 @@ use Rattle.history_model.specs.PlayHistory.{showing}
 use Rattle.history_model.specs.PlayHistory as model
 use Rattle.history_model.specs.ScriptHistory.{Playout}
 use Rattle.history_model.proofs.Outputs.{script_events-none}
-use Rattle.run_script.specs.declared.stage.Showing.{Showing}
 use Rattle.run_script.specs.declared.stage.Stage.{Stage}
 use Rattle.run_script.specs.Clients.{AreClients}
 use Rattle.run_script.specs.Stage.{Shows, StandsFor, IsSilent, HasBegun, HasRoom, seen}

@@ -17,15 +17,14 @@ use Rattle.play_outside.proofs.Taking.{after_taking-nil}
 use Rattle.history_model.specs.Script.{ScriptLine, NoForm, until_stop}
 use Rattle.history_model.specs.ScriptHistory.{Playout, Played}
 use Rattle.history_model.specs.ScriptInput.{ended_lines}
-use Rattle.history_model.specs.ScriptOutput.{script_output}
 use Rattle.history_model.proofs.Outputs.{script_output-snoc, script_output-ended}
 use Rattle.history_model.proofs.Parts.{ended_lines-more}
 use Rattle.run_script.specs.declared.ending.Ending.{Ending}
 use Rattle.run_script.specs.declared.ending.Ending.TheVariants.{Finished, Stopped, BadLine, TooLong, ReadFault, WriteFault, Memory}
 use Rattle.run_script.specs.Ending.{status_of, fault_line}
-use Rattle.run_script.specs.Script.{meanings, said_by, IsAtLast, StopsAt, IsBadAt}
+use Rattle.run_script.specs.Script.{meanings, said_by, IsAtLast, IsBadAt}
 use Rattle.run_script.specs.Run.{limit, Front, Runs}
-use Rattle.run_script.specs.Program.{Says, IsRun, IsValid, IsPlayed, PlaysAll, EndsAtLine, is_formed}
+use Rattle.run_script.specs.Program.{Says, IsRun, IsValid, IsPlayed, PlaysAll, is_formed}
 use Rattle.run_script.proofs.Stops.{received_front, stop_ended, unplayed, said-later, no_form}
 
 same_some : {x y : List ℕ} → Some x ≡ Some y → x ≡ y

@@ -1,5 +1,5 @@
 -- The connections of a script when one of them says one line more.
-use Rattle.std.proofs.Common.{◌≡◌, ℕ, zero, suc, ◌+◌, ◌<◌, ◌≤◌, ◌&&◌, ◌==◌, Bool, true, false, cond, not, eqb, List, [], ◌∷◌, ◌++◌, length, length-append, get_or, set, refl, sym, ap, ap₂, ◌∙◌, subst, arith, inl}
+use Rattle.std.proofs.Common.{◌≡◌, ℕ, ◌+◌, ◌≤◌, ◌&&◌, ◌==◌, Bool, true, false, cond, not, eqb, List, [], ◌∷◌, ◌++◌, length, length-append, get_or, set, refl, sym, ap, ap₂, ◌∙◌, subst, arith, inl}
 use Rattle.std.specs.Prelude.{Option, Some, None, find}
 use Rattle.std.specs.List.{position, position_or_len}
 use Rattle.std.specs.Option.{option_or}
@@ -15,8 +15,7 @@ use Rattle.amcp_text.specs.Lines.{lines_of, IsEnded}
 use Rattle.play_types.specs.declared.event.Tag.{Tag}
 use Rattle.play_types.specs.Config.{ConfigView}
 use Rattle.play_types.specs.Media.{MediaNameView}
-use Rattle.history_model.specs.Script.{Said}
-use Rattle.history_model.specs.ScriptHistory.{Playout, Played, same_tag, text_by, texts_of, stream_of, given_up_of, said_step}
+use Rattle.history_model.specs.ScriptHistory.{Playout, Played, same_tag, text_by, texts_of, said_step}
 use Rattle.history_model.proofs.Streams.{texts_of-other, stream_of-other, given_up_of-other, stream_of-none, given_up_of-none}
 use Rattle.play_session.specs.Session.{StandsFor}
 use Rattle.play_session.specs.declared.step.Step.{Step}

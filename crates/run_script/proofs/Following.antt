@@ -1,16 +1,12 @@
 -- A play that starts, and the steps of connections.
-use Rattle.std.proofs.Common.{◌≡◌, ◌≢◌, ℕ, zero, suc, ◌+◌, ◌-◌, ◌<◌, ◌≤◌, ◌==◌, ◌&&◌, Bool, true, false, cond, List, [], ◌∷◌, ◌++◌, length, map, set, get_or, refl, sym, ap, ap₂, ◌∙◌, subst, arith, append-nil}
-use Rattle.std.specs.Prelude.{Option, Some, None, IfSome, Result, Ok, Err, All, if◌then◌else◌, vec_capacity}
+use Rattle.std.proofs.Common.{◌≡◌, ℕ, zero, suc, ◌+◌, ◌-◌, ◌<◌, ◌≤◌, ◌==◌, Bool, true, false, cond, List, [], ◌∷◌, ◌++◌, length, map, set, refl, sym, ap, ap₂, ◌∙◌, subst, arith, append-nil}
+use Rattle.std.specs.Prelude.{Option, Some, None, Result, Ok, Err, All, if◌then◌else◌}
 use Rattle.std.specs.List.{range_with_len}
-use Rattle.std.proofs.lemmas.Bool.{false≢true}
 use Rattle.std.proofs.lemmas.Bool.Decides.{nat_tests}
 use Rattle.std.proofs.lemmas.List.{length-map}
 use Rattle.std.proofs.lemmas.List.Elements.{All-set}
-use Rattle.play_types.specs.History.{ticks}
 use Rattle.play_types.specs.Place.{PlaceView}
 use Rattle.play_types.specs.Take.{TakeView}
-use Rattle.play_types.specs.Transition.{cut, TransView}
-use Rattle.play_types.specs.declared.transition.Kind.{Kind}
 use Rattle.play_types.specs.declared.command.Cmd.{Cmd}
 use Rattle.play_types.specs.declared.command.Cmd.TheVariants.{PlayTake}
 use Rattle.play_types.specs.declared.event.Tag.{Tag}
@@ -31,7 +27,7 @@ use Rattle.history_model.specs.PlayHistory as model
 use Rattle.history_model.specs.ReplyText.{reply_bytes}
 use Rattle.history_model.specs.ScriptHistory.{Playout, is_built, setup_of, step_events, is_kill}
 use Rattle.history_model.specs.ScriptOutput.{tagged_lines, reply_output, step_reply, ask_reply, answer_reply}
-use Rattle.history_model.specs.Session.{Step, Local, Ask, AskBatch, KillServer, EndConnection, Skip, command_name}
+use Rattle.history_model.specs.Session.{Step, Ask, KillServer, command_name}
 use Rattle.history_model.proofs.Plays.{showing-play, IsPlayHistory-append, is_refused-play}
 use Rattle.run_script.specs.declared.clients.Clients.{Clients}
 use Rattle.run_script.specs.declared.ending.Halt.{Halt}
@@ -120,7 +116,7 @@ shows_play playout old new events tag place take shows same plays low high fits 
       shown = ap₂ (λ t s. map (seen t) s) same.ticks items
           ∙ set_shown old.ticks 1 at old.shown.items one (λ channel. showing channel events) was
           ∙ map_each (with_play (λ channel. showing channel events) (1 + at) (seen old.ticks one)) (λ channel. showing channel (events ++ event.Do tag (PlayTake place take) ∷ []))
-              (λ n. by_channel n) (range_with_len 1 (length old.shown.items))
+          (λ n. by_channel n) (range_with_len 1 (length old.shown.items))
           ∙ ap (λ (n : ℕ). map (λ channel. showing channel (events ++ event.Do tag (PlayTake place take) ∷ [])) (range_with_len 1 n)) kept;
     }
   where

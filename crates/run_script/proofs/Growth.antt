@@ -13,7 +13,7 @@ use Rattle.play_outside.specs.Sink.{Fails}
 use Rattle.play_outside.proofs.Taking.{after_taking-after_taking}
 use Rattle.play_outside.proofs.Sending.{Fails-after}
 use Rattle.history_model.specs.Script.{ScriptLine, NoForm, meaning}
-use Rattle.history_model.specs.ScriptHistory.{Playout, Played, ends_at, goes_on}
+use Rattle.history_model.specs.ScriptHistory.{Playout, Played, goes_on}
 use Rattle.history_model.specs.ScriptInput.{ended_lines, unended, overlong, received}
 use Rattle.history_model.specs.ScriptOutput.{output_at, script_output}
 use Rattle.history_model.proofs.Parts.{ended_lines-feed, unended-feed, ended_lines-other, unended-other}

@@ -1,25 +1,22 @@
 -- What a line makes of the stage and of the output.
-use Rattle.std.proofs.Common.{◌≡◌, ℕ, ◌+◌, Bool, true, false, List, [], ◌∷◌, ◌++◌, refl, sym, ap, ◌∙◌, subst, replicate, append-nil}
-use Rattle.std.specs.Prelude.{Option, Some, None, Result, Ok, Err}
+use Rattle.std.proofs.Common.{◌≡◌, ℕ, true, false, List, [], ◌∷◌, ◌++◌, refl, sym, ap, ◌∙◌, subst, replicate, append-nil}
+use Rattle.std.specs.Prelude.{Option, Result, Ok, Err}
 use Rattle.play_types.specs.declared.command.Cmd.{Cmd}
 use Rattle.play_types.specs.declared.event.Tag.{Tag}
-use Rattle.play_types.specs.declared.event.Event.{Event}
 use Rattle.play_types.specs.declared.event.Event.TheVariants as event
 use Rattle.play_outside.specs.SinkState.{SinkState, after_taking}
 use Rattle.play_outside.specs.Sink.{Fails}
 use Rattle.play_outside.proofs.Taking.{after_taking-nil}
 use Rattle.history_model.specs.Script.{ScriptLine, Comment, Said, NoForm}
 use Rattle.history_model.specs.Script as script
-use Rattle.history_model.specs.ScriptHistory.{Playout, Played, text_by, said_step, is_kill, step_events, script_events, goes_on}
+use Rattle.history_model.specs.ScriptHistory.{Playout, Played, said_step, is_kill, step_events, script_events, goes_on}
 use Rattle.history_model.specs.ScriptOutput.{ticks_output, reply_output, step_reply}
-use Rattle.history_model.specs.Session.{Step}
 use Rattle.history_model.proofs.Outputs.{script_events-snoc}
 use Rattle.play_session.specs.declared.step.Step.{Step as Found}
-use Rattle.run_script.specs.declared.clients.Client.{Client}
 use Rattle.run_script.specs.declared.ending.Halt.{Halt}
 use Rattle.run_script.specs.declared.ending.Halt.TheVariants as halt
 use Rattle.run_script.specs.declared.stage.Stage.{Stage}
-use Rattle.run_script.specs.Clients.{AreClients, gave_up, played_as, seen_step, Hears}
+use Rattle.run_script.specs.Clients.{AreClients, gave_up, played_as, seen_step}
 use Rattle.run_script.specs.Stage.{Shows, StandsFor, HasShown, Follows, Takes}
 use Rattle.run_script.proofs.Connections.{clients_other}
 

@@ -10,7 +10,6 @@ use Rattle.play_types.specs.declared.event.Tag.{Tag}
 use Rattle.history_model.specs.Numbers.{number_within}
 use Rattle.history_model.specs.Parts.{parts_at}
 use Rattle.history_model.specs.Script.{ScriptLine, Comment, Said, NoForm, longest_line, addressed_parts, tag_of, said_by, said_line, ticks_line, after_t, after_x, short_meaning, meaning}
-use Rattle.history_model.specs.Script as script
 
 -- there is no line end in the text
 abbrev pub IsOneLine : List ℕ → Type 0

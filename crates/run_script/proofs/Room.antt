@@ -1,6 +1,6 @@
 -- The room for the frames of all channels.
-use Rattle.std.proofs.Common.{◌≡◌, ℕ, suc, ◌+◌, ◌*◌, ◌<◌, ◌≤◌, ◌==◌, max, Bool, true, false, cond, List, [], ◌∷◌, ◌++◌, length, replicate, get_or, refl, sym, ap, ◌∙◌, subst, arith, zero}
-use Rattle.std.specs.Prelude.{Option, Some, None, IfSome, All, slice_get}
+use Rattle.std.proofs.Common.{◌≡◌, ℕ, suc, ◌+◌, ◌<◌, ◌≤◌, List, [], ◌∷◌, ◌++◌, length, replicate, get_or, refl, sym, ap, ◌∙◌, subst, arith, zero}
+use Rattle.std.specs.Prelude.{IfSome, slice_get}
 use Rattle.std.specs.Ordering.{ord_max, nat_cmp}
 use Rattle.std.proofs.lemmas.Bool.{cases_lt}
 use Rattle.std.proofs.lemmas.Bool.Decides.{nat_tests}
@@ -20,11 +20,11 @@ pub more_room : (channels : List ChannelView) (at room more new : ℕ) → at < 
 more_room channels at room more new inside before here is k d within = elim (cases_lt k at) [
   | inl less ↦ (let fits = before k d less in let both = max_room room more in let up = both.0 in omega (arith, fits, up, is))
   | inr past ↦ (
-    let same : k ≡ at = omega (arith, past, within) in
-    let both = max_room room more in
-    let up = both.1 in
-    let fits : HasRoom more (get_or channels at d) = subst (λ o. IfSome o (HasRoom more)) (slice_get-get_or channels at d inside) here in
-    subst (λ n. HasRoom new (get_or channels n d)) (sym same) (omega (arith, fits, up, is)))
+      let same : k ≡ at = omega (arith, past, within) in
+      let both = max_room room more in
+      let up = both.1 in
+      let fits : HasRoom more (get_or channels at d) = subst (λ o. IfSome o (HasRoom more)) (slice_get-get_or channels at d inside) here in
+      subst (λ n. HasRoom new (get_or channels n d)) (sym same) (omega (arith, fits, up, is)))
 ]
 
 pub replicate-more : {A : Type 0} (n : ℕ) (x : A) → replicate n x ++ x ∷ [] ≡ replicate (n + 1) x

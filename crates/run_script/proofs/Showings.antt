@@ -1,15 +1,12 @@
 -- What the channels show.
-use Rattle.std.proofs.Common.{◌≡◌, ℕ, zero, suc, ◌+◌, ◌-◌, ◌*◌, ◌<◌, ◌≤◌, ◌==◌, Bool, true, false, cond, List, [], ◌∷◌, ◌++◌, length, map, replicate, set, refl, sym, ap, ap₂, ◌∙◌, subst, arith, append-nil, append_assoc, get_or}
-use Rattle.std.specs.Prelude.{Option, Some, None, IfSome, IfOk, Result, Ok, Err, IsOk, All, slice_get, flat_map, vec_capacity, unwrap_or}
+use Rattle.std.proofs.Common.{◌≡◌, ℕ, zero, suc, ◌+◌, ◌-◌, ◌<◌, ◌≤◌, Bool, false, List, [], ◌∷◌, ◌++◌, length, map, refl, sym, ap, ap₂, ◌∙◌, subst, arith, get_or}
+use Rattle.std.specs.Prelude.{Option, Some, None, All, slice_get, flat_map, vec_capacity, unwrap_or}
 use Rattle.std.specs.Option.{option_map}
 use Rattle.std.specs.List.{range_with_len}
-use Rattle.std.proofs.lemmas.Bool.Decides.{nat_tests}
 use Rattle.std.proofs.lemmas.List.{length-map}
-use Rattle.std.proofs.lemmas.List.Elements.{All-head, All-tail, All-cons, All-nil, All-weaker}
+use Rattle.std.proofs.lemmas.List.Elements.{All-head, All-tail}
 use Rattle.std.proofs.lemmas.Option.{none-some, same_Some, slice_get-map, get_or_from_slice_get, slice_get_within}
 use Rattle.play_types.specs.Config.{ChannelView}
-use Rattle.play_types.specs.Place.{PlaceView}
-use Rattle.play_types.specs.Take.{TakeView}
 use Rattle.play_types.specs.History.{ticks}
 use Rattle.play_types.specs.Playhead.{head}
 use Rattle.play_types.specs.declared.event.Event.{Event}
@@ -20,7 +17,7 @@ use Rattle.play_types.specs.declared.take.Spec.TheVariants.{Clip, Colour, RouteC
 use Rattle.play_types.proofs.Histories.{ticks-append}
 use Rattle.pixel_math.specs.Pixel.{PixelView, transparent}
 use Rattle.history_model.specs.FrameText.{frame_bytes, frame_lines}
-use Rattle.history_model.specs.Media.{Setup, size, no_size, clip_at}
+use Rattle.history_model.specs.Media.{size, no_size, clip_at}
 use Rattle.history_model.specs.PlayHistory.{IsPlayHistory, showing, showing_pixel, picture_pixel, shown_later}
 use Rattle.history_model.specs.PlayHistory as model
 use Rattle.history_model.specs.Raster.{scaled_clip}
@@ -171,5 +168,5 @@ shows_tick playout old new events shows config names shown now room =
           ∙ ap (map (option_map (shown_later 1))) shows.shown
           ∙ map-map (λ channel. showing channel events) (option_map (shown_later 1)) numbers
           ∙ map_same (λ channel. option_map (shown_later 1) (showing channel events)) (λ channel. showing channel (events ++ event.Tick ∷ []))
-              (λ channel. sym (showing-tick channel events)) numbers;
+          (λ channel. sym (showing-tick channel events)) numbers;
     }

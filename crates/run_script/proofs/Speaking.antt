@@ -1,8 +1,8 @@
 -- A line of a connection that is fed to its session.
-use Rattle.std.proofs.Common.{◌≡◌, ◌≢◌, ℕ, ◌+◌, ◌-◌, ◌<◌, ◌≤◌, ◌==◌, min, not, Bool, true, false, cond, ◌&&◌, ◌||◌, eqb, List, [], ◌∷◌, ◌++◌, length, take, refl, sym, ap, ap₂, ◌∙◌, subst, arith, inl, inr, append-nil, append_assoc, length-append}
-use Rattle.std.specs.Prelude.{Option, Some, None, slice_get}
+use Rattle.std.proofs.Common.{◌≡◌, ℕ, ◌+◌, ◌-◌, ◌≤◌, ◌==◌, not, Bool, true, false, cond, ◌&&◌, ◌||◌, List, [], ◌∷◌, ◌++◌, length, take, refl, sym, ap, ap₂, ◌∙◌, subst, arith, inr, append-nil, append_assoc, length-append}
+use Rattle.std.specs.Prelude.{Some, None, slice_get}
 use Rattle.std.specs.List.{list_any, position_or_len, slice_split, onto_first}
-use Rattle.std.proofs.lemmas.Bool.{false≢true, or_parts, or_from}
+use Rattle.std.proofs.lemmas.Bool.{false≢true, or_parts}
 use Rattle.std.proofs.lemmas.Bool.Decides.{nat_tests}
 use Rattle.std.proofs.lemmas.List.{take_all, length-take, length-map}
 use Rattle.std.proofs.lemmas.List.Elements.{All-nil}
@@ -10,10 +10,8 @@ use Rattle.std.proofs.lemmas.List.Folds.{list_any-append}
 use Rattle.std.proofs.lemmas.Option.{slice_get_past}
 use Rattle.amcp_text.specs.Lines.{Line, is_line_end, line_of_text, line_of, ended_parts, lines_of, IsEnded}
 use Rattle.amcp_text.specs.Reader.{taken_len}
-use Rattle.amcp_text.proofs.LineLaws.{lines_of_none, lines_of_return, lines_of-append, IsEnded-append}
-use Rattle.play_types.specs.declared.command.Cmd.{Cmd}
+use Rattle.amcp_text.proofs.LineLaws.{lines_of_none, lines_of_return, lines_of-append}
 use Rattle.play_types.specs.declared.event.Tag.{Tag}
-use Rattle.play_types.specs.declared.reply.Reply.{Reply}
 use Rattle.play_types.specs.declared.reply.Reply.TheVariants as reply
 use Rattle.play_types.specs.Config.{ConfigView}
 use Rattle.play_types.specs.Media.{MediaNameView}
@@ -21,7 +19,7 @@ use Rattle.history_model.specs.Script.{Said}
 use Rattle.history_model.specs.ScriptHistory.{Playout, Played, same_tag, text_by, texts_of, stream_of, given_up_of, said_step}
 use Rattle.history_model.specs.Session.{line_steps, is_end, until_end, steps}
 use Rattle.history_model.specs.Session as model
-use Rattle.history_model.proofs.Streams.{texts_of-said, texts_of-other, stream_of-said, stream_of-other, given_up_of-kept, given_up_of-lost, given_up_of-other}
+use Rattle.history_model.proofs.Streams.{texts_of-said, stream_of-said, given_up_of-kept, given_up_of-lost}
 use Rattle.history_model.proofs.Sessions.{until_end-lines_ended, length-until_end, length-line_steps, line_steps-longer}
 use Rattle.play_session.specs.Seen.{seen}
 use Rattle.play_session.specs.Session.{StandsFor, Gives, given_up_after}
@@ -29,7 +27,7 @@ use Rattle.play_session.specs.SessionState.{SessionState}
 use Rattle.play_session.specs.declared.step.Step.{Step}
 use Rattle.play_session.specs.declared.step.Step.TheVariants as step
 use Rattle.run_script.specs.declared.clients.Client.{Client}
-use Rattle.run_script.specs.Clients.{IsServed, Serves, IsClient, client_of, AreClients, gave_up, played_as, seen_step, Hears, Speaks}
+use Rattle.run_script.specs.Clients.{IsServed, Serves, played_as, Speaks}
 use Rattle.run_script.proofs.OneLine.{IsOneLine}
 
 -- a tag is the same as itself
@@ -88,7 +86,7 @@ pub unheld : (config : ConfigView) (media : List MediaNameView) (session : Sessi
     → StandsFor config media session stream given_up given → length (lines_of stream) ≡ given → session.reader.held ≡ false
 unheld config media session stream given_up given stands all =
     let both = ap (λ (l : List ℕ). length (lines_of l)) stands.parts ∙ ap length (lines_of-append stands.before stands.rest stands.whole)
-        ∙ length-append (lines_of stands.before) (lines_of stands.rest) in
+    ∙ length-append (lines_of stands.before) (lines_of stands.rest) in
     let before = stands.count in
     stands.reads.held ∙ held_by (list_any is_line_end stands.rest) stands.rest refl (omega (arith, both, before, all))
 

@@ -1,5 +1,5 @@
 -- The line at which a run ends, among all lines of the input.
-use Rattle.std.proofs.Common.{◌≡◌, ◌≢◌, ◌⊎◌, inl, inr, ℕ, ◌+◌, ◌<◌, ◌≤◌, ◌&&◌, Bool, true, false, cond, eqb, List, [], ◌∷◌, ◌++◌, length, map, refl, sym, ap, ap₂, ◌∙◌, arith, append-nil, append_assoc, length-append}
+use Rattle.std.proofs.Common.{◌≡◌, ◌≢◌, ℕ, ◌+◌, ◌<◌, ◌≤◌, Bool, true, false, cond, eqb, List, [], ◌∷◌, ◌++◌, length, refl, sym, ap, ◌∙◌, arith, append-nil, append_assoc, length-append}
 use Rattle.std.specs.List.{list_all}
 use Rattle.std.specs.Prelude.{nat_le}
 use Rattle.std.specs.Str.Lines.{lines, strip_carriage_return}
@@ -89,11 +89,11 @@ received_front front more = by_size (nat_le 8194 (length (unended front))) refl
           meanings all.1,
           ap meanings all.3 ∙ map-append meaning (ended_lines front) (all.0 ∷ all.1)
               ∙ ap (λ (m : ScriptLine). meanings (ended_lines front) ++ m ∷ meanings all.1)
-                  (long-meaning all.0 all.2 ∙ sym (long-meaning (unended front) (omega (arith, size))))
+              (long-meaning all.0 all.2 ∙ sym (long-meaning (unended front) (omega (arith, size))))
               ∙ sym (append_assoc (meanings (ended_lines front)) (meaning (unended front) ∷ []) (meanings all.1))
               ∙ ap (λ (ms : List ScriptLine). ms ++ meanings all.1)
-                  (sym (map-append meaning (ended_lines front) (unended front ∷ []))
-                  ∙ ap (λ (ls : List (List ℕ)). meanings (ended_lines front ++ ls)) (sym over.0)),
+              (sym (map-append meaning (ended_lines front) (unended front ∷ []))
+              ∙ ap (λ (ls : List (List ℕ)). meanings (ended_lines front ++ ls)) (sym over.0)),
         )
 
 snoc_last : {A : Type 0} (xs ys : List A) (x y : A) → xs ++ x ∷ [] ≡ ys ++ y ∷ [] → x ≡ y

@@ -1,16 +1,13 @@
 -- What the stage stands for, and what a line makes of it.
-use Rattle.std.specs.Prelude.{◌≡◌, ◌≢◌, ℕ, ◌+◌, ◌-◌, ◌*◌, ◌<◌, ◌≤◌, Bool, true, false, Option, Some, None, IfSome, IfOk, Result, Ok, Err, List, [], ◌∷◌, ◌++◌, length, map, set, replicate, slice_get, All, vec_capacity}
+use Rattle.std.specs.Prelude.{◌≡◌, ◌≢◌, ℕ, ◌+◌, ◌-◌, ◌*◌, ◌<◌, ◌≤◌, Bool, true, false, Option, Some, None, IfSome, IfOk, Result, Ok, Err, List, [], ◌∷◌, ◌++◌, length, map, set, slice_get, All, vec_capacity}
 use Rattle.std.specs.List.{range_with_len}
-use Rattle.play_types.specs.Config.{ConfigView, ChannelView}
-use Rattle.play_types.specs.Media.{MediaNameView}
+use Rattle.play_types.specs.Config.{ChannelView}
 use Rattle.play_types.specs.Place.{PlaceView}
-use Rattle.play_types.specs.Take.{TakeView}
 use Rattle.play_types.specs.History.{ticks}
 use Rattle.play_types.specs.declared.command.Cmd.{Cmd}
 use Rattle.play_types.specs.declared.command.Cmd.TheVariants.{PlayTake}
 use Rattle.play_types.specs.declared.event.Tag.{Tag}
 use Rattle.play_types.specs.declared.event.Event.{Event}
-use Rattle.play_types.specs.declared.event.Event.TheVariants as event
 use Rattle.play_types.specs.declared.take.Spec.{Spec}
 use Rattle.play_types.specs.declared.take.Spec.TheVariants.{Colour}
 use Rattle.pixel_math.specs.Pixel.{PixelView, transparent, colour_pixel}
@@ -22,7 +19,7 @@ use Rattle.history_model.specs.PlayHistory.{IsPlayHistory, showing, showing_pixe
 use Rattle.history_model.specs.PlayHistory as model
 use Rattle.history_model.specs.Script.{ScriptLine, NoForm}
 use Rattle.history_model.specs.ScriptHistory.{Playout, Played, setup_of, is_built, step_events, is_kill, ends_at, script_events}
-use Rattle.history_model.specs.ScriptOutput.{reply_output, step_reply, channel_output, ticks_output, output_at}
+use Rattle.history_model.specs.ScriptOutput.{reply_output, step_reply, channel_output, output_at}
 use Rattle.history_model.specs.Session.{Step}
 use Rattle.run_script.specs.declared.ending.Halt.{Halt}
 use Rattle.run_script.specs.declared.ending.Halt.TheVariants as halt

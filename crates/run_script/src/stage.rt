@@ -152,7 +152,14 @@ impl Stage {
             Ok(()) => {}
             Err(_) => return Err(Halt::Memory),
         }
-        match write_hex(at as u8 + 1, self.ticks + 1, size, self.frame.as_slice(), &[], out) {
+        match write_hex(
+            at as u8 + 1,
+            self.ticks + 1,
+            size,
+            self.frame.as_slice(),
+            &[],
+            out,
+        ) {
             Sent::All => Ok(()),
             Sent::Failed => Err(Halt::Write),
         }
@@ -184,7 +191,10 @@ impl Stage {
             → StandsFor playout self.old played
             → Takes playout result (Said tag text.now) played self.new (K.state out.old) (K.state out.new) }
     {
-        match self.clients.hear(alloc, tag, text, &self.config, &self.names) {
+        match self
+            .clients
+            .hear(alloc, tag, text, &self.config, &self.names)
+        {
             Ok(Some(step)) => self.follow(alloc, tag, step, out),
             Ok(None) => Ok(()),
             Err(_) => Err(Halt::Memory),
@@ -285,7 +295,8 @@ fn start_of(cmd: Cmd) -> Option<Start>
 fn is_plain(take: Take) -> bool
     ensures { result ≡ (is_cut take.trans.kind && is_picture take.spec) }
 {
-    matches!(take.trans().kind(), Kind::Cut) && matches!(take.spec(), Spec::Clip(_) | Spec::Colour(_))
+    matches!(take.trans().kind(), Kind::Cut)
+        && matches!(take.spec(), Spec::Clip(_) | Spec::Colour(_))
 }
 
 /// The bytes of the largest frame of the channels.

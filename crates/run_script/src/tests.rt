@@ -111,7 +111,7 @@ const RUNS: [Run<'static>; 36] = [
         "run 1 1",
         b"1.1 PLAY 1-0 #FF0000FF\nT\n2.7 PLAY 1-0 #FF00FF00\n1.1 STOP\n1.1 PLAY 2-0 #FFFF0000\nT 2\n",
         0,
-        "1.1 202 PLAY OK\nF 1 1\nff0000ff\n2.7 202 PLAY OK\n1.1 400 ERROR\n1.1 STOP\n1.1 401 PLAY ERROR\nF 1 2\n00ff00ff\nF 1 3\n00ff00ff\n",
+        "1.1 202 PLAY OK\nF 1 1\nff0000ff\n2.7 202 PLAY OK\n1.1 402 STOP ERROR\n1.1 401 PLAY ERROR\nF 1 2\n00ff00ff\nF 1 3\n00ff00ff\n",
     ),
 ];
 
@@ -123,21 +123,103 @@ const NO_FORM: [&str; 25] = [
 ];
 
 /// Texts of a connection 1.1 that are answered by 400 and themselves.
-const UNKNOWN: [&str; 14] = [
-    "PLAY 1-0 #FFFF0000 x",
+const UNKNOWN: [&str; 5] = [
     "PLAYS 1-0 #FFFF0000",
-    "STOP 2-0 #FFFF0000",
-    "PLAY +1-0 #FFFF0000",
-    "PLAY 1-00 #FFFF0000",
-    "PLAY 1-1 #FFFF0000",
-    "PLAY 2-0 #FFFF000",
-    "PLAY 1-0 #FFFF00000",
-    "PLAY 1-0 #FFFF000G",
-    "PLAY 1-0 FFFF0000",
     "\"PLAY 1-0\" #FFFF0000",
     "PLAY 1-0 #FFFF0000 \"",
     "PLAY 1-0 \\#FFFF0000",
     "\"\"",
+];
+
+/// Texts of a connection 1.1 on one channel without clips, each with the first line of its reply.
+const ANSWERS: [(&str, &str); 41] = [
+    ("PLAY 1-0 #FFFF0000 x", "403 PLAY ERROR"),
+    ("STOP 2-0 #FFFF0000", "401 STOP ERROR"),
+    ("PLAY +1-0 #FFFF0000", "401 PLAY ERROR"),
+    ("PLAY 1-00 #FFFF0000", "202 PLAY OK"),
+    ("PLAY 2-0 #FFFF000", "401 PLAY ERROR"),
+    ("PLAY 1-0 #FFFF00000", "403 PLAY ERROR"),
+    ("PLAY 1-0 #FFFF000G", "403 PLAY ERROR"),
+    ("PLAY 1-0 FFFF0000", "404 PLAY ERROR"),
+    ("PLAY 1-0 \"MISSING\"", "404 PLAY ERROR"),
+    ("PLAY 9-0 RED", "401 PLAY ERROR"),
+    ("PLAY", "402 PLAY ERROR"),
+    ("MIXER 1-0 OPACITY x", "403 MIXER ERROR"),
+    ("play 1 red", "202 PLAY OK"),
+    ("PLAY 1-0 BLUE CUT 5", "202 PLAY OK"),
+    ("PLAY 1-0 BLUE AUTO", "202 PLAY OK"),
+    ("VERSION", "201 VERSION OK"),
+    ("VERSION SERVER", "201 VERSION OK"),
+    ("VERSION x", "403 VERSION ERROR"),
+    ("CLS", "200 CLS OK"),
+    ("BEGIN", "202 BEGIN OK"),
+    ("COMMIT", "403 COMMIT ERROR"),
+    ("DISCARD", "403 DISCARD ERROR"),
+    ("KILL", "202 KILL OK"),
+    // What the stage cannot do yet.
+    ("PLAY 1-0", "403 PLAY ERROR"),
+    ("PLAY 1-1 BLUE", "403 PLAY ERROR"),
+    ("PLAY 1-0 BLUE MIX 0", "403 PLAY ERROR"),
+    ("PLAY 1-0 route://1", "403 PLAY ERROR"),
+    ("LOADBG 1-0 BLUE", "403 LOADBG ERROR"),
+    ("LOAD 1-0 BLUE", "403 LOAD ERROR"),
+    ("PAUSE 1-0", "403 PAUSE ERROR"),
+    ("RESUME 1-0", "403 RESUME ERROR"),
+    ("STOP 1-0", "403 STOP ERROR"),
+    ("CLEAR 1-0", "403 CLEAR ERROR"),
+    ("CLEAR 1", "403 CLEAR ERROR"),
+    ("SWAP 1 1", "403 SWAP ERROR"),
+    ("SWAP 1-0 1-1", "403 SWAP ERROR"),
+    ("MIXER 1-0 OPACITY", "403 MIXER ERROR"),
+    ("MIXER 1-0 OPACITY 0", "403 MIXER ERROR"),
+    ("MIXER 1 COMMIT", "403 MIXER ERROR"),
+    ("MIXER 1-0 CLEAR", "403 MIXER ERROR"),
+    ("INFO", "403 INFO ERROR"),
+];
+
+/// Scripts of several connections on one channel of one pixel, with their output.
+const SESSIONS: [(&str, &str); 9] = [
+    // A batch of refused lines.
+    (
+        "1.1 BEGIN\n1.1 FROB 1\n1.1 DISCARD\n1.1 COMMIT\n",
+        "1.1 202 BEGIN OK\n1.1 400 ERROR\n1.1 FROB 1\n1.1 202 DISCARD OK\n1.1 403 COMMIT ERROR\n",
+    ),
+    // A kill ends the run after its reply.
+    (
+        "T\n1.1 KILL\n1.1 VERSION\nzzz\n",
+        "F 1 1\n00000000\n1.1 202 KILL OK\n",
+    ),
+    ("1.1 KILL", "1.1 202 KILL OK\n"),
+    // After a goodbye the lines of that connection are passed over, its kill too.
+    (
+        "1.1 BYE\n1.1 VERSION\n1.1 KILL\n2.1 VERSION\n1.2 CLS\n",
+        "2.1 201 VERSION OK\n2.1 2.0 PLAYD\n1.2 200 CLS OK\n1.2 \n",
+    ),
+    // What a batch refuses, and the empty batch.
+    (
+        "1.1 BEGIN\n1.1 BEGIN\n1.1 INFO\n1.1 CLS\n1.1 VERSION\n1.1 MIXER 1-0 OPACITY\n1.1 BYE\n1.1 KILL\n1.1 COMMIT\n1.1 COMMIT\n",
+        "1.1 202 BEGIN OK\n1.1 403 BEGIN ERROR\n1.1 403 INFO ERROR\n1.1 403 CLS ERROR\n1.1 403 VERSION ERROR\n1.1 403 MIXER ERROR\n1.1 403 BYE ERROR\n1.1 403 KILL ERROR\n1.1 202 COMMIT OK\n1.1 403 COMMIT ERROR\n",
+    ),
+    // A batch with a command is answered, and the stage cannot do it yet.
+    (
+        "1.1 BEGIN\n1.1 PLAY 1-0 RED\nT\n1.1 COMMIT\n1.1 COMMIT\nT\n",
+        "1.1 202 BEGIN OK\n1.1 202 PLAY OK\nF 1 1\n00000000\n1.1 403 COMMIT ERROR\n1.1 403 COMMIT ERROR\nF 1 2\n00000000\n",
+    ),
+    // Each connection has a batch of its own, and plays beside those of others.
+    (
+        "1.1 BEGIN\n2.1 BEGIN\n1.2 PLAY 1-0 RED\n1.1 PLAY 1-0 BLUE\n2.1 DISCARD\n1.1 COMMIT\n2.1 COMMIT\nT\n",
+        "1.1 202 BEGIN OK\n2.1 202 BEGIN OK\n1.2 202 PLAY OK\n1.1 202 PLAY OK\n2.1 202 DISCARD OK\n1.1 403 COMMIT ERROR\n2.1 403 COMMIT ERROR\nF 1 1\n0000ffff\n",
+    ),
+    // What is refused or cannot be done yet changes no picture.
+    (
+        "1.1 PLAY 1-0 RED\n1.1 STOP 1-0\n1.1 CLEAR 1\n1.1 PLAY 1-1 BLUE\n1.1 PLAY 1-0 BLUE MIX 2\n1.1 PLAY 2-0 BLUE\nT\n",
+        "1.1 202 PLAY OK\n1.1 403 STOP ERROR\n1.1 403 CLEAR ERROR\n1.1 403 PLAY ERROR\n1.1 403 PLAY ERROR\n1.1 401 PLAY ERROR\nF 1 1\n0000ffff\n",
+    ),
+    // The colours that have a name.
+    (
+        "1.1 PLAY 1-0 WHITE\nT\n1.1 PLAY 1-0 #102030\nT\n1.1 PLAY 1-0 EMPTY\nT\n",
+        "1.1 202 PLAY OK\nF 1 1\nffffffff\n1.1 202 PLAY OK\nF 1 2\n302010ff\n1.1 202 PLAY OK\nF 1 3\n00000000\n",
+    ),
 ];
 
 #[test]
@@ -155,6 +237,48 @@ fn plays_scripts(rt: HostRuntime) -> Result<(), Fail> {
             let script = format!(in alloc; "1.1 {text}\n")?;
             let output = format!(in alloc; "1.1 400 ERROR\n1.1 {text}\n")?;
             let run = Run("run 1 1", script.as_bytes(), 0, output.as_str());
+            play(&rt, alloc, &run, piece, (&[], &[]))?;
+        }
+    }
+    Ok(())
+}
+
+/// The first line of an output, without the four bytes `1.1 ` before it.
+fn first_line(output: &[u8]) -> &[u8] {
+    match output.iter().position(|byte| *byte == b'\n') {
+        Some(end) if end >= 4 => &output[4..end],
+        _ => output,
+    }
+}
+
+#[test]
+fn answers_lines(rt: HostRuntime) -> Result<(), Fail> {
+    let alloc = rt.alloc();
+    let words = split(alloc, "run 1 1")?;
+    for (text, reply) in &ANSWERS {
+        let script = format!(in alloc; "1.1 {text}\n")?;
+        let mut input = MemSource::new(script.as_bytes().to_vec(alloc)?, 4096, Vec::new(alloc));
+        let mut output = MemSink::new(alloc, 1, 100_000, 4096, Vec::new(alloc))?;
+        let status = run_main(
+            &rt,
+            alloc,
+            words.as_slice(),
+            &mut input,
+            &mut PlainMedia,
+            &mut output,
+        );
+        assert_eq!(&rt; status, 0, "{}", *text);
+        assert_eq!(&rt; first_line(output.taken()), reply.as_bytes(), "{}", *text);
+    }
+    Ok(())
+}
+
+#[test]
+fn plays_connections(rt: HostRuntime) -> Result<(), Fail> {
+    let alloc = rt.alloc();
+    for piece in [1usize, 3, 4096] {
+        for (script, output) in &SESSIONS {
+            let run = Run("run 1 1", script.as_bytes(), 0, *output);
             play(&rt, alloc, &run, piece, (&[], &[]))?;
         }
     }

@@ -1,4 +1,4 @@
-use Rattle.std.proofs.Common.{◌≡◌, ◌<◌, length, sym, ap, arith}
+use Rattle.std.proofs.Common.{length, ap, arith}
 use Rattle.run_script.proofs.Room.{more_room}
 use Rattle.run_script.proofs.stage.largest.Goals as goal
 

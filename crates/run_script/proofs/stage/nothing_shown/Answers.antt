@@ -1,4 +1,4 @@
-use Rattle.std.proofs.Common.{◌≡◌, ◌∷◌, [], ◌++◌, replicate, sym, ap, ◌∙◌, arith}
+use Rattle.std.proofs.Common.{◌≡◌, ◌∷◌, [], ◌++◌, replicate, ap, ◌∙◌, arith}
 use Rattle.std.specs.Prelude.{None}
 use Rattle.run_script.proofs.Room.{replicate-more}
 use Rattle.run_script.proofs.stage.nothing_shown.Goals as goal

@@ -1,7 +1,6 @@
-use Rattle.std.proofs.Common.{◌≡◌, ◌∷◌, [], ◌++◌, ◌-◌, ◌<◌, length, length-append, refl, sym, ap, ◌∙◌, subst, arith}
+use Rattle.std.proofs.Common.{◌≡◌, ◌∷◌, [], ◌++◌, ◌-◌, length, length-append, refl, sym, ap, ◌∙◌, subst, arith}
 use Rattle.std.specs.Prelude.{None}
 use Rattle.std.specs.List.{position}
-use Rattle.std.specs.Vec.{vec_len}
 use Rattle.history_model.specs.ScriptHistory.{same_tag}
 use Rattle.run_script.specs.declared.clients.Client.{Client}
 use Rattle.run_script.specs.Clients.{AreClients, IsPlaceOf}

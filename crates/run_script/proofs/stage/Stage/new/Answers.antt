@@ -1,6 +1,5 @@
-use Rattle.std.proofs.Common.{◌≡◌, ◌∙◌, ◌≤◌, [], length, replicate, sym, ap, subst, arith, refl}
-use Rattle.std.specs.Prelude.{All, None, vec_capacity}
-use Rattle.run_script.specs.Stage.{HasRoom}
+use Rattle.std.proofs.Common.{◌∙◌, length, replicate, ap, arith, refl}
+use Rattle.std.specs.Prelude.{None}
 use Rattle.run_script.proofs.Beginning.{nothing_stands}
 use Rattle.run_script.proofs.stage.Stage.new.Goals as goal
 

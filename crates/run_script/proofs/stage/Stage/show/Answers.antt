@@ -1,5 +1,5 @@
-use Rattle.std.proofs.Common.{◌≡◌, ◌<◌, ◌≤◌, ◌+◌, ◌*◌, [], length, refl, sym, ap, ap₂, ◌∙◌, subst, arith}
-use Rattle.std.specs.Prelude.{Some, Err, IsOk, slice_get, vec_capacity}
+use Rattle.std.proofs.Common.{◌≡◌, ◌≤◌, ◌+◌, ◌*◌, [], length, refl, sym, ap, ap₂, ◌∙◌, subst, arith}
+use Rattle.std.specs.Prelude.{Some, IsOk, slice_get, vec_capacity}
 use Rattle.std.proofs.lemmas.Bool.{false≢true}
 use Rattle.std.proofs.lemmas.Option.{slice_get_within}
 use Rattle.play_outside.specs.Sink.{Fails}
@@ -44,8 +44,8 @@ returns-in-All-clause-shown g c = λ playout events shows inside.
     ap (λ k. slice_get k.channels c.args.at) (sym shows.config) ∙ ap (λ l. slice_get l c.args.at) (sym c.channels.ensures.value) ∙ sym c.in-Some.ensures in
     let picture = c.as_slice.ensures.value ∙ c.in-Ok.ensures.items ∙ ap (λ p. frame_bytes c.width.result c.height.result (λ x y. p)) c.pixel-pixel.ensures in
     let text = ap (λ f. frame_lines (c.args.at + 1) (c.args.self.now.ticks + 1) c.width.result c.height.result 0 f []) picture
-        ∙ ap₂ (λ w h. frame_lines (c.args.at + 1) (c.args.self.now.ticks + 1) w h 0 (frame_bytes w h (λ x y. colour_shown c.args.self.now.shown.items c.args.at)) []) c.width.ensures.value c.height.ensures.value
-        ∙ sym (channel_text-is playout c.args.self.now events c.args.at c.in-Some.channel.now shows found) in (
+    ∙ ap₂ (λ w h. frame_lines (c.args.at + 1) (c.args.self.now.ticks + 1) w h 0 (frame_bytes w h (λ x y. colour_shown c.args.self.now.shown.items c.args.at)) []) c.width.ensures.value c.height.ensures.value
+    ∙ sym (channel_text-is playout c.args.self.now events c.args.at c.in-Some.channel.now shows found) in (
       shows_frame playout c.args.self.now _ events shows (record { config = refl; names = refl; clients = refl; shown = refl; ticks = refl; room = c.paint.ensures.room }),
       c.in-All.ensures ∙ ap (after_taking (g.K.Sink.state c.args.out.now)) text,
     )
@@ -56,8 +56,8 @@ returns-in-Failed-clause-shown g c = λ playout events shows inside.
     ap (λ k. slice_get k.channels c.args.at) (sym shows.config) ∙ ap (λ l. slice_get l c.args.at) (sym c.channels.ensures.value) ∙ sym c.in-Some.ensures in
     let picture = c.as_slice.ensures.value ∙ c.in-Ok.ensures.items ∙ ap (λ p. frame_bytes c.width.result c.height.result (λ x y. p)) c.pixel-pixel.ensures in
     let text = ap (λ f. frame_lines (c.args.at + 1) (c.args.self.now.ticks + 1) c.width.result c.height.result 0 f []) picture
-        ∙ ap₂ (λ w h. frame_lines (c.args.at + 1) (c.args.self.now.ticks + 1) w h 0 (frame_bytes w h (λ x y. colour_shown c.args.self.now.shown.items c.args.at)) []) c.width.ensures.value c.height.ensures.value
-        ∙ sym (channel_text-is playout c.args.self.now events c.args.at c.in-Some.channel.now shows found) in (
+    ∙ ap₂ (λ w h. frame_lines (c.args.at + 1) (c.args.self.now.ticks + 1) w h 0 (frame_bytes w h (λ x y. colour_shown c.args.self.now.shown.items c.args.at)) []) c.width.ensures.value c.height.ensures.value
+    ∙ sym (channel_text-is playout c.args.self.now events c.args.at c.in-Some.channel.now shows found) in (
       shows_frame playout c.args.self.now _ events shows (record { config = refl; names = refl; clients = refl; shown = refl; ticks = refl; room = c.paint.ensures.room }),
       subst (λ t. Fails t (g.K.Sink.state c.args.out.now) (g.K.Sink.state c.write_hex.new.to)) text c.in-Failed.ensures,
     )

@@ -1,8 +1,8 @@
-use Rattle.std.proofs.Common.{◌≡◌, ◌<◌, ◌≤◌, ◌+◌, length, refl, sym, ap, ◌∙◌, subst, arith}
+use Rattle.std.proofs.Common.{◌≡◌, ◌<◌, length, refl, sym, ap, ◌∙◌, subst, arith}
 use Rattle.std.specs.Prelude.{Err, flat_map}
 use Rattle.std.specs.List.{range_with_len}
 use Rattle.play_outside.specs.SinkState.{after_taking}
-use Rattle.run_script.specs.Stage.{Shows, Shown, channel_text}
+use Rattle.run_script.specs.Stage.{Shown, channel_text}
 use Rattle.run_script.proofs.Showings.{shows_tick, tick_text}
 use Rattle.run_script.proofs.Ticking.{none_shown, channel_shown, channel_stopped}
 use Rattle.run_script.proofs.stage.Stage.show_all.Goals as goal

@@ -1,4 +1,4 @@
-use Rattle.std.proofs.Common.{◌≡◌, List}
+use Rattle.std.proofs.Common.{List}
 use Rattle.play_types.specs.declared.event.Event.{Event}
 use Rattle.history_model.specs.ScriptHistory.{Playout}
 use Rattle.run_script.specs.Stage.{Shows, OnlyFrame}

@@ -1,7 +1,7 @@
 use Rattle.history_model.specs.ScriptHistory.{script_events}
 use Rattle.run_script.specs.Stage.{Takes}
 use Rattle.std.proofs.Common.{subst}
-use Rattle.run_script.proofs.Lines.{ticks_taken, nothing_taken, stop_taken}
+use Rattle.run_script.proofs.Lines.{ticks_taken, nothing_taken}
 use Rattle.run_script.proofs.OneLine.{text_one_line}
 use Rattle.run_script.proofs.stage.Stage.take_line.Goals as goal
 

@@ -1,4 +1,4 @@
-use Rattle.std.proofs.Common.{◌≡◌, ◌<◌, ◌≤◌, ◌+◌, ◌++◌, refl, ap, ◌∙◌, subst, arith, replicate}
+use Rattle.std.proofs.Common.{◌≡◌, ◌++◌, refl, ap, ◌∙◌, subst, arith, replicate}
 use Rattle.play_types.specs.declared.event.Event.TheVariants as event
 use Rattle.play_outside.specs.SinkState.{after_taking}
 use Rattle.history_model.specs.ScriptOutput.{ticks_output}

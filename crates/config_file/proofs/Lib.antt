@@ -1,0 +1,5 @@
+pub mod OnLiterals
+mod Reading
+mod Told
+mod Unknown
+mod Elements

@@ -1,0 +1,6 @@
+pub mod Key
+pub mod Section
+pub mod Configuration
+pub mod Reading
+pub mod Told
+pub mod Worked

@@ -1,0 +1,70 @@
+//! The whole configuration.
+ghost use Rattle.toml.specs.View.{table_view};
+ghost use Rattle.config_file.specs.Configuration.{faults_of, values_of};
+ghost use Rattle.config_file.specs.Reading.{IsReadOf};
+ghost use Rattle.config_file.specs.Told.{IsTold};
+
+use crate::channels::{check_elements, elements_of, read_channels};
+use crate::fault::ConfigFault;
+use crate::section::Section;
+use play_types::Config;
+use std::alloc::Global;
+use toml::Table;
+
+/// Reads the configuration that the bytes of a file say.
+///
+/// The text is TOML with the keys `listen`, `media`, `rate`, `connections`, `journal_limit` and `channel`, which is an
+/// array of 1 to 16 tables with the keys `width`, `height`, `pairs` and `output`. `listen`, `media` and `output` are
+/// strings that are not empty. `rate` is 1 to 240 pulses a second, `connections` 1 to 64 or left out for 4,
+/// `journal_limit` 1 to 16,777,216 or left out for 4,194,304. `width` and `height` are 1 to 4,096, and `pairs` 0 to
+/// 4,096 or left out for 0.
+///
+/// `NotToml` comes exactly where the bytes are not UTF-8 or the text is not TOML. `Key` names the first key that is
+/// missing, of another type or out of range in the order above, all keys of one channel before the next channel, and an
+/// element of `channel` that is no table as `channel.n`, counted from 1. After all these it names the least unknown key
+/// of the top table in the order of bytes, and then the least unknown key of the first channel that has one, as
+/// `channel.n.key`.
+pub fn read_config(alloc: Global, bytes: &[u8]) -> Result<Config, ConfigFault>
+    ensures { IsReadOf bytes.now result }
+{
+    match toml::table_from_slice(alloc, bytes) {
+        Ok(table) => config_of(alloc, &table),
+        Err(fault) => {
+            if fault.is_memory() {
+                Err(ConfigFault::OutOfMemory)
+            } else {
+                Err(ConfigFault::NotToml)
+            }
+        }
+    }
+}
+
+/// The configuration that the top table says.
+fn config_of(alloc: Global, table: &Table) -> Result<Config, ConfigFault>
+    ensures { IsTold (faults_of (table_view table.now)) (values_of (table_view table.now)) result }
+{
+    let top = Section::Top;
+    let listen = top.text(alloc, table, "listen")?;
+    let media = top.text(alloc, table, "media")?;
+    let rate = top.number(alloc, table, "rate", 1, 240, None)?;
+    let connections = top.number(alloc, table, "connections", 1, 64, Some(4))?;
+    let limit = top.number(
+        alloc,
+        table,
+        "journal_limit",
+        1,
+        16_777_216,
+        Some(4_194_304),
+    )?;
+    let elements = match elements_of(table) {
+        Some(elements) => elements,
+        None => return Err(ConfigFault::at(alloc, "channel")),
+    };
+    let channels = read_channels(alloc, elements)?;
+    top.check_keys(alloc, table)?;
+    check_elements(alloc, elements)?;
+    match Config::new(listen, media, rate, connections, limit, channels) {
+        Some(config) => Ok(config),
+        None => unreachable!(),
+    }
+}

@@ -1,0 +1,4 @@
+pub mod Files
+pub mod Adding
+mod Looking
+pub mod Lowered

@@ -1,0 +1,8 @@
+-- What a file's header and its other bytes say together.
+use Rattle.std.specs.Prelude.{ℕ, List, drop}
+use Rattle.play_types.specs.ClipFile.{ClipView}
+use Rattle.clip_format.specs.declared.header.Header.{Header}
+
+-- the clip of a file with this header
+abbrev pub file_clip : Header → List ℕ → ClipView
+file_clip header bytes = record { geometry = header.size; frames = header.frames; bytes = drop 20 bytes }

@@ -1,0 +1,5 @@
+pub mod Decoding
+pub mod Lowering
+pub mod Table
+pub mod Shown
+pub mod FileClip

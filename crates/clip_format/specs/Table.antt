@@ -1,0 +1,58 @@
+-- What contracts see of the media table.
+use Rattle.std.specs.Prelude.{◌≡◌, ◌≢◌, ℕ, ◌≤◌, true, false, List, [], ◌∷◌, length, map, All, Option, Some, None, option_and_then, slice_get, Result, Ok, Err}
+use Rattle.std.specs.Ordering.{nat_cmp, is_lt}
+use Rattle.std.specs.Cmp.Lexicographic.{slice_cmp}
+use Rattle.std.specs.Str.{encode_utf8_all}
+use Rattle.play_types.specs.ClipFile.{ClipView}
+use Rattle.play_types.specs.Media.{MediaNameView, media_name_of}
+use Rattle.clip_format.specs.declared.fault.ClipFault.{ClipFault}
+use Rattle.clip_format.specs.declared.fault.ClipFault.TheVariants.{OutOfMemory}
+use Rattle.clip_format.specs.Lowering.{IsLowered}
+
+-- a name and its clip, or the fault of its file
+pub record Entry : Type 0 where
+  pub name : List ℕ
+  pub clip : Result ClipView ClipFault
+
+-- the first name's bytes come before those of the second
+abbrev pub IsBelow : List ℕ → List ℕ → Type 0
+IsBelow first second = is_lt (slice_cmp nat_cmp (encode_utf8_all first) (encode_utf8_all second)) ≡ true
+
+-- the name is above every name of the entries
+abbrev pub IsAbove : List ℕ → List Entry → Type 0
+IsAbove name entries = All (λ entry. IsBelow entry.name name) entries
+
+-- each name is below all that come after it
+abbrev pub IsRising : List Entry → Type 0
+IsRising [] = Unit {0}
+IsRising (entry ∷ entries) = All (λ later. IsBelow entry.name later.name) entries × IsRising entries
+
+-- a clip has no colour byte above its alpha, and a fault is one of the file
+abbrev pub IsReady : Result ClipView ClipFault → Type 0
+IsReady (Ok clip) = IsLowered clip
+IsReady (Err fault) = fault ≢ OutOfMemory
+
+-- the entries of a table: at most 4,294,967,295, their names rising, and their clips lowered
+pub record IsMediaTable (entries : List Entry) : Type 0 where
+  pub few : length entries ≤ 4294967295
+  pub rising : IsRising entries
+  pub ready : All (λ entry. IsReady entry.clip) entries
+
+-- the clip, where the file is readable
+abbrev pub readable : Result ClipView ClipFault → Option ClipView
+readable (Ok clip) = Some clip
+readable (Err fault) = None
+
+-- the readable clip of a number
+abbrev pub clip_at : List Entry → ℕ → Option ClipView
+clip_at entries id = option_and_then (λ entry. readable entry.clip) (slice_get entries id)
+
+-- a name with the numbers of its clip, where the file is readable
+abbrev pub media_name : List ℕ → Result ClipView ClipFault → MediaNameView
+media_name name (Ok clip) =
+    media_name_of name true clip.geometry.width clip.geometry.height clip.frames clip.geometry.pairs
+media_name name (Err fault) = media_name_of name false 0 0 0 0
+
+-- the names of a table, in its order
+abbrev pub media_names : List Entry → List MediaNameView
+media_names entries = map (λ entry. media_name entry.name entry.clip) entries

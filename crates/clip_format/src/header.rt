@@ -1,0 +1,102 @@
+//! The 20 bytes before the frames of a clip file.
+ghost use Rattle.std.specs.Prelude.{◌≡◌, ◌≢◌, ◌+◌, ◌≤◌, length, IfSome};
+ghost use Rattle.play_types.specs.ClipFile.{header_bytes};
+ghost use Rattle.clip_format.specs.Decoding.{header_fault, header_frames, header_size, is_within, number_of_2, number_of_4};
+
+use crate::fault::ClipFault;
+use play_types::Geometry;
+
+/// The bytes of a header.
+pub(crate) const HEADER_LEN: usize = 20;
+
+/// What a header says of its clip.
+#[derive(Clone, Copy)]
+pub(crate) struct Header {
+    pub(crate) size: Geometry,
+    pub(crate) frames: u32,
+}
+
+/// The header of a clip.
+pub(crate) fn header_of(size: Geometry, frames: u32) -> [u8; HEADER_LEN]
+    ensures { result ≡ header_bytes size frames }
+{
+    let [w0, w1] = size.width.to_be_bytes();
+    let [h0, h1] = size.height.to_be_bytes();
+    let [f0, f1, f2, f3] = frames.to_be_bytes();
+    let [p0, p1] = size.pairs.to_be_bytes();
+    [
+        b'R', b'C', b'L', b'P', 0, 1, 0, 0, w0, w1, h0, h1, f0, f1, f2, f3, p0, p1, 0, 0,
+    ]
+}
+
+/// The fault of the first field that is not accepted.
+#[tactic(auto, using(std::proofs::lemmas::Bool::Decides::nat_tests), unfolding(crate::specs::Decoding::header_fault))]
+pub(crate) fn fault_of(bytes: &[u8]) -> Option<ClipFault>
+    requires { 20 ≤ length bytes.now }
+    ensures value { result ≡ header_fault bytes.now }
+    ensures of_file { IfSome result (λ fault. fault ≢ ClipFault.OutOfMemory) }
+{
+    if &bytes[..4] != b"RCLP".as_slice() {
+        return Some(ClipFault::BadMagic);
+    }
+    if u16_at(bytes, 4) != 1 {
+        return Some(ClipFault::BadVersion);
+    }
+    if u16_at(bytes, 6) != 0 {
+        return Some(ClipFault::BadField { at: 6 });
+    }
+    if !(1..=4096).contains(&u16_at(bytes, 8)) {
+        return Some(ClipFault::BadField { at: 8 });
+    }
+    if !(1..=4096).contains(&u16_at(bytes, 10)) {
+        return Some(ClipFault::BadField { at: 10 });
+    }
+    if !is_frame_count(u32_at(bytes, 12)) {
+        return Some(ClipFault::BadField { at: 12 });
+    }
+    if u16_at(bytes, 16) > 4096 {
+        return Some(ClipFault::BadField { at: 16 });
+    }
+    if u16_at(bytes, 18) != 0 {
+        return Some(ClipFault::BadField { at: 18 });
+    }
+    None
+}
+
+/// The size and the number of frames that a header names.
+pub(crate) fn numbers_in(bytes: &[u8]) -> Header
+    requires { 20 ≤ length bytes.now }
+    ensures { result ≡ record { size = header_size bytes.now; frames = header_frames bytes.now } }
+{
+    Header {
+        size: Geometry {
+            width: u16_at(bytes, 8),
+            height: u16_at(bytes, 10),
+            pairs: u16_at(bytes, 16),
+        },
+        frames: u32_at(bytes, 12),
+    }
+}
+
+/// Whether a clip may have so many frames.
+fn is_frame_count(frames: u32) -> bool
+    ensures { result ≡ is_within 1 1000000 frames }
+{
+    (1..=1_000_000).contains(&frames)
+}
+
+/// The number of two bytes, the higher one first.
+fn u16_at(bytes: &[u8], at: usize) -> u16
+    requires { at + 2 ≤ length bytes.now }
+    ensures { result ≡ number_of_2 bytes.now at }
+{
+    u16::from_be_bytes([bytes[at], bytes[at + 1]])
+}
+
+/// The number of four bytes, the highest one first.
+fn u32_at(bytes: &[u8], at: usize) -> u32
+    requires { at + 4 ≤ length bytes.now }
+    ensures { result ≡ number_of_4 bytes.now at }
+{
+    u32::from_be_bytes([bytes[at], bytes[at + 1], bytes[at + 2], bytes[at + 3]])
+}

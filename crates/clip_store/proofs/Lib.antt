@@ -1,0 +1,6 @@
+pub mod Sorting
+mod Twice
+mod ClipFiles
+mod Pixels
+mod FilesRead
+mod Scans

@@ -1,0 +1,8 @@
+use Rattle.std.proofs.Common.{◌≡◌, ◌-◌, drop}
+use Rattle.clip_store.specs.Kept.{file_views}
+use Rattle.clip_store.specs.Listing.{first_twice}
+use Rattle.clip_store.proofs.names.twice.Given as goal
+
+-- no name stands twice before this place
+abbrev pub invariant-loop-at : goal.invariant-loop-at
+invariant-loop-at l = first_twice (file_views l.files) ≡ first_twice (file_views (drop (l.at - 1) l.files))

@@ -1,0 +1,7 @@
+use Rattle.std.proofs.Common.{sym, subst}
+use Rattle.clip_format.proofs.Lowered.{IsLowered-lowered_clip}
+use Rattle.clip_format.specs.Lowering.{IsLowered}
+use Rattle.clip_store.proofs.reading.ready_clip.Goals as goal
+
+pub returns-in-Ok-clause-ready : goal.returns-in-Ok-clause-ready
+returns-in-Ok-clause-ready g c = subst IsLowered (sym c.lowered.ensures) (IsLowered-lowered_clip c.in-Ok.clip c.in-Ok.ensures.is_file.ranges)

@@ -7,7 +7,6 @@ ghost use Rattle.playrun.specs.Faults.{fault_of};
 use play_outside::{FileFault, MediaDir};
 use std::alloc::Global;
 use std::io::{ErrorKind, Read};
-use std::path::Path;
 use std::rt::Files;
 use std::{fs, io};
 
@@ -48,9 +47,9 @@ impl<R: Files + AllocGlobal + Clone + Drop> MediaDir for FolderMedia<R> {
         }
     }
 
-    /// The names of the regular files in a folder, also through links. A name that is not UTF-8 is passed over.
+    /// The names of all that lies in a folder, folders and links too. A name that is not UTF-8 is passed over.
     fn names(&mut self, alloc: Global, folder: &str) -> Result<Vec<String>, FileFault> {
-        match list_files(&self.rt, alloc, folder) {
+        match list_names(&self.rt, alloc, folder) {
             Ok(names) => Ok(names),
             Err(error) => Err(self.missed(error)),
         }
@@ -76,7 +75,7 @@ fn read_file_in<R: Files>(rt: &R, alloc: Global, folder: &str, name: &str) -> io
     read_file(rt, alloc, path.as_str())
 }
 
-fn list_files<R: Files + AllocGlobal + Clone + Drop>(
+fn list_names<R: Files + AllocGlobal + Clone + Drop>(
     rt: &R,
     alloc: Global,
     folder: &str,
@@ -84,27 +83,10 @@ fn list_files<R: Files + AllocGlobal + Clone + Drop>(
     let mut names = Vec::new(alloc);
     for entry in fs::read_dir(rt, folder)? {
         match entry {
-            Ok(entry) => {
-                if is_regular(rt, entry.path())? {
-                    names.push(String::from_str(alloc, entry.file_name())?)?;
-                }
-            }
+            Ok(entry) => names.push(String::from_str(alloc, entry.file_name())?)?,
             Err(error) if matches!(error.kind(), ErrorKind::InvalidFilename) => {}
             Err(error) => return Err(error),
         }
     }
     Ok(names)
-}
-
-/// Whether the path leads to a regular file. A link that leads nowhere does not.
-fn is_regular<R: Files>(rt: &R, path: Path<'_>) -> io::Result<bool> {
-    match fs::metadata(rt, path) {
-        Ok(metadata) => Ok(metadata.is_file()),
-        Err(error)
-            if matches!(
-                error.kind(),
-                ErrorKind::NotFound | ErrorKind::FilesystemLoop
-            ) => Ok(false),
-        Err(error) => Err(error),
-    }
 }

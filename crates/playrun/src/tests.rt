@@ -2,8 +2,11 @@
 ghost use Rattle.std.specs.Prelude.{◌≤◌, IfOk};
 
 use super::*;
-use play_outside::{FileFault, MediaDir, ReadStep, Sink, Source, WriteStep};
+use play_outside::{
+    FileFault, MediaDir, MemSink, MemSource, ReadStep, Sent, Sink, Source, WriteStep, send,
+};
 use std::io::{ErrorKind, Read, Write};
+use std::rt::Files;
 use std::test::Fail;
 use std::{fs, io};
 use std_source::INTERRUPTIONS;
@@ -110,13 +113,125 @@ fn reads_files(rt: HostRuntime) -> Result<(), Fail> {
         media.bytes(alloc, "playrun_test", "inner").err(),
         Some(FileFault::Failed)
     );
-    let names = media.names(alloc, "playrun_test")?;
-    assert_eq!(rt; names.len(), 1);
-    assert_eq!(rt; names[0].as_str(), "one");
+    let mut names = media.names(alloc, "playrun_test")?;
+    names.as_mut_slice().sort_unstable();
+    assert_eq!(rt; names.len(), 2);
+    assert_eq!(rt; names[0].as_str(), "inner");
+    assert_eq!(rt; names[1].as_str(), "one");
     assert_eq!(rt;
         media.names(alloc, "playrun_test/none").err(),
         Some(FileFault::Failed)
     );
     fs::remove_dir_all(&rt, "playrun_test")?;
+    Ok(())
+}
+
+/// A clip of three frames of one pixel.
+const THREE: &[u8] =
+    b"RCLP\0\x01\0\0\0\x01\0\x01\0\0\0\x03\0\0\0\0\0\0\0\xff\0\0\x50\xff\0\0\xa0\xff";
+
+/// Configurations, each with a folder of clips, and the files of these folders.
+const FILES: [(&str, &[u8]); 9] = [
+    (
+        "playrun_show/clips.toml",
+        b"listen='l'\nmedia='playrun_show/clips'\nrate=25\nchannel=[{width=2,height=1,output='o'},{width=1,height=1,output='o'}]",
+    ),
+    (
+        "playrun_show/twice.toml",
+        b"listen='l'\nmedia='playrun_show/twice'\nrate=25\nchannel=[{width=1,height=1,output='o'}]",
+    ),
+    (
+        "playrun_show/none.toml",
+        b"listen='l'\nmedia='playrun_show/none'\nrate=25\nchannel=[{width=1,height=1,output='o'}]",
+    ),
+    (
+        "playrun_show/folder.toml",
+        b"listen='l'\nmedia='playrun_show/folder'\nrate=25\nchannel=[{width=1,height=1,output='o'}]",
+    ),
+    ("playrun_show/clips/three.rclp", THREE),
+    ("playrun_show/clips/short.RCLP", b"RCLP"),
+    ("playrun_show/clips/note.txt", THREE),
+    ("playrun_show/twice/a.rclp", THREE),
+    ("playrun_show/twice/A.Rclp", THREE),
+];
+
+/// Configurations, each with the exit status and the output of a run on it.
+const SHOWS: [(&str, u8, &str); 6] = [
+    (
+        "playrun_show/clips.toml",
+        0,
+        "1.1 200 CLS OK
+1.1 \"SHORT\" UNREADABLE
+1.1 \"THREE\" 1x1 3 0
+1.1 \n1.1 502 PLAY FAILED
+1.1 202 PLAY OK
+1.1 202 PLAY OK
+F 1 1
+0000a0ff0000a0ff
+F 2 1
+000000ff
+F 1 2
+0000a0ff0000a0ff
+F 2 2
+000050ff
+F 1 3
+0000a0ff0000a0ff
+F 2 3
+000000ff
+",
+    ),
+    ("playrun_show/twice.toml", 3, "E media twice A\n"),
+    ("playrun_show/none.toml", 4, "E device\n"),
+    // A folder with the name of a clip file is no file that can be read.
+    ("playrun_show/folder.toml", 4, "E device\n"),
+    ("playrun_show/clips", 4, "E device\n"),
+    ("playrun_show/missing.toml", 4, "E device\n"),
+];
+
+/// The script of these runs.
+const SCRIPT: &[u8] = b"1.1 CLS
+1.1 PLAY 1-0 SHORT
+1.1 PLAY 1-0 THREE SEEK 2
+1.1 PLAY 2-0 THREE LENGTH 2 LOOP
+T 3
+";
+
+fn write_file<R: Files>(rt: &R, path: &str, bytes: &[u8]) -> Result<(), Fail> {
+    match send(bytes, &mut StdSink::new(fs::create(rt, path)?)) {
+        Sent::All => Ok(()),
+        Sent::Failed => Err(Fail::new("a file is not written")),
+    }
+}
+
+#[test]
+fn plays_the_clips_of_a_folder(rt: HostRuntime) -> Result<(), Fail> {
+    let alloc = rt.alloc();
+    fs::create_dir_all(&rt, "playrun_show/clips/inner")?;
+    fs::create_dir_all(&rt, "playrun_show/twice")?;
+    fs::create_dir_all(&rt, "playrun_show/folder/inner.rclp")?;
+    for (path, bytes) in FILES {
+        write_file(&rt, path, bytes)?;
+    }
+    for (config, status, output) in SHOWS {
+        let words = vec![in alloc;
+            String::from_str(alloc, "run")?,
+            String::from_str(alloc, "--config")?,
+            String::from_str(alloc, config)?,
+        ]?;
+        let mut input = MemSource::new(SCRIPT.to_vec(alloc)?, 4096, Vec::new(alloc));
+        let mut media = FolderMedia::new(rt.clone()?);
+        let mut out = MemSink::new(alloc, 0, 1000, 4096, Vec::new(alloc))?;
+        let found = run_main(
+            &rt,
+            alloc,
+            words.as_slice(),
+            &mut input,
+            &mut media,
+            &mut out,
+        );
+        assert_eq!(&rt; found, status, "{config}");
+        assert_eq!(&rt; out.taken(), output.as_bytes(), "{config}");
+    }
+    fs::remove_dir_all(&rt, "playrun_show")?;
     Ok(())
 }

@@ -9,7 +9,7 @@ use Rattle.history_model.specs.ScriptHistory.{Playout}
 use Rattle.history_model.proofs.Outputs.{script_events-none}
 use Rattle.run_script.specs.declared.stage.Stage.{Stage}
 use Rattle.run_script.specs.Clients.{AreClients}
-use Rattle.run_script.specs.Stage.{Shows, StandsFor, IsSilent, HasBegun, HasRoom, seen}
+use Rattle.run_script.specs.Stage.{Shows, StandsFor, IsPlayedOn, HasBegun, HasRoom, seen}
 use Rattle.run_script.proofs.Connections.{no_clients}
 
 none_begun : (count : ℕ) → All (HasBegun 0) (replicate count None)
@@ -21,18 +21,16 @@ none_seen first zero = refl
 none_seen first (suc count) = ap (λ (os : List (Option model.Showing)). None ∷ os) (none_seen (first + 1) count)
 
 -- nothing is shown and nothing was said
-pub nothing_stands : (playout : Playout) (stage : Stage) → IsSilent playout → stage.config ≡ playout.config → stage.names ≡ playout.names
+pub nothing_stands : (playout : Playout) (stage : Stage) → IsPlayedOn stage.config stage.names stage.table stage.digests playout
     → stage.clients.list.items ≡ [] → All (HasRoom (vec_capacity stage.frame)) stage.config.channels
     → stage.shown.items ≡ replicate (length stage.config.channels) None → stage.ticks ≡ 0
     → StandsFor playout stage []
-nothing_stands playout stage plain config names clients room shown ticks =
-    let count = ap (λ k. length k.channels) config in
+nothing_stands playout stage on clients room shown ticks =
+    let count = ap (λ k. length k.channels) on.config in
     record {
       shows = subst (Shows playout stage) (sym (script_events-none playout)) (record {
-        config = config;
-        names = names;
-        plain = plain;
-        room = subst (λ k. All (HasRoom (vec_capacity stage.frame)) k.channels) config room;
+        on = on;
+        room = subst (λ k. All (HasRoom (vec_capacity stage.frame)) k.channels) on.config room;
         plays = tt;
         ticks = ticks;
         begun = subst (λ t. All (HasBegun t) stage.shown.items) (sym ticks) (subst (All (HasBegun 0)) (sym shown) (none_begun (length stage.config.channels)));

@@ -98,6 +98,14 @@ read_past playout false read front ended rest part none at formed =
     let both = length-append (ended_lines front) more.0 in
     inr (omega (arith, size, all, both))
 
+-- saying what went wrong lowers no count
+said_count : (said_after sink' : SinkState) (text : List ℕ) → Says text said_after sink' → said_after.faults ≤ sink'.faults
+said_count said_after sink' text says =
+    elim says [
+      | inl all ↦ (let same : sink'.faults ≡ said_after.faults = ap (λ (s : SinkState). s.faults) all in omega arith)
+      | inr fails ↦ Rose-le said_after.faults sink'.faults fails.rose
+    ]
+
 module _ (playout : Playout) (source source' : SourceState) (sink said_after sink' : SinkState) (input : List ℕ) (tells : source.left ≡ Some input) where
   given : (read : List ℕ) → Gives read source.left source'.left → (rest : List ℕ) × (input ≡ read ++ rest) × (source'.left ≡ Some rest)
   given read gives = given_front read source'.left input (subst (λ l. Gives read l source'.left) tells gives)
@@ -159,10 +167,6 @@ module _ (playout : Playout) (source source' : SourceState) (sink said_after sin
   plays WriteFault good run said = absurd (let no : 4 ≡ 0 = good in omega (arith, no))
   plays Memory good run said = absurd (let no : 5 ≡ 0 = good in omega (arith, no))
 
-  -- saying what went wrong lowers no count
-  said_count : (text : List ℕ) → Says text said_after sink' → said_after.faults ≤ sink'.faults
-  said_count text says = elim says [ inl all ↦ (let same : sink'.faults ≡ said_after.faults = ap (λ (s : SinkState). s.faults) all in omega arith) | inr fails ↦ Rose-le said_after.faults sink'.faults fails.rose ]
-
   completes : (ending : Ending) → Runs playout ending source source' sink said_after → Says (fault_line ending) said_after sink' → length input ≤ limit → list_all is_formed (until_stop (meanings (lines input))) ≡ true
       → (Rose source.faults source'.faults → ⊥) → (Rose sink.faults sink'.faults → ⊥) → (status_of ending ≡ 0) ⊎ (status_of ending ≡ 5)
   completes Finished run said short formed read_well wrote_well = inl refl
@@ -178,7 +182,7 @@ module _ (playout : Playout) (source source' : SourceState) (sink said_after sin
       absurd (omega arith)
   completes ReadFault run said short formed read_well wrote_well = absurd (read_well run.faults)
   completes WriteFault run said short formed read_well wrote_well =
-      absurd (wrote_well (Rose-then sink.faults said_after.faults sink'.faults run.ends.3.written.rose (said_count (fault_line WriteFault) said)))
+      absurd (wrote_well (Rose-then sink.faults said_after.faults sink'.faults run.ends.3.written.rose (said_count said_after sink' (fault_line WriteFault) said)))
   completes Memory run said short formed read_well wrote_well = inr refl
 
 -- an input whose lines are all of a form, over devices without a fault, is played, unless memory runs out
@@ -187,6 +191,23 @@ pub completes_run : (playout : Playout) (status : ℕ) (source source' : SourceS
 completes_run playout status source source' sink sink' run valid read_well wrote_well =
     subst (λ s. (s ≡ 0) ⊎ (s ≡ 5)) (sym run.outcome)
     (completes playout source source' sink run.said_after sink' valid.0 valid.1 run.ending run.run run.said valid.2 valid.3 read_well wrote_well)
+
+-- a run fails only where a read or a write of it failed
+fails_by : (playout : Playout) (ending : Ending) (source source' : SourceState) (sink said_after sink' : SinkState) → status_of ending ≡ 4 → Runs playout ending source source' sink said_after
+    → said_after.faults ≤ sink'.faults → Rose source.faults source'.faults ⊎ Rose sink.faults sink'.faults
+fails_by playout Finished source source' sink said_after sink' bad run said = absurd (let no : 0 ≡ 4 = bad in omega (arith, no))
+fails_by playout Stopped source source' sink said_after sink' bad run said = absurd (let no : 0 ≡ 4 = bad in omega (arith, no))
+fails_by playout (BadLine number) source source' sink said_after sink' bad run said = absurd (let no : 2 ≡ 4 = bad in omega (arith, no))
+fails_by playout TooLong source source' sink said_after sink' bad run said = absurd (let no : 2 ≡ 4 = bad in omega (arith, no))
+fails_by playout ReadFault source source' sink said_after sink' bad run said = inl run.faults
+fails_by playout WriteFault source source' sink said_after sink' bad run said =
+    inr (Rose-then sink.faults said_after.faults sink'.faults run.ends.3.written.rose said)
+fails_by playout Memory source source' sink said_after sink' bad run said = absurd (let no : 5 ≡ 4 = bad in omega (arith, no))
+
+pub device_of_run : (playout : Playout) (status : ℕ) (source source' : SourceState) (sink sink' : SinkState) → IsRun playout status source source' sink sink' → status ≡ 4
+    → Rose source.faults source'.faults ⊎ Rose sink.faults sink'.faults
+device_of_run playout status source source' sink sink' run bad =
+    fails_by playout run.ending source source' sink run.said_after sink' (sym run.outcome ∙ bad) run.run (said_count run.said_after sink' (fault_line run.ending) run.said)
 
 -- where the input tells what it has, a run with status 0 played it
 plays_all : (playout : Playout) (status : ℕ) (source source' : SourceState) (sink sink' : SinkState) → IsRun playout status source source' sink sink' → status ≡ 0

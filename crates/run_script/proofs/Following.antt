@@ -35,6 +35,7 @@ use Rattle.run_script.specs.declared.ending.Halt.TheVariants as halt
 use Rattle.run_script.specs.declared.stage.Showing.{Showing}
 use Rattle.run_script.specs.declared.stage.Stage.{Stage}
 use Rattle.run_script.specs.declared.stage.Start.{Start}
+use Rattle.run_script.proofs.Showings.{played_on_same}
 use Rattle.run_script.specs.Stage.{Shows, HasBegun, seen, Writes, Follows, IsStartOf, OnlyShown, Plays}
 
 -- the channel at a place shows another take
@@ -105,9 +106,7 @@ shows_play playout old new events tag place take shows same plays low high fits 
     let was : map (seen old.ticks) old.shown.items ≡ map (λ channel. showing channel events) (range_with_len 1 (length old.shown.items)) =
     shows.shown ∙ ap (λ (n : ℕ). map (λ channel. showing channel events) (range_with_len 1 n)) (sym kept) in
     record {
-      config = same.config ∙ shows.config;
-      names = same.names ∙ shows.names;
-      plain = shows.plain;
+      on = played_on_same playout old new shows.on same.config same.names same.table same.digests;
       room = λ k d inside. (let room = shows.room k d inside in let cap = plays.0 in omega (arith, room, cap));
       plays = IsPlayHistory-append events (event.Do tag (PlayTake place take) ∷ []) shows.plays (fits, tt);
       ticks = same.ticks ∙ shows.ticks ∙ sym (ticks-append events (event.Do tag (PlayTake place take) ∷ []) ∙ omega arith);
@@ -149,7 +148,7 @@ unbuilt_reply playout events tag command unbuilt =
 reply_text : (playout : Playout) (stage : Stage) (events : List Event) (tag : Tag) (answer answer' : Reply) → Shows playout stage events → answer ≡ answer'
     → tagged_lines tag (reply_bytes stage.config stage.names answer) ≡ reply_output playout tag (Some answer')
 reply_text playout stage events tag answer answer' shows is =
-    ap₂ (λ c n. tagged_lines tag (reply_bytes c n answer)) shows.config shows.names ∙ ap (λ a. tagged_lines tag (reply_bytes playout.config playout.names a)) is
+    ap₂ (λ c n. tagged_lines tag (reply_bytes c n answer)) shows.on.config shows.on.names ∙ ap (λ a. tagged_lines tag (reply_bytes playout.config playout.names a)) is
 
 -- a reply was written, and nothing else was done
 pub follows_reply : (playout : Playout) (result : Result (Unit {0}) Halt) (tag : Tag) (step : Step) (answer : Reply) (events : List Event) (old new : Stage) (before after : SinkState)
@@ -219,7 +218,7 @@ follows_play playout done tag command start events old new before after shows pl
     let fits : model.IsPlay (PlayTake place start.take) = subst model.IsPlay is play.5 in
     let built : is_built (PlayTake place start.take) ≡ true = ap is_built (sym is) ∙ play.4 in
     let on = subst (IsAimed old.config) is aimed in
-    let high : place.channel ≤ length playout.config.channels = subst (λ k. place.channel ≤ length k.channels) shows.config on.1 in
+    let high : place.channel ≤ length playout.config.channels = subst (λ k. place.channel ≤ length k.channels) shows.on.config on.1 in
     let shows' : Shows playout new (events ++ event.Do tag (PlayTake place start.take) ∷ []) =
     shows_play playout old new events tag place start.take shows same (subst (λ n. Plays (record { channel = n; take = start.take }) old new) (sym channel) plays) on.0 high fits in (
       refl,
@@ -243,9 +242,7 @@ ask_failed playout reason tag command start events old new before after shows pl
 -- what the channels show does not depend on the connections
 pub shows_clients : (playout : Playout) (stage : Stage) (clients : Clients) (events : List Event) → Shows playout stage events → Shows playout (record stage { clients = clients }) events
 shows_clients playout stage clients events shows = record {
-  config = shows.config;
-  names = shows.names;
-  plain = shows.plain;
+  on = shows.on;
   room = shows.room;
   plays = shows.plays;
   ticks = shows.ticks;

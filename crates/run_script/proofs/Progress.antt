@@ -2,6 +2,7 @@
 use Rattle.std.proofs.Common.{◌≡◌, ℕ, ◌+◌, ◌*◌, ◌<◌, ◌≤◌, false, true, List, [], ◌++◌, length, refl, sym, ap, ◌∙◌, subst, arith, length-append}
 use Rattle.std.specs.Prelude.{Ok, Err}
 use Rattle.std.proofs.lemmas.Bool.{false≢true}
+use Rattle.play_outside.specs.Faults.{Rose}
 use Rattle.play_outside.specs.SourceState.{SourceState}
 use Rattle.play_outside.specs.Source.{Consumes, Gives, IsAtEnd}
 use Rattle.play_outside.specs.SinkState.{SinkState}
@@ -12,7 +13,7 @@ use Rattle.run_script.specs.declared.ending.Ending.TheVariants.{Finished, Stoppe
 use Rattle.run_script.specs.declared.script.Script.{Script}
 use Rattle.run_script.specs.Script.{HasTaken}
 use Rattle.run_script.specs.Run.{limit, Ends, FaultsOf, Runs, Continues}
-use Rattle.run_script.proofs.Endings.{none_done}
+use Rattle.run_script.proofs.Endings.{none_done, taken_done}
 
 -- what was read so far was taken, and so many bytes more are allowed
 pub record HasRead (playout : Playout) (turn left : ℕ) (script : Script) (source source' : SourceState) (first state : SinkState) : Type 0 where
@@ -111,3 +112,18 @@ input_ended playout turn left script ending source source' source'' first state 
   at_end = λ e. subst IsAtEnd (sym same) at_end;
   ends = ends;
 }
+
+-- a read of the input failed
+pub read_failed : (playout : Playout) (turn left : ℕ) (script : Script) (source source' source'' : SourceState) (first state : SinkState)
+    → (before : HasRead playout turn left script source source' first state) → source''.left ≡ source'.left → Rose source'.faults source''.faults
+    → Runs playout ReadFault source source'' first state
+read_failed playout turn left script source source' source'' first state before same rose =
+    let allowed = before.allowed in
+    record {
+      read = before.read;
+      ended = false;
+      gives = subst (λ l. Gives before.read source.left l) (sym same) before.consumed.gives;
+      faults = subst (λ n. Rose n source''.faults) before.consumed.faults rose;
+      at_end = λ e. absurd (false≢true e);
+      ends = (refl, omega (arith, allowed), taken_done playout script before.read first state before.taken);
+    }

@@ -1,7 +1,7 @@
 -- What the channels show.
-use Rattle.std.proofs.Common.{◌≡◌, ℕ, zero, suc, ◌+◌, ◌-◌, ◌<◌, ◌≤◌, Bool, false, List, [], ◌∷◌, ◌++◌, length, map, refl, sym, ap, ap₂, ◌∙◌, subst, arith, get_or}
+use Rattle.std.proofs.Common.{◌≡◌, ℕ, zero, suc, ◌+◌, ◌-◌, ◌<◌, ◌≤◌, Bool, false, List, [], ◌∷◌, ◌++◌, length, map, refl, sym, ap, ap₂, ◌∙◌, subst, arith, get_or, true}
 use Rattle.std.specs.Prelude.{Option, Some, None, All, slice_get, flat_map, vec_capacity, unwrap_or}
-use Rattle.std.specs.Option.{option_map}
+use Rattle.std.specs.Option.{option_map, option_and_then}
 use Rattle.std.specs.List.{range_with_len}
 use Rattle.std.proofs.lemmas.List.{length-map}
 use Rattle.std.proofs.lemmas.List.Elements.{All-head, All-tail}
@@ -15,9 +15,9 @@ use Rattle.play_types.specs.declared.geometry.Geometry.{Geometry}
 use Rattle.play_types.specs.declared.take.Spec.{Spec}
 use Rattle.play_types.specs.declared.take.Spec.TheVariants.{Clip, Colour, RouteChannel, RouteLayer}
 use Rattle.play_types.proofs.Histories.{ticks-append}
-use Rattle.pixel_math.specs.Pixel.{PixelView, transparent}
+use Rattle.pixel_math.specs.Pixel.{PixelView}
 use Rattle.history_model.specs.FrameText.{frame_bytes, frame_lines}
-use Rattle.history_model.specs.Media.{size, no_size, clip_at}
+use Rattle.history_model.specs.Media.{Setup, size, no_size, clip_at}
 use Rattle.history_model.specs.PlayHistory.{IsPlayHistory, showing, showing_pixel, picture_pixel, shown_later}
 use Rattle.history_model.specs.PlayHistory as model
 use Rattle.history_model.specs.Raster.{scaled_clip}
@@ -27,14 +27,27 @@ use Rattle.history_model.proofs.PlayFrames.{frame_bytes-same, tick_output-plays}
 use Rattle.history_model.proofs.Plays.{showing-tick, IsPlayHistory-append}
 use Rattle.run_script.specs.declared.stage.Showing.{Showing}
 use Rattle.run_script.specs.declared.stage.Stage.{Stage}
-use Rattle.run_script.specs.Stage.{Shows, IsSilent, HasBegun, HasRoom, seen, channel_text, take_colour, colour_by, colour_shown, OnlyFrame}
+use Rattle.run_script.specs.Stage.{Shows, IsPlayedOn, HasBegun, HasRoom, seen, channel_text, frame_text, OnlyFrame}
+use Rattle.run_script.specs.Picture.{clips_of, spec_pixel, pixel_by, kept_pixel}
+use Rattle.clip_format.specs.Table.{Entry, readable}
+use Rattle.clip_format.specs.Table.{clip_at as clip_at_table}
+
+-- on the same configuration, names and clips
+pub played_on_same : (playout : Playout) (old new : Stage) → IsPlayedOn old.config old.names old.table old.digests playout
+    → new.config ≡ old.config → new.names ≡ old.names → new.table ≡ old.table → new.digests ≡ old.digests
+    → IsPlayedOn new.config new.names new.table new.digests playout
+played_on_same playout old new on config names table digests = record {
+  config = config ∙ on.config;
+  names = names ∙ on.names;
+  clips = on.clips ∙ ap clips_of (sym table);
+  digests = digests ∙ on.digests;
+  silent = on.silent;
+}
 
 -- only the room for a frame changed
 pub shows_frame : (playout : Playout) (old new : Stage) (events : List Event) → Shows playout old events → OnlyFrame old new → Shows playout new events
 shows_frame playout old new events shows same = record {
-  config = same.config ∙ shows.config;
-  names = same.names ∙ shows.names;
-  plain = shows.plain;
+  on = played_on_same playout old new shows.on same.config same.names same.table same.digests;
   room = λ k d inside. (let fits = shows.room k d inside in let more = same.room in omega (arith, fits, more));
   plays = shows.plays;
   ticks = same.ticks ∙ shows.ticks;
@@ -59,24 +72,32 @@ shown_at playout stage events at shows inside =
     ∙ ap (option_map (λ channel. showing channel events)) (slice_get-range 1 (length playout.config.channels) at inside)
     ∙ ap (λ (n : ℕ). Some (showing n events)) (let same : 1 + at ≡ at + 1 = omega arith in same)
 
--- a clip is not there, so it is transparent
-no_clip : (playout : Playout) (id frame : ℕ) (raster : Geometry) (x y : ℕ) → playout.clips ≡ [] → scaled_clip (clip_at (setup_of playout) id) frame raster x y ≡ transparent
-no_clip playout id frame raster x y none = ap (λ clips. scaled_clip (unwrap_or (slice_get clips id) None) frame raster x y) none
+-- a clip of the table is that clip of the definitions
+clip_by : (entry : Option Entry) → unwrap_or (option_map (λ (e : Entry). readable e.clip) entry) None ≡ option_and_then (λ (e : Entry). readable e.clip) entry
+clip_by None = refl
+clip_by (Some entry) = refl
 
-take_pixel : (playout : Playout) (channel frame x y : ℕ) (spec : Spec) → playout.clips ≡ [] → picture_pixel (setup_of playout) channel spec frame x y ≡ take_colour spec
-take_pixel playout channel frame x y (Clip id) none = no_clip playout id frame (size (setup_of playout) channel) x y none
-take_pixel playout channel frame x y (Colour value) none = refl
-take_pixel playout channel frame x y (RouteChannel from) none = refl
-take_pixel playout channel frame x y (RouteLayer from) none = refl
+clip_is : (playout : Playout) (entries : List Entry) (id : ℕ) → playout.clips ≡ clips_of entries → clip_at (setup_of playout) id ≡ clip_at_table entries id
+clip_is playout entries id is =
+    ap (λ clips. unwrap_or (slice_get clips id) None) is
+    ∙ ap (λ o. unwrap_or o None) (slice_get-map (λ (e : Entry). readable e.clip) entries id)
+    ∙ clip_by (slice_get entries id)
 
-pixel_by : (playout : Playout) (channel now x y : ℕ) (kept : Option (Option Showing)) (shows : Option model.Showing) → playout.clips ≡ []
-    → option_map (seen now) kept ≡ Some shows → showing_pixel (setup_of playout) channel shows x y ≡ colour_by kept
-pixel_by playout channel now x y None shows none is = absurd (none-some shows is)
-pixel_by playout channel now x y (Some None) shows none is =
+spec_is : (playout : Playout) (entries : List Entry) (channel frame x y : ℕ) (spec : Spec) → playout.clips ≡ clips_of entries
+    → picture_pixel (setup_of playout) channel spec frame x y ≡ spec_pixel entries spec frame (size (setup_of playout) channel) x y
+spec_is playout entries channel frame x y (Clip id) is = ap (λ clip. scaled_clip clip frame (size (setup_of playout) channel) x y) (clip_is playout entries id is)
+spec_is playout entries channel frame x y (Colour value) is = refl
+spec_is playout entries channel frame x y (RouteChannel from) is = refl
+spec_is playout entries channel frame x y (RouteLayer from) is = refl
+
+kept_by : (playout : Playout) (entries : List Entry) (channel now x y : ℕ) (kept : Option (Option Showing)) (shows : Option model.Showing) → playout.clips ≡ clips_of entries
+    → option_map (seen now) kept ≡ Some shows → showing_pixel (setup_of playout) channel shows x y ≡ pixel_by entries kept now (size (setup_of playout) channel) x y
+kept_by playout entries channel now x y None shows clips is = absurd (none-some shows is)
+kept_by playout entries channel now x y (Some None) shows clips is =
     ap (λ s. showing_pixel (setup_of playout) channel s x y) (sym (same_Some None shows is))
-pixel_by playout channel now x y (Some (Some one)) shows none is =
+kept_by playout entries channel now x y (Some (Some one)) shows clips is =
     ap (λ s. showing_pixel (setup_of playout) channel s x y) (sym (same_Some (Some (record { take = one.take; shown = now - one.since })) shows is))
-    ∙ take_pixel playout channel (head one.take (now - one.since)) x y one.take.spec none
+    ∙ spec_is playout entries channel (head one.take (now - one.since)) x y one.take.spec clips
 
 -- the size of a channel at a place
 size_at : (playout : Playout) (channel : ChannelView) (at : ℕ) → slice_get playout.config.channels at ≡ Some channel → size (setup_of playout) (at + 1) ≡ channel_size channel
@@ -84,32 +105,39 @@ size_at playout channel at found =
     ap (λ (n : ℕ). unwrap_or (slice_get (map channel_size playout.config.channels) n) no_size) (let same : at + 1 - 1 ≡ at = omega arith in same)
     ∙ ap (λ o. unwrap_or o no_size) (slice_get-map channel_size playout.config.channels at ∙ ap (option_map channel_size) found)
 
-pairs_at : (playout : Playout) (channel : ChannelView) (at : ℕ) → slice_get playout.config.channels at ≡ Some channel → IsSilent playout → channel.pairs ≡ 0
+pairs_at : (playout : Playout) (channel : ChannelView) (at : ℕ) → slice_get playout.config.channels at ≡ Some channel → All (λ (one : ChannelView). one.pairs ≡ 0) playout.config.channels → channel.pairs ≡ 0
 pairs_at playout channel at found silent =
     ap (λ (c : ChannelView). c.pairs) (sym (get_or_from_slice_get playout.config.channels at channel channel found))
-    ∙ silent.silent at channel (slice_get_within playout.config.channels at channel found)
+    ∙ silent at channel (slice_get_within playout.config.channels at channel found)
 
-text_by : (playout : Playout) (events : List Event) (channel : ℕ) (raster : Geometry) (colour : PixelView) → size (setup_of playout) channel ≡ raster → raster.pairs ≡ 0 → playout.digests ≡ false
-    → ((x y : ℕ) → showing_pixel (setup_of playout) channel (showing channel events) x y ≡ colour)
-    → channel_text playout events channel ≡ frame_lines channel (ticks events + 1) raster.width raster.height 0 (frame_bytes raster.width raster.height (λ x y. colour)) []
-text_by playout events channel raster colour sized silent hex same =
-    ap (λ (b : Bool). channel_output b (ticks events + 1) (setup_of playout) channel
-    (frame_bytes (size (setup_of playout) channel).width (size (setup_of playout) channel).height (showing_pixel (setup_of playout) channel (showing channel events))) []) hex
-    ∙ ap (λ (g : Geometry). frame_lines channel (ticks events + 1) g.width g.height g.pairs
-    (frame_bytes g.width g.height (showing_pixel (setup_of playout) channel (showing channel events))) []) sized
-    ∙ ap₂ (λ (pairs : ℕ) (picture : List ℕ). frame_lines channel (ticks events + 1) raster.width raster.height pairs picture []) silent
-    (frame_bytes-same raster.width raster.height (showing_pixel (setup_of playout) channel (showing channel events)) (λ x y. colour) (λ x y left right. same x y))
+output_is : (digests : Bool) (tick channel : ℕ) (setup : Setup) (raster : Geometry) (picture : List ℕ) → size setup channel ≡ raster → channel_output digests tick setup channel picture [] ≡ frame_text digests channel tick raster picture
+output_is false tick channel setup raster picture sized = ap (λ (g : Geometry). frame_lines channel tick g.width g.height g.pairs picture []) sized
+output_is true tick channel setup raster picture sized = refl
 
--- what is written for a channel is a frame of the one colour that is kept for it
-pub channel_text-is : (playout : Playout) (stage : Stage) (events : List Event) (at : ℕ) (channel : ChannelView) → Shows playout stage events
+-- what is written for a channel is a frame of the picture that is kept for it
+pub channel_text-is : (playout : Playout) (stage : Stage) (events : List Event) (at : ℕ) (channel : ChannelView) (pixel : Geometry → ℕ → ℕ → PixelView) → Shows playout stage events
     → slice_get playout.config.channels at ≡ Some channel
-    → channel_text playout events (at + 1) ≡ frame_lines (at + 1) (stage.ticks + 1) channel.width channel.height 0
-    (frame_bytes channel.width channel.height (λ x y. colour_shown stage.shown.items at)) []
-channel_text-is playout stage events at channel shows found =
+    → ((raster : Geometry) (x y : ℕ) → pixel raster x y ≡ kept_pixel stage.table stage.shown.items at stage.ticks raster x y)
+    → channel_text playout events (at + 1) ≡ frame_text stage.digests (at + 1) (stage.ticks + 1) (record { width = channel.width; height = channel.height; pairs = 0 })
+    (frame_bytes channel.width channel.height (pixel (record { width = channel.width; height = channel.height; pairs = 0 })))
+channel_text-is playout stage events at channel pixel shows found same =
     let inside = slice_get_within playout.config.channels at channel found in
-    text_by playout events (at + 1) (channel_size channel) (colour_shown stage.shown.items at) (size_at playout channel at found) (pairs_at playout channel at found shows.plain) shows.plain.digests
-    (λ x y. pixel_by playout (at + 1) stage.ticks x y (slice_get stage.shown.items at) (showing (at + 1) events) shows.plain.clips (shown_at playout stage events at shows inside))
-    ∙ ap (λ (t : ℕ). frame_lines (at + 1) (t + 1) channel.width channel.height 0 (frame_bytes channel.width channel.height (λ x y. colour_shown stage.shown.items at)) []) (sym shows.ticks)
+    let setup = setup_of playout in
+    let raster : Geometry = record { width = channel.width; height = channel.height; pairs = 0 } in
+    let sized : size setup (at + 1) ≡ raster =
+    size_at playout channel at found ∙ ap (λ (p : ℕ). record { width = channel.width; height = channel.height; pairs = p }) (pairs_at playout channel at found shows.on.silent) in
+    let picture : frame_bytes (size setup (at + 1)).width (size setup (at + 1)).height (showing_pixel setup (at + 1) (showing (at + 1) events)) ≡ frame_bytes channel.width channel.height (pixel raster) =
+    ap (λ (g : Geometry). frame_bytes g.width g.height (showing_pixel setup (at + 1) (showing (at + 1) events))) sized
+    ∙ frame_bytes-same channel.width channel.height (showing_pixel setup (at + 1) (showing (at + 1) events)) (pixel raster)
+    (λ x y left right.
+    kept_by playout stage.table (at + 1) stage.ticks x y (slice_get stage.shown.items at) (showing (at + 1) events) shows.on.clips (shown_at playout stage events at shows inside)
+    ∙ ap (λ (g : Geometry). kept_pixel stage.table stage.shown.items at stage.ticks g x y) sized
+    ∙ sym (same raster x y)) in
+    output_is playout.digests (ticks events + 1) (at + 1) setup raster
+    (frame_bytes (size setup (at + 1)).width (size setup (at + 1)).height (showing_pixel setup (at + 1) (showing (at + 1) events))) sized
+    ∙ ap₂ (λ (b : Bool) (t : ℕ). frame_text b (at + 1) (t + 1) raster
+    (frame_bytes (size setup (at + 1)).width (size setup (at + 1)).height (showing_pixel setup (at + 1) (showing (at + 1) events)))) (sym shows.on.digests) (sym shows.ticks)
+    ∙ ap (frame_text stage.digests (at + 1) (stage.ticks + 1) raster) picture
 
 -- there is room for its frame
 pub room_at : (playout : Playout) (stage : Stage) (events : List Event) (at : ℕ) (channel : ChannelView) → Shows playout stage events → slice_get playout.config.channels at ≡ Some channel
@@ -122,7 +150,7 @@ room_at playout stage events at channel shows found =
 pub tick_text : (playout : Playout) (stage : Stage) (events : List Event) → Shows playout stage events
     → tick_output playout events ≡ flat_map (channel_text playout events) (range_with_len 1 (length playout.config.channels))
 tick_text playout stage events shows =
-    tick_output-plays playout events shows.plain.silent shows.plays
+    tick_output-plays playout events shows.on.silent shows.plays
     ∙ ap (λ (n : ℕ). flat_map (channel_text playout events) (range_with_len 1 n)) (length-map playout.config.channels channel_size)
 
 -- one tick more
@@ -149,15 +177,13 @@ begun_later now None begun = tt
 begun_later now (Some one) begun = omega (arith, begun)
 
 pub shows_tick : (playout : Playout) (old new : Stage) (events : List Event) → Shows playout old events
-    → new.config ≡ old.config → new.names ≡ old.names → new.shown ≡ old.shown → new.ticks ≡ old.ticks + 1 → vec_capacity old.frame ≤ vec_capacity new.frame
+    → new.config ≡ old.config → new.names ≡ old.names → new.table ≡ old.table → new.digests ≡ old.digests → new.shown ≡ old.shown → new.ticks ≡ old.ticks + 1 → vec_capacity old.frame ≤ vec_capacity new.frame
     → Shows playout new (events ++ event.Tick ∷ [])
-shows_tick playout old new events shows config names shown now room =
+shows_tick playout old new events shows config names table digests shown now room =
     let items = ap (λ (v : _). v.items) shown in
     let numbers = range_with_len 1 (length playout.config.channels) in
     record {
-      config = config ∙ shows.config;
-      names = names ∙ shows.names;
-      plain = shows.plain;
+      on = played_on_same playout old new shows.on config names table digests;
       room = λ k d inside. (let fits = shows.room k d inside in omega (arith, fits, room));
       plays = IsPlayHistory-append events (event.Tick ∷ []) shows.plays (tt, tt);
       ticks = now ∙ ap (λ (t : ℕ). t + 1) shows.ticks ∙ sym (ticks-append events (event.Tick ∷ []));

@@ -2,6 +2,9 @@ pub mod Ending
 pub mod Line
 pub mod Clients
 pub mod Words
+pub mod Picture
+pub mod Form
+pub mod Setup
 pub mod Stage
 pub mod Script
 pub mod Run

@@ -1,22 +1,36 @@
 -- What the program promises of a run.
-use Rattle.std.specs.Prelude.{◌≡◌, ◌≢◌, ℕ, ◌<◌, ◌≤◌, ◌⊎◌, Bool, true, false, Option, Some, List, [], ◌∷◌, ◌++◌, length, IfSome}
+use Rattle.std.specs.Prelude.{◌≡◌, ◌≢◌, ℕ, ◌<◌, ◌≤◌, ◌⊎◌, Bool, true, false, Option, Some, Ok, Err, List, [], ◌∷◌, ◌++◌, length, IfSome}
 use Rattle.std.specs.List.{list_all}
+use Rattle.std.specs.Str.{encode_utf8_all}
 use Rattle.std.specs.Str.Lines.{lines}
+use Rattle.play_types.specs.Config.{ConfigView}
+use Rattle.play_outside.specs.Faults.{Rose}
+use Rattle.play_outside.specs.FolderState.{FolderState, Files}
+use Rattle.play_outside.specs.Folder.{config_at}
 use Rattle.play_outside.specs.SourceState.{SourceState}
 use Rattle.play_outside.specs.SinkState.{SinkState, after_taking}
 use Rattle.play_outside.specs.Sink.{Fails}
+use Rattle.clip_format.specs.Table.{Entry}
+use Rattle.clip_store.specs.Scan.{scanned}
 use Rattle.history_model.specs.Script.{ScriptLine, NoForm, until_stop}
 use Rattle.history_model.specs.ScriptHistory.{Playout, Played, ends_at, goes_on}
 use Rattle.history_model.specs.ScriptInput.{ended_lines}
 use Rattle.history_model.specs.ScriptOutput.{script_output}
 use Rattle.run_script.specs.declared.ending.Ending.{Ending}
 use Rattle.run_script.specs.Ending.{status_of, fault_line, usage_line}
+use Rattle.run_script.specs.declared.setup.Show.{Show}
+use Rattle.run_script.specs.declared.setup.SetupFault.{SetupFault}
+use Rattle.run_script.specs.Form.{Form, Plain, Configured}
+use Rattle.run_script.specs.Picture.{clips_of}
 use Rattle.run_script.specs.Script.{meanings, said_by}
+use Rattle.run_script.specs.Setup.{IsAccepted, SetsUp}
+use Rattle.run_script.specs.Setup as setup
 use Rattle.run_script.specs.Run.{limit, Runs}
+use Rattle.run_script.specs.Words.{plain_playout}
 
 -- the exit statuses that come
 abbrev pub IsStatus : ℕ → Type 0
-IsStatus status = (status ≡ 0) ⊎ (status ≡ 1) ⊎ (status ≡ 2) ⊎ (status ≡ 4) ⊎ (status ≡ 5)
+IsStatus status = status ≤ 5
 
 -- the text was written, or a write of it failed after a front of it
 abbrev pub Says : List ℕ → SinkState → SinkState → Type 0
@@ -62,7 +76,7 @@ pub record PlaysAll (playout : Playout) (input : List ℕ) (after : Option (List
   pub ended : ((goes_on playout played ≡ true) × (rest ≡ [])) ⊎ EndsAtLine playout played read rest
   pub written : sink' ≡ after_taking sink (script_output playout played)
 
--- where the input tells what it had, it was played to its end or to its first stop
+-- where the input tells what it had, it was played to its end or to a line at which the run ends
 abbrev pub IsPlayed : Playout → SourceState → SourceState → SinkState → SinkState → Type 0
 IsPlayed playout source source' sink sink' =
     IfSome source.left (λ input. PlaysAll playout input source'.left sink sink')
@@ -71,3 +85,52 @@ IsPlayed playout source source' sink sink' =
 -- the input tells what it has: its lines up to the first stop are all of a form, and it is not too long
 abbrev pub IsValid : SourceState → Type 0
 IsValid source = (input : List ℕ) × (source.left ≡ Some input) × (length input ≤ limit) × (list_all is_formed (until_stop (meanings (lines input))) ≡ true)
+
+-- what a script is played on that was set up
+abbrev pub playout_of : Show → Bool → Playout
+playout_of show digests =
+    record { config = show.config; names = show.names; clips = clips_of show.table; digests = digests }
+
+-- nothing was set up: nothing is read, and the output says why
+pub record IsRefused (file : List ℕ) (status : ℕ) (media media' : FolderState) (source source' : SourceState) (sink sink' : SinkState) : Type 0 where
+  pub fault : SetupFault
+  pub outcome : status ≡ setup.status_of fault
+  pub refused : SetsUp file (Err fault) media media'
+  pub unread : source' ≡ source
+  pub said : Says (setup.fault_line fault) sink sink'
+
+-- a run on the configuration of this path and the clips of its folder
+pub record IsConfigured (file : List ℕ) (digests : Bool) (status : ℕ) (media media' : FolderState) (source source' : SourceState) (sink sink' : SinkState) : Type 0 where
+  pub show : Show
+  pub set_up : SetsUp file (Ok show) media media'
+  pub run : IsRun (playout_of show digests) status source source' sink sink'
+
+-- what words of a form do
+abbrev pub Does : Form → ℕ → FolderState → FolderState → SourceState → SourceState → SinkState → SinkState → Type 0
+Does (Plain size) status media media' source source' sink sink' =
+    (media' ≡ media) × IsRun (plain_playout size.width size.height) status source source' sink sink'
+Does (Configured file digests) status media media' source source' sink sink' =
+    IsRefused file status media media' source source' sink sink'
+    ⊎ IsConfigured file digests status media media' source source' sink sink'
+
+-- where the input tells what it had, it was played to its end or to a line at which the run ends, on what the words name
+abbrev pub Finishes : Form → FolderState → FolderState → SourceState → SourceState → SinkState → SinkState → Type 0
+Finishes (Plain size) media media' source source' sink sink' =
+    (media' ≡ media) × IsPlayed (plain_playout size.width size.height) source source' sink sink'
+Finishes (Configured file digests) media media' source source' sink sink' =
+    (show : Show) × SetsUp file (Ok show) media media' × IsPlayed (playout_of show digests) source source' sink sink'
+
+-- the files have a configuration at the path that is accepted and has no sound, and the clips of its folder give a table
+pub record IsComplete (file : List ℕ) (files : Files) : Type 0 where
+  pub bytes : List ℕ
+  pub held : config_at file files ≡ Some bytes
+  pub config : ConfigView
+  pub accepted : IsAccepted bytes config
+  pub table : List Entry
+  pub clips : scanned (encode_utf8_all config.media) files ≡ Ok table
+
+-- what the words name can be set up: with a configuration, where the folder tells its files and no read of it fails
+abbrev pub CanBeSetUp : Form → FolderState → FolderState → Type 0
+CanBeSetUp (Plain size) media media' = Unit {0}
+CanBeSetUp (Configured file digests) media media' =
+    (files : Files) × (media.files ≡ Some files) × IsComplete file files × (Rose media.faults media'.faults → ⊥)

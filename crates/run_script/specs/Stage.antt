@@ -1,19 +1,19 @@
 -- What the stage stands for, and what a line makes of it.
-use Rattle.std.specs.Prelude.{◌≡◌, ◌≢◌, ℕ, ◌+◌, ◌-◌, ◌*◌, ◌<◌, ◌≤◌, Bool, true, false, Option, Some, None, IfSome, IfOk, Result, Ok, Err, List, [], ◌∷◌, ◌++◌, length, map, set, slice_get, All, vec_capacity}
+use Rattle.std.specs.Prelude.{◌≡◌, ◌≢◌, ℕ, ◌+◌, ◌-◌, ◌*◌, ◌<◌, ◌≤◌, Bool, true, false, Option, Some, None, IfSome, IfOk, Result, Ok, Err, List, [], ◌∷◌, ◌++◌, length, map, set, All, vec_capacity}
 use Rattle.std.specs.List.{range_with_len}
-use Rattle.play_types.specs.Config.{ChannelView}
+use Rattle.play_types.specs.Config.{ConfigView, ChannelView}
+use Rattle.play_types.specs.Media.{MediaNameView}
 use Rattle.play_types.specs.Place.{PlaceView}
 use Rattle.play_types.specs.History.{ticks}
 use Rattle.play_types.specs.declared.command.Cmd.{Cmd}
 use Rattle.play_types.specs.declared.command.Cmd.TheVariants.{PlayTake}
 use Rattle.play_types.specs.declared.event.Tag.{Tag}
 use Rattle.play_types.specs.declared.event.Event.{Event}
-use Rattle.play_types.specs.declared.take.Spec.{Spec}
-use Rattle.play_types.specs.declared.take.Spec.TheVariants.{Colour}
-use Rattle.pixel_math.specs.Pixel.{PixelView, transparent, colour_pixel}
+use Rattle.play_types.specs.declared.geometry.Geometry.{Geometry}
 use Rattle.play_outside.specs.SinkState.{SinkState, after_taking}
 use Rattle.play_outside.specs.Sink.{Fails}
-use Rattle.history_model.specs.FrameText.{frame_bytes}
+use Rattle.clip_format.specs.Table.{Entry}
+use Rattle.history_model.specs.FrameText.{frame_bytes, frame_lines, digest_line}
 use Rattle.history_model.specs.Media.{size}
 use Rattle.history_model.specs.PlayHistory.{IsPlayHistory, showing, showing_pixel}
 use Rattle.history_model.specs.PlayHistory as model
@@ -27,6 +27,7 @@ use Rattle.run_script.specs.declared.stage.Showing.{Showing}
 use Rattle.run_script.specs.declared.stage.Stage.{Stage}
 use Rattle.run_script.specs.declared.stage.Start.{Start}
 use Rattle.run_script.specs.Clients.{AreClients}
+use Rattle.run_script.specs.Picture.{clips_of}
 
 -- what a channel shows after so many ticks
 abbrev pub seen : ℕ → Option Showing → Option model.Showing
@@ -41,17 +42,17 @@ HasBegun now one = IfSome one (λ showing. showing.since ≤ now)
 abbrev pub HasRoom : ℕ → ChannelView → Type 0
 HasRoom room channel = 4 * channel.width * channel.height ≤ room
 
--- no channel has sound, there are no clips, and frames are written in hexadecimal
-pub record IsSilent (playout : Playout) : Type 0 where
-  pub clips : playout.clips ≡ []
-  pub digests : playout.digests ≡ false
+-- a script is played on this configuration, whose channels have no sound, with these names and clips
+pub record IsPlayedOn (channels : ConfigView) (listed : List MediaNameView) (table : List Entry) (as_digests : Bool) (playout : Playout) : Type 0 where
+  pub config : channels ≡ playout.config
+  pub names : listed ≡ playout.names
+  pub clips : playout.clips ≡ clips_of table
+  pub digests : as_digests ≡ playout.digests
   pub silent : All (λ channel. channel.pairs ≡ 0) playout.config.channels
 
 -- the stage stands where these events put it: they only play clips and colours on layer 0, and tick
 pub record Shows (playout : Playout) (stage : Stage) (events : List Event) : Type 0 where
-  pub config : stage.config ≡ playout.config
-  pub names : stage.names ≡ playout.names
-  pub plain : IsSilent playout
+  pub on : IsPlayedOn stage.config stage.names stage.table stage.digests playout
   pub room : All (HasRoom (vec_capacity stage.frame)) playout.config.channels
   pub plays : IsPlayHistory events
   pub ticks : stage.ticks ≡ ticks events
@@ -86,23 +87,17 @@ channel_text playout events channel =
     channel_output playout.digests (ticks events + 1) setup channel
     (frame_bytes (size setup channel).width (size setup channel).height (showing_pixel setup channel (showing channel events))) []
 
--- the pixel that a channel shows everywhere, named by its place from 0
-abbrev pub take_colour : Spec → PixelView
-take_colour (Colour value) = colour_pixel value
-take_colour other = transparent
-
-abbrev pub colour_by : Option (Option Showing) → PixelView
-colour_by None = transparent
-colour_by (Some None) = transparent
-colour_by (Some (Some one)) = take_colour one.take.spec
-
-abbrev pub colour_shown : List (Option Showing) → ℕ → PixelView
-colour_shown shown at = colour_by (slice_get shown at)
+-- what is written for a frame of this size without sound: its lines, or its digest
+abbrev pub frame_text : Bool → ℕ → ℕ → Geometry → List ℕ → List ℕ
+frame_text false channel tick size picture = frame_lines channel tick size.width size.height size.pairs picture []
+frame_text true channel tick size picture = digest_line channel tick picture []
 
 -- all but the picture in the room for a frame is as before
 pub record OnlyFrame (old new : Stage) : Type 0 where
   pub config : new.config ≡ old.config
   pub names : new.names ≡ old.names
+  pub table : new.table ≡ old.table
+  pub digests : new.digests ≡ old.digests
   pub clients : new.clients ≡ old.clients
   pub shown : new.shown ≡ old.shown
   pub ticks : new.ticks ≡ old.ticks
@@ -137,6 +132,8 @@ Follows playout (Err halt.NoForm) tag step events new before after = ⊥
 pub record OnlyShown (old new : Stage) : Type 0 where
   pub config : new.config ≡ old.config
   pub names : new.names ≡ old.names
+  pub table : new.table ≡ old.table
+  pub digests : new.digests ≡ old.digests
   pub clients : new.clients ≡ old.clients
   pub ticks : new.ticks ≡ old.ticks
 

@@ -4,16 +4,24 @@
 mod answer;
 mod clients;
 mod ending;
+mod form;
 mod frame;
 mod line;
 mod numbers;
+mod picture;
 mod plain;
+mod program;
 mod reply;
 mod run;
 mod script;
+mod setup;
+#[cfg(test)]
+mod setup_tests;
+#[cfg(test)]
+mod show_tests;
 mod stage;
 #[cfg(test)]
 mod tests;
 mod words;
 
-pub use run::run_main;
+pub use program::run_main;

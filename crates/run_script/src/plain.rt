@@ -1,13 +1,29 @@
 //! A run that names a width and a height alone.
-ghost use Rattle.std.specs.Prelude.{◌≡◌, IfOk, codes};
+ghost use Rattle.std.specs.Prelude.{◌≡◌, false, IfOk, codes};
 ghost use Rattle.play_types.specs.Geometry.{IsSize};
 ghost use Rattle.history_model.specs.ScriptOutput.{plain_config};
+ghost use Rattle.run_script.specs.Program.{playout_of};
+ghost use Rattle.run_script.specs.Words.{plain_playout};
 
-use play_types::{Channel, ChannelList, Config, Text};
+use crate::setup::Show;
+use clip_format::MediaTable;
+use play_types::{Channel, ChannelList, Config, Geometry, MediaNames, Text};
 use std::alloc::{AllocError, Global};
 
+/// What is played where the words name a width and a height alone: one channel of this size, without clips.
+pub fn plain_show(alloc: Global, size: Geometry) -> Result<Show, AllocError>
+    requires { IsSize size.width size.height 0 }
+    ensures { IfOk result (λ show. playout_of show false ≡ plain_playout size.width size.height) }
+{
+    Ok(Show {
+        config: plain_config(alloc, size.width, size.height)?,
+        table: MediaTable::empty(alloc)?,
+        names: MediaNames::new(alloc),
+    })
+}
+
 /// The configuration of a run that names a width and a height alone.
-pub fn plain_config(alloc: Global, width: u16, height: u16) -> Result<Config, AllocError>
+fn plain_config(alloc: Global, width: u16, height: u16) -> Result<Config, AllocError>
     requires { IsSize width height 0 }
     ensures { IfOk result (λ config. config ≡ plain_config width height) }
 {

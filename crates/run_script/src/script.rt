@@ -4,11 +4,12 @@ ghost use Rattle.play_outside.specs.SinkState.{SinkState};
 ghost use Rattle.history_model.specs.ScriptHistory.{Playout};
 ghost use Rattle.run_script.specs.Run.{Ends, limit};
 ghost use Rattle.run_script.specs.Script.{HasTaken, Goes, GoesOver};
-ghost use Rattle.run_script.specs.Stage.{IsSilent};
+ghost use Rattle.run_script.specs.Stage.{IsPlayedOn};
 
 use crate::ending::{Ending, Halt};
 use crate::reply::without_return;
 use crate::stage::Stage;
+use clip_format::MediaTable;
 use play_outside::Sink;
 use play_types::{Config, MediaNames};
 use std::alloc::{AllocError, Global};
@@ -26,16 +27,22 @@ pub struct Script {
 }
 
 impl Script {
-    /// Nothing was taken yet, on channels without sound and without clips.
-    pub fn new(alloc: Global, config: Config, names: MediaNames) -> Result<Script, AllocError>
+    /// Nothing was taken yet, on channels without sound.
+    pub fn new(
+        alloc: Global,
+        config: Config,
+        names: MediaNames,
+        table: MediaTable,
+        digests: bool,
+    ) -> Result<Script, AllocError>
         ensures small { IfOk result (λ script. (script.stage.ticks ≡ 0) × (script.lines ≡ 0)) }
-        ensures taken { IfOk result (λ script. (playout : Playout) (first : SinkState) → IsSilent playout → config ≡ playout.config → names ≡ playout.names
+        ensures taken { IfOk result (λ script. (playout : Playout) (first : SinkState) → IsPlayedOn config names table digests playout
             → HasTaken playout script [] first first) }
     {
         Ok(Script {
             waiting: Vec::new(alloc),
             lines: 0,
-            stage: Stage::new(alloc, config, names)?,
+            stage: Stage::new(alloc, config, names, table, digests)?,
         })
     }
 

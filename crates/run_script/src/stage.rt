@@ -1,29 +1,29 @@
 //! The stage: what each channel shows, how many ticks there were, and the connections that ask it.
-ghost use Rattle.std.specs.Prelude.{◌≡◌, ◌+◌, ◌&&◌, ◌<◌, ◌≤◌, ◌^◌, ◌∷◌, ◌++◌, List, ℕ, Some, None, [], IfOk, IfSome, All, true, false, length, replicate, slice_get};
+ghost use Rattle.std.specs.Prelude.{◌≡◌, ◌+◌, ◌*◌, ◌&&◌, ◌<◌, ◌≤◌, ◌^◌, ◌∷◌, ◌++◌, List, ℕ, Some, None, [], IfOk, IfSome, All, true, false, length, replicate, slice_get};
 ghost use Rattle.std.specs.List.{list_any};
 ghost use Rattle.amcp_text.specs.Lines.{is_line_end};
 ghost use Rattle.play_types.specs.declared.event.Event.{Event};
 ghost use Rattle.play_types.specs.declared.event.Event.TheVariants.{Tick};
+ghost use Rattle.play_outside.specs.Sink.{Sends};
 ghost use Rattle.history_model.specs.ReplyText.{IsReplyTo, reply_bytes};
-ghost use Rattle.history_model.specs.Script.{meaning};
-ghost use Rattle.history_model.specs.ScriptHistory.{Playout, Played, goes_on};
+ghost use Rattle.history_model.specs.Script.{Said, meaning};
+ghost use Rattle.history_model.specs.ScriptHistory.{Playout, Played, goes_on, is_cut, is_picture};
 ghost use Rattle.history_model.specs.ScriptOutput.{tagged_lines, tick_output, ticks_output};
-ghost use Rattle.history_model.specs.Script.{Said};
-ghost use Rattle.history_model.specs.ScriptHistory.{is_cut, is_picture};
 ghost use Rattle.history_model.specs.Session.{Ask};
 ghost use Rattle.history_model.specs.CommandChannels.{IsAimed};
 ghost use Rattle.play_session.specs.Seen.{seen};
 ghost use Rattle.play_session.specs.Session.{Fits};
 ghost use Rattle.play_types.specs.declared.command.Cmd.{Cmd};
-ghost use Rattle.run_script.specs.Stage.{Shows, StandsFor, IsSilent, HasRoom, Takes, HasShown, Shown, Writes, Follows, Plays, channel_text, colour_shown, IsStartOf, OnlyFrame, OnlyShown};
+ghost use Rattle.run_script.specs.Stage.{Shows, StandsFor, IsPlayedOn, HasRoom, Takes, HasShown, Shown, Writes, Follows, Plays, channel_text, frame_text, IsStartOf, OnlyFrame, OnlyShown};
 
 use crate::answer::answer;
 use crate::clients::Clients;
 use crate::ending::Halt;
 use crate::frame::paint;
 use crate::line::{Line, meaning};
-use frame_writer::write_hex;
-use pixel_math::Pixel;
+use crate::picture::picture_of;
+use clip_format::MediaTable;
+use frame_writer::{write_digest, write_hex};
 use play_outside::{Sent, Sink};
 use play_session::{Step, name_of};
 use play_types::{Cmd, Config, Geometry, Kind, MediaNames, Name, Reply, Spec, Tag, Take};
@@ -43,12 +43,14 @@ pub struct Start {
     pub take: Take,
 }
 
-/// The configuration and the names of the media table, the connections, what layer 0 of each channel shows, the number of
-/// ticks, and the room for a frame.
+/// The configuration, the names of the media table and its clips, whether frames are written as digests, the connections,
+/// what layer 0 of each channel shows, the number of ticks, and the room for a frame.
 #[derive(Drop)]
 pub struct Stage {
     pub config: Config,
     pub names: MediaNames,
+    pub table: MediaTable,
+    pub digests: bool,
     pub clients: Clients,
     pub shown: Vec<Option<Showing>>,
     pub ticks: u64,
@@ -57,9 +59,15 @@ pub struct Stage {
 
 impl Stage {
     /// Nothing is shown yet, and no connection has said anything. It takes the room for a frame of the largest channel.
-    pub fn new(alloc: Global, config: Config, names: MediaNames) -> Result<Stage, AllocError>
+    pub fn new(
+        alloc: Global,
+        config: Config,
+        names: MediaNames,
+        table: MediaTable,
+        digests: bool,
+    ) -> Result<Stage, AllocError>
         ensures ticks { IfOk result (λ stage. stage.ticks ≡ 0) }
-        ensures stands { IfOk result (λ stage. (playout : Playout) → IsSilent playout → config ≡ playout.config → names ≡ playout.names
+        ensures stands { IfOk result (λ stage. (playout : Playout) → IsPlayedOn config names table digests playout
             → StandsFor playout stage []) }
     {
         let room = largest(&config);
@@ -68,6 +76,8 @@ impl Stage {
         Ok(Stage {
             config,
             names,
+            table,
+            digests,
             clients: Clients::new(alloc),
             shown,
             ticks: 0,
@@ -147,35 +157,29 @@ impl Stage {
             height: channel.height(),
             pairs: 0,
         };
-        let pixel = self.pixel(at);
-        match paint(&mut self.frame, size.width, size.height, pixel) {
+        let picture = picture_of(&self.table, self.shown.as_slice(), at, self.ticks);
+        match paint(&mut self.frame, size, &picture) {
             Ok(()) => {}
             Err(_) => return Err(Halt::Memory),
         }
-        match write_hex(
-            at as u8 + 1,
-            self.ticks + 1,
-            size,
-            self.frame.as_slice(),
-            &[],
-            out,
-        ) {
+        match self.write(at as u8 + 1, size, out) {
             Sent::All => Ok(()),
             Sent::Failed => Err(Halt::Write),
         }
     }
 
-    /// The pixel that a channel shows everywhere. The channel is named by its place, from 0.
-    fn pixel(&self, at: usize) -> Pixel
-        ensures { result ≡ colour_shown self.now.shown.items at }
+    /// Writes the frame of a channel of this size at the next tick: its lines, or its digest.
+    fn write<K: Sink>(&self, channel: u8, size: Geometry, out: &mut K) -> Sent
+        requires ticks { self.now.ticks < 2 ^ 63 + 2 ^ 32 }
+        requires silent { size.pairs ≡ 0 }
+        requires whole { length self.now.frame.items ≡ 4 * size.width * size.height }
+        ensures { Sends result (frame_text self.now.digests channel (self.now.ticks + 1) size self.now.frame.items) (K.state out.old) (K.state out.new) }
     {
-        match self.shown.get(at) {
-            Some(Some(showing)) => match showing.take.spec() {
-                Spec::Colour(colour) => Pixel::colour(colour),
-                _ => Pixel::transparent(),
-            },
-            _ => Pixel::transparent(),
+        let tick = self.ticks + 1;
+        if self.digests {
+            return write_digest(channel, tick, self.frame.as_slice(), &[], out);
         }
+        write_hex(channel, tick, size, self.frame.as_slice(), &[], out)
     }
 
     /// Takes a line of a connection.

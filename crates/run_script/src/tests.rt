@@ -2,7 +2,7 @@
 ghost use Rattle.std.specs.Prelude.{◌<◌};
 
 use crate::run_main;
-use play_outside::{MemSink, MemSource, PlainMedia};
+use play_outside::{MediaDir, MemSink, MemSource, PlainMedia};
 use std::alloc::Global;
 use std::process::Abort;
 use std::test::Fail;
@@ -10,7 +10,7 @@ use std::thread::Threads;
 
 /// A run: its words, its script, its exit status and its output.
 #[derive(Clone, Copy)]
-struct Run<'a>(&'a str, &'a [u8], u8, &'a str);
+pub struct Run<'a>(pub &'a str, pub &'a [u8], pub u8, pub &'a str);
 
 /// The words of a command line.
 fn split(alloc: Global, line: &str) -> Result<Vec<String>, Fail> {
@@ -31,10 +31,23 @@ fn play<R: Abort + Threads + Sync>(
 ) -> Result<(), Fail>
     requires { 0 < piece }
 {
+    play_on(rt, alloc, run, piece, faults, &mut PlainMedia)
+}
+
+/// Plays a script on what a folder holds, in the same way.
+pub fn play_on<R: Abort + Threads + Sync, M: MediaDir>(
+    rt: &R,
+    alloc: Global,
+    run: &Run<'_>,
+    piece: usize,
+    faults: (&[u64], &[u64]),
+    media: &mut M,
+) -> Result<(), Fail>
+    requires { 0 < piece }
+{
     let words = split(alloc, run.0)?;
     let mut input = MemSource::new(run.1.to_vec(alloc)?, piece, faults.0.to_vec(alloc)?);
     let mut output = MemSink::new(alloc, 1, 100_000, piece, faults.1.to_vec(alloc)?)?;
-    let media = &mut PlainMedia;
     let status = run_main(rt, alloc, words.as_slice(), &mut input, media, &mut output);
     assert_eq!(rt; status, run.2, "{}", run.0);
     assert_eq!(rt; output.taken(), run.3.as_bytes(), "{}", run.0);

@@ -1,23 +1,24 @@
-use Rattle.std.proofs.Common.{[], length, refl, ap, ◌∙◌, arith}
+use Rattle.std.proofs.Common.{ℕ, [], length, refl, ap, ◌∙◌, arith}
 use Rattle.std.specs.Prelude.{flat_map}
 use Rattle.std.specs.List.{range_with_len}
 use Rattle.pixel_math.specs.Pixel.{pixel_bytes}
+use Rattle.run_script.specs.Picture.{shown_pixel}
 use Rattle.run_script.proofs.Rows.{pieces_more, rows_fit, length-frame_bytes}
 use Rattle.run_script.proofs.frame.paint.Goals as goal
 
 pub returns-in-Err-clause-fits : goal.returns-in-Err-clause-fits
 returns-in-Err-clause-fits c = λ fits.
     let before = c.loop-row.invariant in
-    let items = ap length before.items ∙ length-frame_bytes c.args.width c.loop-row._row (λ x y. c.args.pixel) in
+    let items = ap length before.items ∙ length-frame_bytes c.args.size.width c.loop-row.row (shown_pixel c.args.picture.now c.args.size) in
     let room = before.room in
     let inside = c.loop-row-test.true in
-    c.in-Err.ensures.fits (rows_fit c.args.width c.args.height c.loop-row._row (length c.loop-row.frame.items) _ _ items fits room inside)
+    c.in-Err.ensures.fits (rows_fit c.args.size.width c.args.size.height c.loop-row.row (length c.loop-row.frame.items) _ _ items fits room inside)
 
 pub loop-row-preserved : goal.loop-row-preserved
 loop-row-preserved c =
-    let row = flat_map (λ x. pixel_bytes c.args.pixel) (range_with_len 0 c.args.width) in
+    let row = λ (y : ℕ). flat_map (λ x. pixel_bytes (shown_pixel c.args.picture.now c.args.size x y)) (range_with_len 0 c.args.size.width) in
     let before = c.loop-row.invariant in
     record {
-      items = pieces_more (λ y. row) c.loop-row._row [] _ _ row before.items c.in-Ok.ensures.items refl;
+      items = pieces_more row c.loop-row.row [] _ _ (row c.loop-row.row) before.items c.in-Ok.ensures.items refl;
       room = (let a = before.room in let b = c.paint_row.ensures.room in omega (arith, a, b));
     }

@@ -1,12 +1,16 @@
 use Rattle.std.proofs.Common.{◌≡◌, take, length, refl, arith, rules}
 use Rattle.std.proofs.lemmas.List.{length-take-le}
-use Rattle.run_script.proofs.Progress.{nothing_read, none_read, piece_read, piece_ends, input_ended}
+use Rattle.run_script.specs.Program.{playout_of}
+use Rattle.run_script.proofs.Progress.{nothing_read, none_read, piece_read, piece_ends, input_ended, read_failed}
 use Rattle.run_script.proofs.run.run.Goals as goal
 
 pub loop-turn-init : goal.loop-turn-init
 loop-turn-init g c = record {
   buffer = refl;
-  progress = none_read _ _ _ _ (c.in-Ok.ensures.taken _) c.in-Ok.ensures.small.0 c.in-Ok.ensures.small.1;
+  progress = none_read _ _ _ _
+      (c.in-Ok.ensures.taken (playout_of c.args.show c.args.digests) _
+      (record { config = refl; names = refl; clips = refl; digests = refl; silent = c.requires }))
+      c.in-Ok.ensures.small.0 c.in-Ok.ensures.small.1;
 }
 
 pub returns-in-Err : goal.returns-in-Err
@@ -38,3 +42,6 @@ returns-in-End g c =
     let allowed = before.allowed in
     input_ended _ _ _ _ _ _ _ _ _ _ _ before c.in-End.ensures.0 c.in-End.ensures.1
     (c.finish.ensures _ before.read _ before.taken (omega (arith, allowed)))
+
+pub returns-in-Failed : goal.returns-in-Failed
+returns-in-Failed g c = read_failed _ _ _ _ _ _ _ _ _ c.loop-turn.invariant.progress c.in-Failed.ensures.0 c.in-Failed.ensures.1

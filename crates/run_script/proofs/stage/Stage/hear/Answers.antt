@@ -10,7 +10,7 @@ pub returns-in-Ok-Some-clause-heard : goal.returns-in-Ok-Some-clause-heard
 returns-in-Ok-Some-clause-heard g c = λ playout played none on stands.
     let tag = c.args.tag in
     let text = c.args.text.now in
-    let heard = c.in-Ok-Some.ensures.hears playout played stands.shows.config stands.shows.names none stands.clients in
+    let heard = c.in-Ok-Some.ensures.hears playout played stands.shows.on.config stands.shows.on.names none stands.clients in
     let found = c.in-Ok-Some.field-0-is in
     heard_followed playout c.follow.result tag text (Some c.in-Ok-Some.step) played c.follow.new.self _ _ on heard.commands
     (subst (λ f. said_step playout played (played_as tag text f) tag ≡ seen_step f heard.commands) found heard.given)
@@ -23,7 +23,7 @@ pub returns-in-Ok-None-clause-heard : goal.returns-in-Ok-None-clause-heard
 returns-in-Ok-None-clause-heard g c = λ playout played none on stands.
     let tag = c.args.tag in
     let text = c.args.text.now in
-    let heard = c.in-Ok-None.ensures.hears playout played stands.shows.config stands.shows.names none stands.clients in
+    let heard = c.in-Ok-None.ensures.hears playout played stands.shows.on.config stands.shows.on.names none stands.clients in
     let found = c.in-Ok-None.field-0-is in
     heard_followed playout (Ok tt) tag text None played (record c.args.self.now { clients = c.hear.new.self }) _ _ on heard.commands
     (subst (λ f. said_step playout played (played_as tag text f) tag ≡ seen_step f heard.commands) found heard.given)

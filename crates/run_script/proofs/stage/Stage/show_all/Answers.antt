@@ -9,7 +9,7 @@ use Rattle.run_script.proofs.stage.Stage.show_all.Goals as goal
 
 pub loop-at-init : goal.loop-at-init
 loop-at-init g c = record {
-  same = record { config = refl; names = refl; clients = refl; shown = refl; ticks = refl; room = omega arith };
+  same = record { config = refl; names = refl; table = refl; digests = refl; clients = refl; shown = refl; ticks = refl; room = omega arith };
   shows = λ playout events shows. none_shown playout events c.args.self.now _ shows;
 }
 
@@ -24,6 +24,8 @@ loop-at-preserved g c =
       same = record {
         config = step.config ∙ before.same.config;
         names = step.names ∙ before.same.names;
+        table = step.table ∙ before.same.table;
+        digests = step.digests ∙ before.same.digests;
         clients = step.clients ∙ before.same.clients;
         shown = step.shown ∙ before.same.shown;
         ticks = step.ticks ∙ before.same.ticks;
@@ -32,7 +34,7 @@ loop-at-preserved g c =
       shows = λ playout events shows.
           let so_far = before.shows playout events shows in
           let inside : c.loop-at.at < length playout.config.channels =
-          (let at_end = c.loop-at-test.true in let size = c.len-at-end.ensures.value in let list = ap length c.channels.ensures.value in let same = ap (λ k. length k.channels) shows.config in omega (arith, at_end, size, list, same)) in
+          (let at_end = c.loop-at-test.true in let size = c.len-at-end.ensures.value in let list = ap length c.channels.ensures.value in let same = ap (λ k. length k.channels) shows.on.config in omega (arith, at_end, size, list, same)) in
           let done = c.in-Ok.ensures.shown playout events so_far.shows inside in
           channel_shown playout events c.loop-at.self c.show.new.self c.loop-at.at _ _ _ so_far done.0 done.1;
     }
@@ -42,7 +44,7 @@ returns-in-Err-clause-tick g c = λ playout events shows.
     let before = c.loop-at.invariant in
     let so_far = before.shows playout events shows in
     let inside : c.loop-at.at < length playout.config.channels =
-    (let at_end = c.loop-at-test.true in let size = c.len-at-end.ensures.value in let list = ap length c.channels.ensures.value in let same = ap (λ k. length k.channels) shows.config in omega (arith, at_end, size, list, same)) in
+    (let at_end = c.loop-at-test.true in let size = c.len-at-end.ensures.value in let list = ap length c.channels.ensures.value in let same = ap (λ k. length k.channels) shows.on.config in omega (arith, at_end, size, list, same)) in
     let done = c.in-Err.ensures.shown playout events so_far.shows inside in
     record {
       clients = c.show.ensures.same.clients ∙ before.same.clients;
@@ -56,10 +58,10 @@ returns-clause-tick g c = λ playout events shows.
     let before = c.loop-at.invariant in
     let so_far = before.shows playout events shows in
     let all : c.loop-at.at ≡ length playout.config.channels =
-    (let past = c.loop-at-test.false in let within = c.loop-at.auto.at-end in let size = c.len-at-end.ensures.value in let list = ap length c.channels.ensures.value in let same = ap (λ k. length k.channels) shows.config in omega (arith, past, within, size, list, same)) in
+    (let past = c.loop-at-test.false in let within = c.loop-at.auto.at-end in let size = c.len-at-end.ensures.value in let list = ap length c.channels.ensures.value in let same = ap (λ k. length k.channels) shows.on.config in omega (arith, past, within, size, list, same)) in
     record {
       clients = before.same.clients;
       written = so_far.written ∙ ap (λ n. after_taking (g.K.Sink.state c.args.out.now) (flat_map (channel_text playout events) (range_with_len 1 n))) all
           ∙ ap (after_taking (g.K.Sink.state c.args.out.now)) (sym (tick_text playout c.args.self.now events shows));
-      shows = shows_tick playout c.loop-at.self _ events so_far.shows refl refl refl refl (omega arith);
+      shows = shows_tick playout c.loop-at.self _ events so_far.shows refl refl refl refl refl refl (omega arith);
     }

@@ -1,6 +1,6 @@
 -- What the words of a form do, over an input, a folder and an output.
 use Rattle.std.proofs.Common.{◌≡◌, ◌≢◌, ◌⊎◌, inl, inr, ℕ, ◌+◌, ◌==◌, Bool, true, if◌then◌else◌, List, [], ◌∷◌, refl, sym, ap, ◌∙◌, subst, arith}
-use Rattle.std.specs.Prelude.{Option, Some, None, option_map, option_and_then, Result, Ok, Err, All}
+use Rattle.std.specs.Prelude.{Option, Some, None, option_map, option_and_then, Result, Ok, Err, All, IfSome}
 use Rattle.std.proofs.lemmas.Bool.Decides.{nat_tests}
 use Rattle.std.proofs.lemmas.List.Elements.{All-head, All-tail}
 use Rattle.std.specs.Str.{encode_utf8_all}
@@ -23,27 +23,33 @@ use Rattle.run_script.specs.declared.setup.SetupFault.{SetupFault}
 use Rattle.run_script.specs.declared.setup.SetupFault.TheVariants.{ConfigText, ConfigKey, MediaTwice, MediaTotal, Device, Memory}
 use Rattle.run_script.specs.Ending.{status_of}
 use Rattle.run_script.specs.Form.{Form, Plain, Configured}
-use Rattle.run_script.specs.Program.{CanBeSetUp, Does, Finishes, IsComplete, IsStatus, IsValid, playout_of}
-use Rattle.run_script.specs.Setup.{HoldsSome, IsAccepted, SetsUp, first_sound, refused_key, refused_of, sound_key}
+use Rattle.run_script.specs.Program.{CanBeSetUp, Does, Finishes, IsRefusal, IsStatus, IsValid, Meets, playout_of}
+use Rattle.run_script.specs.Setup.{HoldsSome, IsAccepted, SetsUp, fault_of_clips, fault_of_files, fault_of_held, fault_of_text, first_sound, refused_key, refused_of, sound_key, sound_or}
 use Rattle.run_script.specs.Setup as setup
 use Rattle.run_script.specs.Words.{plain_playout}
 use Rattle.run_script.proofs.Complete.{completes_run, device_of_run, is_played}
 use Rattle.run_script.proofs.Setups.{files_kept, kept_but_device}
 
-same_some : {A : Type 0} {x y : A} → Some x ≡ Some y → x ≡ y
-same_some e = cc
+no_fault : {fault : SetupFault} → Some fault ≡ None → ⊥
+no_fault e = cc
 
-no_some : {x : List ℕ} → Some x ≡ None → ⊥
-no_some e = cc
+no_key : {name : List ℕ} → ◌≡◌ {A = Option (List ℕ)} None (Some name) → ⊥
+no_key e = cc
 
-same_config : {x y : ConfigView} → ◌≡◌ {A = Option (Result ConfigView (List ℕ))} (Some (Ok x)) (Some (Ok y)) → x ≡ y
-same_config e = cc
+same_key : {one other : List ℕ} → Some one ≡ Some other → Some (ConfigKey one) ≡ Some (ConfigKey other)
+same_key e = cc
 
-no_text : {x : Option (Result ConfigView (List ℕ))} {config : ConfigView} → x ≡ Some (Ok config) → x ≡ None → ⊥
-no_text read none = cc
+-- a first sound is the key that is refused
+sound_refused : (first : Option ℕ) (name : List ℕ) (later : Option SetupFault) → option_map sound_key first ≡ Some name → sound_or first later ≡ Some (ConfigKey name)
+sound_refused None name later is = absurd (no_key is)
+sound_refused (Some number) name later is = same_key is
 
-no_table : {table : List Entry} {fault : ScanFault} → ◌≡◌ {A = Result (List Entry) ScanFault} (Ok table) (Err fault) → ⊥
-no_table e = cc
+-- the key that is refused in a text is its first fault
+key_refused : (files : Files) (text : Option (Result ConfigView (List ℕ))) (name : List ℕ) → option_and_then refused_of text ≡ Some name
+    → fault_of_text files text ≡ Some (ConfigKey name)
+key_refused files None name is = absurd (no_key is)
+key_refused files (Some (Err other)) name is = same_key is
+key_refused files (Some (Ok config)) name is = sound_refused (first_sound 1 config.channels) name _ is
 
 -- no channel is the first with sound where none has sound
 none_loud : (number : ℕ) (channels : List ChannelView) → All (λ channel. channel.pairs ≡ 0) channels → first_sound number channels ≡ None
@@ -74,6 +80,16 @@ of_fault (MediaTwice name) = (omega arith, λ e. omega (arith, e))
 of_fault (MediaTotal total) = (omega arith, λ e. omega (arith, e))
 of_fault Device = (omega arith, λ e. omega (arith, e))
 of_fault Memory = (omega arith, λ e. omega (arith, e))
+
+-- a run has not the status of clips
+no_clips : (ending : Ending) → status_of ending ≡ 3 → ⊥
+no_clips Finished e = omega (arith, e)
+no_clips Stopped e = omega (arith, e)
+no_clips (BadLine number) e = omega (arith, e)
+no_clips TooLong e = omega (arith, e)
+no_clips ReadFault e = omega (arith, e)
+no_clips WriteFault e = omega (arith, e)
+no_clips ending.Memory e = omega (arith, e)
 
 -- the status of a fault is none of a run that ended well
 not_well : (fault : SetupFault) → setup.status_of fault ≡ 0 → ⊥
@@ -155,39 +171,86 @@ module _ (media media' : FolderState) (source source' : SourceState) (sink sink'
       ok_no_device : {show : Show} → Ok show ≢ Err Device
       ok_no_device e = let no : 0 ≡ 4 = ap status_in e in omega (arith, no)
 
-  -- what is held is such where something such is held
-  held_such : (IsSuch : List ℕ → Type 0) (file : List ℕ) (files : Files) (bytes : List ℕ) → media.files ≡ Some files → config_at file files ≡ Some bytes
-      → HoldsSome IsSuch file media → IsSuch bytes
-  held_such IsSuch file files bytes told held holds =
-      let same : config_at file files ≡ Some holds.0 = subst (λ (f : Option Files). IsHeld (config_at file) holds.0 f) told holds.1 in
-      subst IsSuch (same_some (sym same ∙ held)) holds.2
+  -- what is held at the path, where something such is held
+  held_such : (IsSuch : List ℕ → Type 0) (file : List ℕ) (files : Files) → media.files ≡ Some files → HoldsSome IsSuch file media
+      → (bytes : List ℕ) × (config_at file files ≡ Some bytes) × IsSuch bytes
+  held_such IsSuch file files told holds = (holds.0, subst (λ (f : Option Files). IsHeld (config_at file) holds.0 f) told holds.1, holds.2)
 
-  -- clips that a table may have are not refused
-  no_clips_refused : (file : List ℕ) (files : Files) (fault : ScanFault) (config : ConfigView) → media.files ≡ Some files → IsComplete file files
-      → HoldsSome (λ bytes. IsAccepted bytes config) file media → Tells (scanned (encode_utf8_all config.media)) (Err fault) media.files → ⊥
-  no_clips_refused file files fault config told complete holds tells =
-      let accepted : IsAccepted complete.bytes config = held_such (λ bytes. IsAccepted bytes config) file files complete.bytes told complete.held holds in
-      let same : complete.config ≡ config = same_config (sym complete.accepted.read ∙ accepted.read) in
-      let answer : Err fault ≡ scanned (encode_utf8_all config.media) files =
-      subst (λ (f : Option Files). Tells (scanned (encode_utf8_all config.media)) (Err fault) f) told tells in
-      no_table (sym complete.clips ∙ ap (λ (c : ConfigView). scanned (encode_utf8_all c.media) files) same ∙ sym answer)
+  -- the first fault of files with a configuration that is accepted is that of its clips
+  fault_by_clips : (file : List ℕ) (files : Files) (config : ConfigView) (answer : Result (List Entry) ScanFault) → media.files ≡ Some files
+      → HoldsSome (λ bytes. IsAccepted bytes config) file media → Tells (scanned (encode_utf8_all config.media)) answer media.files
+      → fault_of_files file files ≡ fault_of_clips answer
+  unfolding fault_of_files
+  fault_by_clips file files config answer told holds tells =
+      let held = held_such (λ bytes. IsAccepted bytes config) file files told holds in
+      let accepted : IsAccepted held.0 config = held.2 in
+      let is : answer ≡ scanned (encode_utf8_all config.media) files =
+      subst (λ (f : Option Files). Tells (scanned (encode_utf8_all config.media)) answer f) told tells in
+      ap (fault_of_held files) held.1
+      ∙ ap (fault_of_text files) accepted.read
+      ∙ ap (λ (o : Option ℕ). sound_or o (fault_of_clips (scanned (encode_utf8_all config.media) files))) (none_loud 1 config.channels accepted.silent)
+      ∙ ap fault_of_clips (sym is)
 
-  -- what can be set up is not refused
-  not_refused : (file : List ℕ) (files : Files) → media.files ≡ Some files → IsComplete file files → (fault : SetupFault) → SetsUp file (Err fault) media media'
-      → (Rose media.faults media'.faults → ⊥) → setup.status_of fault ≡ 5
-  not_refused file files told complete ConfigText sets well =
-      absurd (no_text complete.accepted.read (held_such (λ bytes. config_in bytes ≡ None) file files complete.bytes told complete.held sets.0))
-  not_refused file files told complete (ConfigKey name) sets well =
-      let key : refused_key complete.bytes ≡ Some name = held_such (λ bytes. refused_key bytes ≡ Some name) file files complete.bytes told complete.held sets.0 in
-      let none : refused_key complete.bytes ≡ None =
-      ap (option_and_then refused_of) complete.accepted.read ∙ ap (option_map sound_key) (none_loud 1 complete.config.channels complete.accepted.silent) in
-      absurd (no_some (sym key ∙ none))
-  not_refused file files told complete (MediaTwice name) sets well =
-      absurd (no_clips_refused file files (scan.TwoNames name) sets.0 told complete sets.1 sets.2.0)
-  not_refused file files told complete (MediaTotal total) sets well =
-      absurd (no_clips_refused file files (scan.TooLarge total) sets.0 told complete sets.1 sets.2.0)
-  not_refused file files told complete Device sets well = absurd (well sets.1)
-  not_refused file files told complete Memory sets well = refl
+  -- what an answer says of the first fault of the files
+  abbrev pub TellsFault : Result Show SetupFault → Option SetupFault → Type 0
+  TellsFault (Ok show) first = first ≡ None
+  TellsFault (Err ConfigText) first = first ≡ Some ConfigText
+  TellsFault (Err (ConfigKey name)) first = first ≡ Some (ConfigKey name)
+  TellsFault (Err (MediaTwice name)) first = first ≡ Some (MediaTwice name)
+  TellsFault (Err (MediaTotal total)) first = first ≡ Some (MediaTotal total)
+  TellsFault (Err Device) first = Rose media.faults media'.faults
+  TellsFault (Err Memory) first = Unit {0}
+
+  first_fault : (file : List ℕ) (files : Files) → media.files ≡ Some files → (answer : Result Show SetupFault) → SetsUp file answer media media'
+      → TellsFault answer (fault_of_files file files)
+  unfolding fault_of_files
+  first_fault file files told (Ok show) sets = fault_by_clips file files show.config (Ok show.table) told sets.0 sets.1.0
+  first_fault file files told (Err ConfigText) sets =
+      let held = held_such (λ bytes. config_in bytes ≡ None) file files told sets.0 in
+      ap (fault_of_held files) held.1 ∙ ap (fault_of_text files) held.2
+  first_fault file files told (Err (ConfigKey name)) sets =
+      let held = held_such (λ bytes. refused_key bytes ≡ Some name) file files told sets.0 in
+      ap (fault_of_held files) held.1 ∙ key_refused files (config_in held.0) name held.2
+  first_fault file files told (Err (MediaTwice name)) sets = fault_by_clips file files sets.0 (Err (scan.TwoNames name)) told sets.1 sets.2.0
+  first_fault file files told (Err (MediaTotal total)) sets = fault_by_clips file files sets.0 (Err (scan.TooLarge total)) told sets.1 sets.2.0
+  first_fault file files told (Err Device) sets = sets.1
+  first_fault file files told (Err Memory) sets = tt
+
+  -- what has no fault is refused for want of memory alone, where no read fails
+  not_refused : (first : Option SetupFault) → first ≡ None → (fault : SetupFault) → TellsFault (Err fault) first → (Rose media.faults media'.faults → ⊥)
+      → setup.status_of fault ≡ 5
+  not_refused first none ConfigText says well = absurd (no_fault (sym says ∙ none))
+  not_refused first none (ConfigKey name) says well = absurd (no_fault (sym says ∙ none))
+  not_refused first none (MediaTwice name) says well = absurd (no_fault (sym says ∙ none))
+  not_refused first none (MediaTotal total) says well = absurd (no_fault (sym says ∙ none))
+  not_refused first none Device says well = absurd (well says)
+  not_refused first none Memory says well = refl
+
+  -- a refusal meets the first fault
+  refusal_meets : (first : Option SetupFault) (fault : SetupFault) (status : ℕ) → status ≡ setup.status_of fault → TellsFault (Err fault) first → source' ≡ source
+      → Meets first status media media' source source'
+  refusal_meets first ConfigText status is says unread = subst (λ (o : Option SetupFault). Meets o status media media' source source') (sym says) (inl is, unread)
+  refusal_meets first (ConfigKey name) status is says unread = subst (λ (o : Option SetupFault). Meets o status media media' source source') (sym says) (inl is, unread)
+  refusal_meets first (MediaTwice name) status is says unread = subst (λ (o : Option SetupFault). Meets o status media media' source source') (sym says) (inl is, unread)
+  refusal_meets first (MediaTotal total) status is says unread = subst (λ (o : Option SetupFault). Meets o status media media' source source') (sym says) (inl is, unread)
+  refusal_meets None Device status is says unread = λ e. let no : 4 ≡ 3 = sym is ∙ e in omega (arith, no)
+  refusal_meets (Some fault) Device status is says unread = (inr (inr (is, says)), unread)
+  refusal_meets None Memory status is says unread = λ e. let no : 5 ≡ 3 = sym is ∙ e in omega (arith, no)
+  refusal_meets (Some fault) Memory status is says unread = (inr (inl is), unread)
+
+  pub does_refuse : (form : Form) (status : ℕ) → Does form status media media' source source' sink sink' → IsRefusal form status media media' source source'
+  does_refuse (Plain size) status does = λ e. no_clips does.1.ending (sym does.1.outcome ∙ e)
+  does_refuse (Configured file digests) status does = by_files media.files refl
+    where
+      by_files : (told : Option Files) → media.files ≡ told → IfSome told (λ files. Meets (fault_of_files file files) status media media' source source')
+      by_files None is = tt
+      by_files (Some files) is =
+          elim does [
+            | inl refused ↦ refusal_meets (fault_of_files file files) refused.fault status refused.outcome
+                (first_fault file files is (Err refused.fault) refused.refused) refused.unread
+            | inr configured ↦ subst (λ (o : Option SetupFault). Meets o status media media' source source')
+                (sym (first_fault file files is (Ok configured.show) configured.set_up)) (λ e. no_clips configured.run.ending (sym configured.run.outcome ∙ e))
+          ]
 
   pub does_complete : (form : Form) (status : ℕ) → Does form status media media' source source' sink sink' → CanBeSetUp form media media' → IsValid source
       → (Rose source.faults source'.faults → ⊥) → (Rose sink.faults sink'.faults → ⊥) → (status ≡ 0) ⊎ (status ≡ 5)
@@ -195,6 +258,6 @@ module _ (media media' : FolderState) (source source' : SourceState) (sink sink'
       completes_run (plain_playout size.width size.height) status source source' sink sink' does.1 valid read_well wrote_well
   does_complete (Configured file digests) status does can valid read_well wrote_well =
       elim does [
-        | inl refused ↦ inr (refused.outcome ∙ not_refused file can.0 can.1 can.2 refused.fault refused.refused can.3)
+        | inl refused ↦ inr (refused.outcome ∙ not_refused (fault_of_files file can.0) can.2 refused.fault (first_fault file can.0 can.1 (Err refused.fault) refused.refused) can.3)
         | inr configured ↦ completes_run (playout_of configured.show digests) status source source' sink sink' configured.run valid read_well wrote_well
       ]

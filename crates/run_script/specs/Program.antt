@@ -1,17 +1,12 @@
 -- What the program promises of a run.
-use Rattle.std.specs.Prelude.{◌≡◌, ◌≢◌, ℕ, ◌<◌, ◌≤◌, ◌⊎◌, Bool, true, false, Option, Some, Ok, Err, List, [], ◌∷◌, ◌++◌, length, IfSome}
+use Rattle.std.specs.Prelude.{◌≡◌, ◌≢◌, ℕ, ◌<◌, ◌≤◌, ◌⊎◌, Bool, true, false, Option, Some, None, Ok, Err, List, [], ◌∷◌, ◌++◌, length, IfSome}
 use Rattle.std.specs.List.{list_all}
-use Rattle.std.specs.Str.{encode_utf8_all}
 use Rattle.std.specs.Str.Lines.{lines}
-use Rattle.play_types.specs.Config.{ConfigView}
 use Rattle.play_outside.specs.Faults.{Rose}
 use Rattle.play_outside.specs.FolderState.{FolderState, Files}
-use Rattle.play_outside.specs.Folder.{config_at}
 use Rattle.play_outside.specs.SourceState.{SourceState}
 use Rattle.play_outside.specs.SinkState.{SinkState, after_taking}
 use Rattle.play_outside.specs.Sink.{Fails}
-use Rattle.clip_format.specs.Table.{Entry}
-use Rattle.clip_store.specs.Scan.{scanned}
 use Rattle.history_model.specs.Script.{ScriptLine, NoForm, until_stop}
 use Rattle.history_model.specs.ScriptHistory.{Playout, Played, ends_at, goes_on}
 use Rattle.history_model.specs.ScriptInput.{ended_lines}
@@ -23,7 +18,7 @@ use Rattle.run_script.specs.declared.setup.SetupFault.{SetupFault}
 use Rattle.run_script.specs.Form.{Form, Plain, Configured}
 use Rattle.run_script.specs.Picture.{clips_of}
 use Rattle.run_script.specs.Script.{meanings, said_by}
-use Rattle.run_script.specs.Setup.{IsAccepted, SetsUp}
+use Rattle.run_script.specs.Setup.{SetsUp, fault_of_files}
 use Rattle.run_script.specs.Setup as setup
 use Rattle.run_script.specs.Run.{limit, Runs}
 use Rattle.run_script.specs.Words.{plain_playout}
@@ -120,17 +115,23 @@ Finishes (Plain size) media media' source source' sink sink' =
 Finishes (Configured file digests) media media' source source' sink sink' =
     (show : Show) × SetsUp file (Ok show) media media' × IsPlayed (playout_of show digests) source source' sink sink'
 
--- the files have a configuration at the path that is accepted and has no sound, and the clips of its folder give a table
-pub record IsComplete (file : List ℕ) (files : Files) : Type 0 where
-  pub bytes : List ℕ
-  pub held : config_at file files ≡ Some bytes
-  pub config : ConfigView
-  pub accepted : IsAccepted bytes config
-  pub table : List Entry
-  pub clips : scanned (encode_utf8_all config.media) files ≡ Ok table
-
--- what the words name can be set up: with a configuration, where the folder tells its files and no read of it fails
+-- what the words name can be set up: with a configuration, where the folder tells files without a fault and no read of
+-- it fails
 abbrev pub CanBeSetUp : Form → FolderState → FolderState → Type 0
 CanBeSetUp (Plain size) media media' = Unit {0}
 CanBeSetUp (Configured file digests) media media' =
-    (files : Files) × (media.files ≡ Some files) × IsComplete file files × (Rose media.faults media'.faults → ⊥)
+    (files : Files) × (media.files ≡ Some files) × (fault_of_files file files ≡ None) × (Rose media.faults media'.faults → ⊥)
+
+-- where files have a first fault, nothing of the input is read, and the status is that of the fault, unless memory ran
+-- out or a read of the folder failed before; without one the status is not that of clips
+abbrev pub Meets : Option SetupFault → ℕ → FolderState → FolderState → SourceState → SourceState → Type 0
+Meets None status media media' source source' = status ≢ 3
+Meets (Some fault) status media media' source source' =
+    ((status ≡ setup.status_of fault) ⊎ ((status ≡ 5) ⊎ ((status ≡ 4) × Rose media.faults media'.faults)))
+    × (source' ≡ source)
+
+-- the first fault of the files that the words name is met, where the folder tells them
+abbrev pub IsRefusal : Form → ℕ → FolderState → FolderState → SourceState → SourceState → Type 0
+IsRefusal (Plain size) status media media' source source' = status ≢ 3
+IsRefusal (Configured file digests) status media media' source source' =
+    IfSome media.files (λ files. Meets (fault_of_files file files) status media media' source source')

@@ -3,7 +3,7 @@ use Rattle.std.specs.Prelude.{◌≡◌, ℕ, ◌+◌, ◌==◌, if◌then◌els
 use Rattle.std.specs.Str.{chars, encode_utf8_all}
 use Rattle.play_types.specs.Config.{ChannelView, ConfigView}
 use Rattle.play_outside.specs.Faults.{Rose}
-use Rattle.play_outside.specs.FolderState.{FolderState}
+use Rattle.play_outside.specs.FolderState.{FolderState, Files}
 use Rattle.play_outside.specs.Folder.{IsHeld, config_at}
 use Rattle.play_outside.specs.declared.folder.FileFault.{FileFault}
 use Rattle.play_outside.specs.declared.folder.FileFault.TheVariants as file
@@ -137,3 +137,29 @@ fault_of_scan scan.ReadFault = Device
 fault_of_scan (scan.TwoNames name) = MediaTwice name
 fault_of_scan (scan.TooLarge total) = MediaTotal total
 fault_of_scan scan.OutOfMemory = Memory
+
+-- the fault of clips that give no table
+abbrev pub fault_of_clips : Result (List Entry) ScanFault → Option SetupFault
+fault_of_clips (Ok table) = None
+fault_of_clips (Err fault) = Some (fault_of_scan fault)
+
+-- the fault of a first sound, by the number of its channel, and without one the fault of what is read next
+abbrev pub sound_or : Option ℕ → Option SetupFault → Option SetupFault
+sound_or (Some number) later = Some (ConfigKey (sound_key number))
+sound_or None later = later
+
+-- the first fault of what a text says as a configuration, and of the clips of its folder
+abbrev pub fault_of_text : Files → Option (Result ConfigView (List ℕ)) → Option SetupFault
+fault_of_text files None = Some ConfigText
+fault_of_text files (Some (Err name)) = Some (ConfigKey name)
+fault_of_text files (Some (Ok config)) =
+    sound_or (first_sound 1 config.channels) (fault_of_clips (scanned (encode_utf8_all config.media) files))
+
+-- the same of what is held at the path of a configuration
+abbrev pub fault_of_held : Files → Option (List ℕ) → Option SetupFault
+fault_of_held files None = Some Device
+fault_of_held files (Some bytes) = fault_of_text files (config_in bytes)
+
+-- the first fault of files whose configuration has this path, none where a playout can be set up from them
+unfoldable pub fault_of_files : List ℕ → Files → Option SetupFault
+fault_of_files path files = fault_of_held files (config_at path files)

@@ -4,7 +4,7 @@ ghost use Rattle.play_types.specs.Geometry.{IsSize};
 ghost use Rattle.play_outside.specs.Faults.{Rose};
 ghost use Rattle.run_script.specs.Ending.{fault_line, status_of};
 ghost use Rattle.run_script.specs.Form.{Configured, IsFormInRange, form_of, seen};
-ghost use Rattle.run_script.specs.Program.{CanBeSetUp, Does, Finishes, IsConfigured, IsRefused, IsRun, IsStatus, IsUsage, IsValid, Says, playout_of};
+ghost use Rattle.run_script.specs.Program.{CanBeSetUp, Does, Finishes, IsConfigured, IsRefusal, IsRefused, IsRun, IsStatus, IsUsage, IsValid, Says, playout_of};
 ghost use Rattle.run_script.specs.Run.{Runs};
 ghost use Rattle.run_script.specs.Words.{plain_playout};
 
@@ -62,6 +62,8 @@ pub fn run_main<R: Threads + Sync, I: Source, M: MediaDir, O: Sink>(
         (λ form. Finishes form (M.state media.old) (M.state media.new) (I.state input.old) (I.state input.new) (O.state out.old) (O.state out.new)) }
     ensures device { result ≡ 4 → Rose (I.state input.old).faults (I.state input.new).faults ⊎ Rose (M.state media.old).faults (M.state media.new).faults
         ⊎ Rose (O.state out.old).faults (O.state out.new).faults }
+    ensures refused { IfSome (form_of (map string_bytes words.now))
+        (λ form. IsRefusal form result (M.state media.old) (M.state media.new) (I.state input.old) (I.state input.new)) }
     ensures complete { IfSome (form_of (map string_bytes words.now))
         (λ form. CanBeSetUp form (M.state media.old) (M.state media.new) → IsValid (I.state input.old)
         → ¬ Rose (I.state input.old).faults (I.state input.new).faults → ¬ Rose (O.state out.old).faults (O.state out.new).faults

@@ -9,7 +9,8 @@ use Rattle.play_types.specs.Geometry.{frame_bytes}
 use Rattle.play_types.specs.ClipFile.{ClipView, IsClip}
 use Rattle.clip_format.specs.Lowering.{IsLowered, lowered_byte, lowered_clip}
 
-four_of : (a x : ℕ) → a * (4 * x) ≡ a * x * 4
+-- a number of things of four bytes each
+pub four_of : (a x : ℕ) → a * (4 * x) ≡ a * x * 4
 four_of a x = omega arith
 
 -- the bytes of a frame are four for each pixel and pair

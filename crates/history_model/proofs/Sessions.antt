@@ -17,7 +17,7 @@ use Rattle.history_model.specs.SessionLine.{line_meaning, asked_by}
 use Rattle.history_model.specs.Session.{Step, is_given_up, asked_by_line, asks, step_of_line, is_end, until_end, line_steps, steps}
 
 -- the numbers of two lists in a row
-enumerate_from-append : {X : Type 0} (n : ℕ) (xs ys : List X)
+pub enumerate_from-append : {X : Type 0} (n : ℕ) (xs ys : List X)
     → enumerate_from n (xs ++ ys) ≡ enumerate_from n xs ++ enumerate_from (n + length xs) ys
 enumerate_from-append n [] ys = let same : n + 0 ≡ n = omega arith in rw same refl
 enumerate_from-append n (x ∷ xs) ys =

@@ -3,24 +3,10 @@ use Rattle.std.proofs.Common.{◌≡◌, ℕ, ◌+◌, Bool, true, false, List, 
 use Rattle.std.specs.Prelude.{Option, Some, None, filter_map, flat_map}
 use Rattle.std.specs.List.{cons_option, enumerate_from}
 use Rattle.std.proofs.lemmas.Grind.{flat_map-append}
+use Rattle.std.proofs.lemmas.List.Elements.{filter_map-append}
 use Rattle.play_types.specs.declared.event.Tag.{Tag}
 use Rattle.history_model.specs.ScriptHistory.{Played, text_by, mark_of, given_up_by, texts_of, stream_of, number_given_up, given_up_of}
-
-cons_option-append : {A : Type 0} (found : Option A) (xs ys : List A) → cons_option found (xs ++ ys) ≡ cons_option found xs ++ ys
-cons_option-append None xs ys = refl
-cons_option-append (Some x) xs ys = refl
-
-filter_map-append : {A B : Type 0} (f : A → Option B) (xs ys : List A) → filter_map f (xs ++ ys) ≡ filter_map f xs ++ filter_map f ys
-filter_map-append f [] ys = refl
-filter_map-append f (x ∷ xs) ys =
-    ap (cons_option (f x)) (filter_map-append f xs ys) ∙ cons_option-append (f x) (filter_map f xs) (filter_map f ys)
-
-enumerate_from-append : {A : Type 0} (n : ℕ) (xs ys : List A) → enumerate_from n (xs ++ ys) ≡ enumerate_from n xs ++ enumerate_from (n + length xs) ys
-enumerate_from-append n [] ys = ap (λ (k : ℕ). enumerate_from k ys) (let same : n ≡ n + 0 = omega arith in same)
-enumerate_from-append {A = A} n (x ∷ xs) ys =
-    ap (λ (l : List (ℕ × A)). (n, x) ∷ l)
-    (enumerate_from-append (n + 1) xs ys
-    ∙ ap (λ (k : ℕ). enumerate_from (n + 1) xs ++ enumerate_from k ys) (let same : n + 1 + length xs ≡ n + length (x ∷ xs) = omega arith in same))
+use Rattle.history_model.proofs.Sessions.{enumerate_from-append}
 
 -- a line of another connection, or of none, adds nothing
 pub texts_of-other : (tag : Tag) (played : List Played) (line : Played) → text_by tag line.line ≡ None → texts_of tag (played ++ line ∷ []) ≡ texts_of tag played

@@ -5,6 +5,7 @@ use Rattle.std.specs.List.{list_all}
 use Rattle.std.specs.Str.Lines.{lines}
 use Rattle.std.proofs.lemmas.Bool.{false≢true}
 use Rattle.std.proofs.lemmas.List.{take-append-drop, map-append}
+use Rattle.std.proofs.lemmas.Option.{none-some, same_Some}
 use Rattle.play_outside.specs.Faults.{Rose}
 use Rattle.play_outside.specs.SourceState.{SourceState}
 use Rattle.play_outside.specs.Source.{Gives, IsAtEnd}
@@ -27,16 +28,10 @@ use Rattle.run_script.specs.Run.{limit, Front, Runs}
 use Rattle.run_script.specs.Program.{Says, IsRun, IsValid, IsPlayed, PlaysAll, is_formed}
 use Rattle.run_script.proofs.Stops.{received_front, stop_ended, unplayed, said-later, no_form}
 
-same_some : {x y : List ℕ} → Some x ≡ Some y → x ≡ y
-same_some e = cc
-
-no_some : {x : List ℕ} → Some x ≡ None → ⊥
-no_some e = cc
-
 -- what was read is a front of what the input had, and the rest of it is left
 given_front : (read : List ℕ) (left : Option (List ℕ)) (input : List ℕ) → Gives read (Some input) left → (rest : List ℕ) × (input ≡ read ++ rest) × (left ≡ Some rest)
-given_front read None input gives = absurd (no_some gives)
-given_front read (Some rest) input gives = (rest, same_some gives, refl)
+given_front read None input gives = absurd (none-some input (sym gives))
+given_front read (Some rest) input gives = (rest, same_Some input (read ++ rest) gives, refl)
 
 -- all that was read is a front of it and the rest
 front_rest : (read front : List ℕ) (ended : Bool) → (part : Front read ended front false) → read ≡ front ++ (part.rest ++ drop limit read)

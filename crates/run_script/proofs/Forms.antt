@@ -3,6 +3,7 @@ use Rattle.std.proofs.Common.{◌≡◌, ◌≢◌, ◌⊎◌, inl, inr, ℕ, �
 use Rattle.std.specs.Prelude.{Option, Some, None, option_map, option_and_then, Result, Ok, Err, All, IfSome}
 use Rattle.std.proofs.lemmas.Bool.Decides.{nat_tests}
 use Rattle.std.proofs.lemmas.List.Elements.{All-head, All-tail}
+use Rattle.std.proofs.lemmas.Option.{none-some}
 use Rattle.std.specs.Str.{encode_utf8_all}
 use Rattle.play_types.specs.Config.{ChannelView, ConfigView}
 use Rattle.play_outside.specs.Faults.{Rose}
@@ -30,24 +31,18 @@ use Rattle.run_script.specs.Words.{plain_playout}
 use Rattle.run_script.proofs.Complete.{completes_run, device_of_run, is_played}
 use Rattle.run_script.proofs.Setups.{files_kept, kept_but_device}
 
-no_fault : {fault : SetupFault} → Some fault ≡ None → ⊥
-no_fault e = cc
-
-no_key : {name : List ℕ} → ◌≡◌ {A = Option (List ℕ)} None (Some name) → ⊥
-no_key e = cc
-
 same_key : {one other : List ℕ} → Some one ≡ Some other → Some (ConfigKey one) ≡ Some (ConfigKey other)
 same_key e = cc
 
 -- a first sound is the key that is refused
 sound_refused : (first : Option ℕ) (name : List ℕ) (later : Option SetupFault) → option_map sound_key first ≡ Some name → sound_or first later ≡ Some (ConfigKey name)
-sound_refused None name later is = absurd (no_key is)
+sound_refused None name later is = absurd (none-some name is)
 sound_refused (Some number) name later is = same_key is
 
 -- the key that is refused in a text is its first fault
 key_refused : (files : Files) (text : Option (Result ConfigView (List ℕ))) (name : List ℕ) → option_and_then refused_of text ≡ Some name
     → fault_of_text files text ≡ Some (ConfigKey name)
-key_refused files None name is = absurd (no_key is)
+key_refused files None name is = absurd (none-some name is)
 key_refused files (Some (Err other)) name is = same_key is
 key_refused files (Some (Ok config)) name is = sound_refused (first_sound 1 config.channels) name _ is
 
@@ -219,10 +214,10 @@ module _ (media media' : FolderState) (source source' : SourceState) (sink sink'
   -- what has no fault is refused for want of memory alone, where no read fails
   not_refused : (first : Option SetupFault) → first ≡ None → (fault : SetupFault) → TellsFault (Err fault) first → (Rose media.faults media'.faults → ⊥)
       → setup.status_of fault ≡ 5
-  not_refused first none ConfigText says well = absurd (no_fault (sym says ∙ none))
-  not_refused first none (ConfigKey name) says well = absurd (no_fault (sym says ∙ none))
-  not_refused first none (MediaTwice name) says well = absurd (no_fault (sym says ∙ none))
-  not_refused first none (MediaTotal total) says well = absurd (no_fault (sym says ∙ none))
+  not_refused first none ConfigText says well = absurd (none-some _ (sym none ∙ says))
+  not_refused first none (ConfigKey name) says well = absurd (none-some _ (sym none ∙ says))
+  not_refused first none (MediaTwice name) says well = absurd (none-some _ (sym none ∙ says))
+  not_refused first none (MediaTotal total) says well = absurd (none-some _ (sym none ∙ says))
   not_refused first none Device says well = absurd (well says)
   not_refused first none Memory says well = refl
 

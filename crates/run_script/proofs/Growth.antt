@@ -1,9 +1,9 @@
 -- A script that is taken byte by byte.
-use Rattle.std.proofs.Common.{◌≡◌, ◌≢◌, ℕ, ◌+◌, ◌<◌, ◌≤◌, Bool, true, false, eqb, List, [], ◌∷◌, ◌++◌, length, refl, sym, ap, ◌∙◌, subst, arith, append-nil, append_assoc, take, get_or, length-append}
+use Rattle.std.proofs.Common.{◌≡◌, ◌≢◌, ℕ, ◌+◌, ◌<◌, ◌≤◌, Bool, true, false, List, [], ◌∷◌, ◌++◌, length, refl, sym, ap, ◌∙◌, subst, arith, append-nil, append_assoc, take, get_or, length-append}
 use Rattle.std.specs.Prelude.{Ok, Err}
 use Rattle.std.specs.List.{list_any}
 use Rattle.std.specs.Str.Lines.{strip_carriage_return}
-use Rattle.std.proofs.lemmas.Bool.{or_from}
+use Rattle.std.proofs.lemmas.Bool.{ne_eqb, or_from}
 use Rattle.std.proofs.lemmas.Bool.Decides.{nat_tests}
 use Rattle.std.proofs.lemmas.List.{map-append, length-map, take_more}
 use Rattle.std.proofs.lemmas.List.Folds.{list_any-append}
@@ -135,16 +135,13 @@ fed_stops playout old new bytes first before after taken halt.Memory takes count
     let done = taken.done in
     (bytes, 10 ∷ [], refl, record { played = done.played; said = done.said; formed = done.formed; written = takes ∙ done.written })
 
-not_feed : (byte : ℕ) → byte ≢ 10 → eqb byte 10 ≡ false
-not_feed byte other = grind (arith, nat_tests)
-
 -- a byte that ends no line waits
 pub kept : (playout : Playout) (old new : Script) (bytes : List ℕ) (byte : ℕ) (first state : SinkState)
     → byte ≢ 10 → HasTaken playout old bytes first state
     → new.stage ≡ old.stage → new.lines ≡ old.lines → new.waiting.items ≡ old.waiting.items ++ byte ∷ [] → length new.waiting.items < 8194
     → HasTaken playout new (bytes ++ byte ∷ []) first state
 kept playout old new bytes byte first state other taken stage count waiting short =
-    let is_other = not_feed byte other in
+    let is_other = ne_eqb byte 10 other in
     let lines = ended_lines-other bytes byte is_other in
     let more = unended-other bytes byte is_other in
     let rest : new.waiting.items ≡ unended (bytes ++ byte ∷ []) =
@@ -175,7 +172,7 @@ pub too_long : (playout : Playout) (old new : Script) (bytes : List ℕ) (byte :
     → new.lines ≡ old.lines → new.waiting.items ≡ old.waiting.items ++ byte ∷ [] → 8194 ≤ length new.waiting.items
     → IsBadAt playout (bytes ++ byte ∷ []) false (new.lines + 1) first state
 too_long playout old new bytes byte first state other taken count waiting long =
-    let is_other = not_feed byte other in
+    let is_other = ne_eqb byte 10 other in
     let line = unended (bytes ++ byte ∷ []) in
     let rest : new.waiting.items ≡ line =
     waiting ∙ ap (λ (text : List ℕ). text ++ byte ∷ []) taken.waiting ∙ sym (unended-other bytes byte is_other) in

@@ -2,7 +2,7 @@
 use Rattle.std.proofs.Common.{◌≡◌, ◌≢◌, ℕ, ◌+◌, ◌-◌, ◌<◌, ◌≤◌, false, eqb, List, [], ◌∷◌, ◌++◌, take, drop, get_or, length, refl, sym, ap, ◌∙◌, arith, append-nil}
 use Rattle.std.specs.Prelude.{flat_map}
 use Rattle.std.specs.Str.Lines.{strip_carriage_return}
-use Rattle.std.proofs.lemmas.Bool.Decides.{nat_tests}
+use Rattle.std.proofs.lemmas.Bool.{ne_eqb}
 use Rattle.std.proofs.lemmas.Grind.{flat_map-append}
 use Rattle.std.proofs.lemmas.List.{drop-append-le, drop-take, length-take-le, take_more, take-append-drop, drop_all}
 use Rattle.play_types.specs.declared.event.Tag.{Tag}
@@ -50,16 +50,13 @@ tagged_lines-more tag bytes rest =
       ap (flat_map (reply_line tag)) lines.1 ∙ flat_map-append (reply_line tag) (ended_lines bytes) lines.0,
     )
 
-not_feed : (byte : ℕ) → byte ≢ 10 → eqb byte 10 ≡ false
-not_feed byte other = grind (arith, nat_tests)
-
 -- a byte that ends no line
 pub other_byte : (tag : Tag) (bytes : List ℕ) (at start : ℕ) (first state : SinkState) → at < length bytes → get_or bytes at 0 ≢ 10
     → SoFar tag bytes at start first state → SoFar tag bytes (at + 1) start first state
 other_byte tag bytes at start first state inside other so_far =
     let byte = get_or bytes at 0 in
     let front = take at bytes in
-    let is_other = not_feed byte other in
+    let is_other = ne_eqb byte 10 other in
     let next : take (at + 1) bytes ≡ front ++ byte ∷ [] = take_more bytes at 0 inside in
     let size : length front ≡ at = length-take-le at bytes (omega (arith, inside)) in
     let within : start ≤ at = so_far.within in

@@ -130,7 +130,7 @@ const RUNS: [Run<'static>; 36] = [
 
 /// Lines of no form: of connections, of ticks and of stops, and with carriage returns that belong to no end.
 const NO_FORM: [&str; 25] = [
-    " T", " #", "1.1PLAY", "1.1", "0.1 x", "65536.1 ", "1.0 x", "01.1 x", "1.01 x", "1 .1 x",
+    " T", " #", "1.1PLAY", "1.1", "0.1 x", "65536.1 ", "1.0 x", "07.1 x", "1.01 x", "1 .1 x",
     ".1 x", "T 0", "T 100001", "T ", "T  2", "T 2 ", "T x", "TT", "X ", "XX", "x", "T\r", "X\r",
     "T\r\r\n", "\r",
 ];

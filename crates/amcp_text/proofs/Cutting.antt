@@ -2,7 +2,7 @@
 use Rattle.std.proofs.Common.{◌≡◌, ℕ, List, [], ◌∷◌, ◌++◌, refl, sym, ap, ◌∙◌, append_assoc, append-nil}
 use Rattle.std.specs.Prelude.{Some}
 use Rattle.amcp_text.specs.Lines.{Line, lines_of}
-use Rattle.amcp_text.specs.Reader.{Tells, line_seen}
+use Rattle.amcp_text.specs.Reader.{IsLineOf, line_view}
 use Rattle.amcp_text.specs.declared.line_reader.LineEvent.{LineEvent}
 
 -- of what was taken of a stream these lines were told, and the reader stands for the bytes after them
@@ -22,11 +22,11 @@ told_more piece {taken} {bytes} {lines} told = record {
 }
 
 -- a line was told and dropped
-pub told_line : (event : LineEvent) {taken bytes : List ℕ} {lines : List Line} → HasTold taken lines bytes → Tells (Some event) bytes
-    → HasTold taken (lines ++ line_seen event ∷ []) []
+pub told_line : (event : LineEvent) {taken bytes : List ℕ} {lines : List Line} → HasTold taken lines bytes → IsLineOf (Some event) bytes
+    → HasTold taken (lines ++ line_view event ∷ []) []
 told_line event {lines = lines} told tells = record {
   first = λ rest.
-      told.first rest ∙ ap (λ (ls : List Line). lines ++ ls) (tells rest) ∙ sym (append_assoc lines (line_seen event ∷ []) (lines_of rest));
+      told.first rest ∙ ap (λ (ls : List Line). lines ++ ls) (tells rest) ∙ sym (append_assoc lines (line_view event ∷ []) (lines_of rest));
 }
 
 -- at the end of the stream, where no line is held, all its lines were told

@@ -1,5 +1,6 @@
 -- What a line reader keeps, and the bytes that it stands for.
-use Rattle.std.proofs.Common.{◌≡◌, ℕ, ◌+◌, ◌-◌, ◌<◌, ◌≤◌, min, Bool, true, false, cond, ◌||◌, List, [], ◌∷◌, ◌++◌, take, length, get_or, refl, sym, ap, ◌∙◌, arith, inl, inr, append_assoc}
+use Rattle.std.proofs.Common.{◌≡◌, ℕ, ◌+◌, ◌-◌, ◌<◌, ◌≤◌, min, true, false, cond, ◌||◌, List, [], ◌∷◌, ◌++◌, take, length, get_or, refl, sym, ap, ◌∙◌, arith, inl, inr, append_assoc}
+use Rattle.std.proofs.Math.Bool.{or-false}
 use Rattle.std.specs.Prelude.{Some, None, nat_lt, ◌==◌, slice_index}
 use Rattle.std.specs.List.{list_any, before_first, after_first, position}
 use Rattle.std.specs.Str.Lines.{strip_carriage_return}
@@ -11,13 +12,9 @@ use Rattle.std.proofs.lemmas.List.Folds.{list_any-append}
 use Rattle.std.proofs.lemmas.List.Quantifiers.{position-Some}
 use Rattle.amcp_text.specs.Lines.{Line, TooLong, is_line_end, line_of, lines_of, IsEnded}
 use Rattle.amcp_text.specs.ReaderState.{ReaderState}
-use Rattle.amcp_text.specs.Reader.{StandsFor, with_text, line_kept}
+use Rattle.amcp_text.specs.Reader.{Represents, with_text, line_kept}
 use Rattle.amcp_text.proofs.FirstEnd.{before_first_none, after_first_none, before_first_at, after_first_at, cut_at_first, list_any-before_first, list_any_from_position, list_any-take_position}
 use Rattle.amcp_text.proofs.LineLaws.{lines_of_none, lines_of_at}
-
-or-false : (b : Bool) → (b || false) ≡ b
-or-false true = refl
-or-false false = refl
 
 -- what there is room for is the front of the text so far
 take_kept : (kept text : List ℕ) → length kept ≤ 4097
@@ -59,9 +56,9 @@ over_more : (n : ℕ) (xs ys : List ℕ) → (nat_lt n (length xs) || nat_lt n (
 over_more n xs ys = simp (length-append, length-take) (grind (arith, nat_tests))
 
 -- more text of the line came
-pub StandsFor-text : (r : ReaderState) (bytes text : List ℕ) → StandsFor r bytes → r.held ≡ false → list_any is_line_end text ≡ false
-    → StandsFor (with_text r text) (bytes ++ text)
-StandsFor-text r bytes text s unheld none =
+pub Represents-text : (r : ReaderState) (bytes text : List ℕ) → Represents r bytes → r.held ≡ false → list_any is_line_end text ≡ false
+    → Represents (with_text r text) (bytes ++ text)
+Represents-text r bytes text s unheld none =
     let unended = sym s.held ∙ unheld in
     let joined = list_any-append is_line_end bytes text ∙ or_from _ _ unended none in
     let all = before_first_none is_line_end bytes unended in
@@ -76,9 +73,9 @@ StandsFor-text r bytes text s unheld none =
     }
 
 -- the end of the line came
-pub StandsFor-end : (r : ReaderState) (bytes : List ℕ) → StandsFor r bytes → r.held ≡ false
-    → StandsFor (record { kept = r.kept; over = r.over; held = true }) (bytes ++ 10 ∷ [])
-StandsFor-end r bytes s unheld =
+pub Represents-end : (r : ReaderState) (bytes : List ℕ) → Represents r bytes → r.held ≡ false
+    → Represents (record { kept = r.kept; over = r.over; held = true }) (bytes ++ 10 ∷ [])
+Represents-end r bytes s unheld =
     let unended = sym s.held ∙ unheld in
     let same = before_first_at is_line_end bytes 10 [] unended refl ∙ sym (before_first_none is_line_end bytes unended) in
     record {
@@ -89,21 +86,21 @@ StandsFor-end r bytes s unheld =
     }
 
 -- a piece without a line end was taken whole
-pub StandsFor-piece : (r : ReaderState) (piece bytes : List ℕ) → position is_line_end piece ≡ None → r.held ≡ false → StandsFor r bytes
-    → StandsFor (with_text r piece) (bytes ++ take (length piece) piece)
-StandsFor-piece r piece bytes none unheld s =
+pub Represents-piece : (r : ReaderState) (piece bytes : List ℕ) → position is_line_end piece ≡ None → r.held ≡ false → Represents r bytes
+    → Represents (with_text r piece) (bytes ++ take (length piece) piece)
+Represents-piece r piece bytes none unheld s =
     rw (take_all (length piece) piece (omega arith))
-    (StandsFor-text r bytes piece s unheld (list_any_from_position is_line_end piece none))
+    (Represents-text r bytes piece s unheld (list_any_from_position is_line_end piece none))
 
 -- a piece was taken up to and with its first line end
-pub StandsFor-line_end : (r after : ReaderState) (piece bytes : List ℕ) (end : ℕ) → position is_line_end piece ≡ Some end → r.held ≡ false
-    → after ≡ with_text r (take end piece) → StandsFor r bytes
-    → StandsFor (record { kept = after.kept; over = after.over; held = true }) (bytes ++ take (end + 1) piece)
-StandsFor-line_end r after piece bytes end found unheld e s =
+pub Represents-line_end : (r after : ReaderState) (piece bytes : List ℕ) (end : ℕ) → position is_line_end piece ≡ Some end → r.held ≡ false
+    → after ≡ with_text r (take end piece) → Represents r bytes
+    → Represents (record { kept = after.kept; over = after.over; held = true }) (bytes ++ take (end + 1) piece)
+Represents-line_end r after piece bytes end found unheld e s =
     let place = position-Some is_line_end piece end 0 found in
-    let text = StandsFor-text r bytes (take end piece) s unheld (list_any-take_position is_line_end piece end found) in
+    let text = Represents-text r bytes (take end piece) s unheld (list_any-take_position is_line_end piece end found) in
     rw (e, take_more piece end 0 place.0, eqb-true (get_or piece end 0) 10 place.1, ← append_assoc bytes (take end piece) (10 ∷ []))
-    (StandsFor-end (with_text r (take end piece)) (bytes ++ take end piece) text unheld)
+    (Represents-end (with_text r (take end piece)) (bytes ++ take end piece) text unheld)
 
 length-strip_carriage_return : (l : List ℕ) → length l - 1 ≤ length (strip_carriage_return l)
 length-strip_carriage_return l =
@@ -120,7 +117,7 @@ line_of_kept part = elim (cases_lt 4097 (length part)) [
 ]
 
 -- where no line is held, the bytes have none
-pub lines_unheld : (r : ReaderState) (bytes : List ℕ) → StandsFor r bytes → r.held ≡ false → lines_of bytes ≡ []
+pub lines_unheld : (r : ReaderState) (bytes : List ℕ) → Represents r bytes → r.held ≡ false → lines_of bytes ≡ []
 lines_unheld r bytes s unheld = lines_of_none bytes (sym s.held ∙ unheld)
 
 -- where a line is held, the bytes are that line
@@ -128,7 +125,7 @@ pub record HoldsLine (r : ReaderState) (bytes : List ℕ) : Type 0 where
   pub ended : IsEnded bytes
   pub first : (rest : List ℕ) → lines_of (bytes ++ rest) ≡ line_kept r ∷ lines_of rest
 
-pub lines_held : (r : ReaderState) (bytes : List ℕ) → StandsFor r bytes → r.held ≡ true → HoldsLine r bytes
+pub lines_held : (r : ReaderState) (bytes : List ℕ) → Represents r bytes → r.held ≡ true → HoldsLine r bytes
 lines_held r bytes s held =
     let cut = cut_at_first is_line_end bytes (sym s.held ∙ held) in
     let part = before_first is_line_end bytes in

@@ -3,8 +3,9 @@ use Rattle.std.specs.Prelude.{◌≡◌, ℕ, ◌-◌, ◌==◌, nat_lt, ◌⊎�
 use Rattle.std.specs.List.{slice_split}
 use Rattle.std.specs.Str.{chars, is_utf8}
 use Rattle.std.specs.Str.Lines.{strip_carriage_return}
+use Rattle.amcp_text.specs.declared.line_reader.TheConstants.{MAX_LINE_BYTES}
 
--- a line: its characters, or that its text has more than 4,096 bytes, or else is not UTF-8
+-- a line: its characters, or that its text has more bytes than a line may have, or else is not UTF-8
 pub data Line : Type 0 where
   Text : List ℕ → Line
   TooLong : Line
@@ -16,7 +17,7 @@ is_line_end byte = byte == 10
 
 -- the line of this text
 abbrev pub line_of_text : List ℕ → Line
-line_of_text text = if nat_lt 4096 (length text) then TooLong else (if is_utf8 text then Text (chars text) else NotUtf8)
+line_of_text text = if nat_lt MAX_LINE_BYTES (length text) then TooLong else (if is_utf8 text then Text (chars text) else NotUtf8)
 
 -- the line with these bytes before its LF: one CR at their end belongs to the line's end
 abbrev pub line_of : List ℕ → Line

@@ -1,5 +1,5 @@
 -- Whole numbers and decimals.
-use Rattle.std.specs.Prelude.{ℕ, ◌+◌, ◌*◌, ◌==◌, nat_lt, Bool, ◌&&◌, if◌then◌else◌, Option, Some, None, List, ◌++◌, length, take, replicate, ℤ, pos, neg_ℤ}
+use Rattle.std.specs.Prelude.{ℕ, ◌+◌, ◌*◌, ◌==◌, nat_le, nat_lt, Bool, ◌&&◌, if◌then◌else◌, Option, Some, None, option_and_then, List, [], ◌∷◌, ◌++◌, length, take, replicate, ℤ, pos, neg_ℤ}
 use Rattle.std.specs.List.{before_first, after_first, list_all}
 use Rattle.std.specs.Char.{is_ascii_digit}
 use Rattle.std.specs.Str.Parse.{digits_value, starts_with_minus, without_leading_sign}
@@ -11,6 +11,19 @@ are_digits text = list_all is_ascii_digit text
 -- the number that one or more digits write: leading zeros are allowed
 abbrev pub whole_number : List ℕ → Option ℕ
 whole_number text = if nat_lt 0 (length text) && are_digits text then Some (digits_value 10 text) else None
+
+-- a number, where it lies from `least` to `most`
+abbrev pub within : ℕ → ℕ → ℕ → Option ℕ
+within least most number = if nat_le least number && nat_le number most then Some number else None
+
+-- the whole number that a text writes, where it lies from `least` to `most`
+abbrev pub number_within : ℕ → ℕ → List ℕ → Option ℕ
+number_within least most text = option_and_then (within least most) (whole_number text)
+
+-- the whole number that a text writes without a leading zero, where it lies from `least` to `most`
+abbrev pub plain_number_within : ℕ → ℕ → List ℕ → Option ℕ
+plain_number_within least most [] = None
+plain_number_within least most (c ∷ cs) = if c == 48 then None else number_within least most (c ∷ cs)
 
 abbrev pub is_point : ℕ → Bool
 is_point c = c == 46

@@ -4,15 +4,16 @@ use Rattle.std.specs.List.{before_first, after_first, position_or_len, list_any}
 use Rattle.std.specs.Str.{chars}
 use Rattle.amcp_text.specs.Lines.{Line, Text, TooLong, NotUtf8, is_line_end, line_of, lines_of}
 use Rattle.amcp_text.specs.ReaderState.{ReaderState}
+use Rattle.amcp_text.specs.declared.line_reader.TheConstants.{MAX_LINE_BYTES}
 use Rattle.amcp_text.specs.declared.line_reader.LineEvent.{LineEvent}
 use Rattle.amcp_text.specs.declared.line_reader.LineEvent.TheVariants as event
 
 -- the reader stands for these bytes, taken since the line before
-pub record StandsFor (reader : ReaderState) (bytes : List ℕ) : Type 0 where
+pub record Represents (reader : ReaderState) (bytes : List ℕ) : Type 0 where
   -- nothing follows a line end
   pub one_line : after_first is_line_end bytes ≡ []
-  pub kept : reader.kept ≡ take 4097 (before_first is_line_end bytes)
-  pub over : reader.over ≡ nat_lt 4097 (length (before_first is_line_end bytes))
+  pub kept : reader.kept ≡ take (MAX_LINE_BYTES + 1) (before_first is_line_end bytes)
+  pub over : reader.over ≡ nat_lt (MAX_LINE_BYTES + 1) (length (before_first is_line_end bytes))
   pub held : reader.held ≡ list_any is_line_end bytes
 
 -- how many bytes of a piece are taken: none where a line is held, else those up to and with the first line end
@@ -20,21 +21,21 @@ abbrev pub taken_len : Bool → List ℕ → ℕ
 taken_len held piece = if held then 0 else min (position_or_len is_line_end piece + 1) (length piece)
 
 -- the line that an event tells
-abbrev pub line_seen : LineEvent → Line
-line_seen (event.Line text) = Text (chars text.now)
-line_seen event.TooLong = TooLong
-line_seen event.NotUtf8 = NotUtf8
+abbrev pub line_view : LineEvent → Line
+line_view (event.Line text) = Text (chars text.now)
+line_view event.TooLong = TooLong
+line_view event.NotUtf8 = NotUtf8
 
 -- what a reader tells of the bytes that it stands for: no line, or their line, which stands first whatever follows them
-abbrev pub Tells : Option LineEvent → List ℕ → Type 0
-Tells None bytes = lines_of bytes ≡ []
-Tells (Some event) bytes = (rest : List ℕ) → lines_of (bytes ++ rest) ≡ line_seen event ∷ lines_of rest
+abbrev pub IsLineOf : Option LineEvent → List ℕ → Type 0
+IsLineOf None bytes = lines_of bytes ≡ []
+IsLineOf (Some event) bytes = (rest : List ℕ) → lines_of (bytes ++ rest) ≡ line_view event ∷ lines_of rest
 
 -- the reader after more of a line's text came: as much is kept as there is room for
 abbrev pub with_text : ReaderState → List ℕ → ReaderState
 with_text reader text = record {
-  kept = take 4097 (reader.kept ++ text);
-  over = reader.over || nat_lt 4097 (length (reader.kept ++ text));
+  kept = take (MAX_LINE_BYTES + 1) (reader.kept ++ text);
+  over = reader.over || nat_lt (MAX_LINE_BYTES + 1) (length (reader.kept ++ text));
   held = reader.held;
 }
 

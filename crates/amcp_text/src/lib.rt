@@ -6,10 +6,12 @@
 #![tactic(auto)]
 
 mod line_reader;
+mod number;
 mod token;
 mod word_list;
 
-pub use line_reader::{LineEvent, LineReader};
+pub use line_reader::{LineEvent, LineReader, MAX_LINE_BYTES, without_carriage_return};
+pub use number::{is_whole_number, number_within, plain_number_within, word_within};
 pub use token::{TokenFault, tokens};
 pub use word_list::WordList;
 

@@ -3,16 +3,16 @@ ghost use Rattle.std.specs.Prelude.{◌≡◌, ℕ, List, [], ◌++◌, take, If
 ghost use Rattle.std.specs.List.{position};
 ghost use Rattle.std.specs.Str.Lines.{strip_carriage_return};
 ghost use Rattle.amcp_text.specs.Lines.{line_of_text, is_line_end};
-ghost use Rattle.amcp_text.specs.Reader.{StandsFor, Tells, taken_len, with_text, line_seen, line_kept};
+ghost use Rattle.amcp_text.specs.Reader.{Represents, IsLineOf, taken_len, with_text, line_view, line_kept};
 
 use std::alloc::{AllocError, Global};
 use std::marker::Model;
 
-/// The longest text of a line, in bytes.
-const LINE_LIMIT: usize = 4096;
+/// The most bytes of a line's text.
+pub const MAX_LINE_BYTES: usize = 4_096;
 
 /// How many bytes of a line are kept: the longest text, and the CR that may belong to the line's end.
-const ROOM: usize = 4097;
+const ROOM: usize = MAX_LINE_BYTES + 1;
 
 const LINE_END: u8 = b'\n';
 
@@ -27,9 +27,24 @@ pub enum LineEvent<'a> {
     NotUtf8,
 }
 
+impl<'a> LineEvent<'a> {
+    /// Returns the line of this text, whose end is left out.
+    pub fn of(text: &'a [u8]) -> LineEvent<'a>
+        ensures { line_view result ≡ line_of_text text.now }
+    {
+        if text.len() > MAX_LINE_BYTES {
+            return LineEvent::TooLong;
+        }
+        match str::from_utf8(text) {
+            Ok(text) => LineEvent::Line(text),
+            Err(_) => LineEvent::NotUtf8,
+        }
+    }
+}
+
 /// Takes the bytes of a stream and holds one line at a time.
 ///
-/// It stands for the bytes taken since its last `next_line` or `clear`: it keeps at most 4,097 of them, and whether
+/// It represents the bytes taken since its last `next_line` or `clear`: it keeps at most 4,097 of them, and whether
 /// there were more.
 #[derive(Debug, Drop)]
 pub struct LineReader {
@@ -39,20 +54,21 @@ pub struct LineReader {
 }
 
 impl Model for LineReader {
-    ghost use Rattle.std.specs.Prelude.{◌≡◌, ◌≤◌, vec_capacity, vec_len};
+    ghost use Rattle.std.specs.Prelude.{◌≡◌, ◌+◌, ◌≤◌, vec_capacity, vec_len};
     ghost use Rattle.amcp_text.specs.ReaderState.{ReaderState};
+    ghost use Rattle.amcp_text.specs.declared.line_reader.TheConstants.{ROOM};
 
     ghost Value = { ReaderState };
 
     ghost view = { λ r. record { kept = r.kept.items; over = r.over; held = r.held } };
 
-    ghost invariant = { λ r. (vec_len r.kept ≤ 4097) × (4097 ≤ vec_capacity r.kept) };
+    ghost invariant = { λ r. (vec_len r.kept ≤ ROOM) × (ROOM ≤ vec_capacity r.kept) };
 }
 
 impl LineReader {
     /// A reader that has taken nothing. It takes the room for one line.
     pub fn new(alloc: Global) -> Result<LineReader, AllocError>
-        ensures { IfOk result (λ reader. StandsFor reader []) }
+        ensures { IfOk result (λ reader. Represents reader []) }
     {
         let kept = Vec::with_capacity(alloc, ROOM)?;
         Ok(LineReader {
@@ -67,7 +83,7 @@ impl LineReader {
     pub fn feed(&mut self, piece: &[u8]) -> usize
         ensures count { result ≡ taken_len self.old.held piece.now }
         ensures stands { (bytes : List ℕ)
-            → StandsFor self.old bytes → StandsFor self.new (bytes ++ take result piece.now) }
+            → Represents self.old bytes → Represents self.new (bytes ++ take result piece.now) }
     {
         if self.held {
             return 0;
@@ -88,7 +104,7 @@ impl LineReader {
     /// The line that is held: `None` exactly where no whole line is held.
     pub fn line(&self) -> Option<LineEvent<'_>>
         ensures held { is_some result ≡ self.now.held }
-        ensures line { (bytes : List ℕ) → StandsFor self.now bytes → Tells result bytes }
+        ensures line { (bytes : List ℕ) → Represents self.now bytes → IsLineOf result bytes }
     {
         if !self.held {
             return None;
@@ -98,14 +114,14 @@ impl LineReader {
 
     /// Drops the line that is held. Where no whole line is held, the bytes taken so far are dropped.
     pub fn next_line(&mut self)
-        ensures { StandsFor self.new [] }
+        ensures { Represents self.new [] }
     {
         self.clear();
     }
 
     /// Drops all bytes that were taken.
     pub fn clear(&mut self)
-        ensures { StandsFor self.new [] }
+        ensures { Represents self.new [] }
     {
         self.kept.clear();
         self.over = false;
@@ -118,9 +134,7 @@ impl LineReader {
     {
         let room = ROOM - self.kept.len();
         let fits = text.len().min(room);
-        if self.kept.extend_from_slice(&text[..fits]).is_err() {
-            unreachable!();
-        }
+        self.kept.extend_from_slice(&text[..fits]).unwrap();
         if fits < text.len() {
             self.over = true;
         }
@@ -128,12 +142,12 @@ impl LineReader {
 
     /// The line whose end has come.
     fn whole_line(&self) -> LineEvent<'_>
-        ensures { line_seen result ≡ line_kept self.now }
+        ensures { line_view result ≡ line_kept self.now }
     {
         if self.over {
             return LineEvent::TooLong;
         }
-        line_of_text(without_return(self.kept.as_slice()))
+        LineEvent::of(without_carriage_return(self.kept.as_slice()))
     }
 }
 
@@ -144,25 +158,12 @@ fn line_end(piece: &[u8]) -> Option<usize>
     piece.iter().position(|byte| *byte == LINE_END)
 }
 
-/// The bytes without the one CR at their end, where there is one.
-fn without_return(bytes: &[u8]) -> &[u8]
-    ensures { result.now ≡ strip_carriage_return bytes.now }
+/// Returns a line, whose LF is left out, without the one CR at its end, where there is one.
+pub fn without_carriage_return(line: &[u8]) -> &[u8]
+    ensures { result.now ≡ strip_carriage_return line.now }
 {
-    match bytes {
+    match line {
         [text @ .., b'\r'] => text,
-        _ => bytes,
-    }
-}
-
-/// The line of this text.
-fn line_of_text(text: &[u8]) -> LineEvent<'_>
-    ensures { line_seen result ≡ line_of_text text.now }
-{
-    if text.len() > LINE_LIMIT {
-        return LineEvent::TooLong;
-    }
-    match str::from_utf8(text) {
-        Ok(text) => LineEvent::Line(text),
-        Err(_) => LineEvent::NotUtf8,
+        _ => line,
     }
 }

@@ -6,6 +6,8 @@ ghost use Rattle.amcp_text.specs.Tokens.{AreTokens};
 
 use crate::word_list::WordList;
 use std::alloc::{AllocError, Global};
+use std::error::Error;
+use std::fmt;
 
 /// Why a line has no words. `at` is a byte of the line.
 #[derive(Clone, Copy, Debug, PartialEq, Eq)]
@@ -14,8 +16,23 @@ pub enum TokenFault {
     OpenQuote { at: usize },
     /// The backslash at `at` is followed by no character, or by one that forms no escape with it.
     BadEscape { at: usize },
+    /// Memory ran out.
     OutOfMemory,
 }
+
+impl fmt::Display for TokenFault {
+    fn fmt<W: fmt::Write>(&self, f: &mut fmt::Formatter<W>) -> fmt::Result {
+        match self {
+            TokenFault::OpenQuote { at } => write!(f, "the quotes at byte {at} are not closed"),
+            TokenFault::BadEscape { at } => {
+                write!(f, "the backslash at byte {at} begins no escape")
+            }
+            TokenFault::OutOfMemory => write!(f, "out of memory"),
+        }
+    }
+}
+
+impl Error for TokenFault {}
 
 impl From<AllocError> for TokenFault {
     ghost use Rattle.std.specs.Prelude.{◌≡◌};

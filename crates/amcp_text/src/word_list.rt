@@ -1,9 +1,11 @@
 //! The words of a line.
-ghost use Rattle.std.specs.Prelude.{◌≡◌, ◌==◌, ◌∷◌, ◌++◌, [], length, OnOk, OnErr, option_map, slice_get};
+ghost use Rattle.std.specs.Prelude.{◌≡◌, ◌==◌, ◌∷◌, ◌++◌, [], length, map, OnOk, OnErr, option_map, slice_get, string_bytes};
+ghost use Rattle.std.specs.Slice.Iter.{iter_rest};
 ghost use Rattle.std.specs.Str.{chars};
 
 use std::alloc::{AllocError, Global};
 use std::marker::Model;
+use std::slice;
 
 /// Words in order. Contracts see a list of words, each the list of its characters.
 #[derive(Debug, Drop)]
@@ -52,13 +54,17 @@ impl WordList {
         self.words.is_empty()
     }
 
+    /// Returns the words in order.
+    pub fn iter(&self) -> slice::Iter<'_, String>
+        ensures { map (λ word. chars (string_bytes word)) (iter_rest result) ≡ self.now }
+    {
+        self.words.iter()
+    }
+
     /// `None` exactly where `at` is not below the length.
     pub fn get(&self, at: usize) -> Option<&str>
         ensures { option_map (λ word. chars word.now) result ≡ slice_get self.now at }
     {
-        match self.words.get(at) {
-            Some(word) => Some(word.as_str()),
-            None => None,
-        }
+        self.words.get(at).map(|word| word.as_str())
     }
 }

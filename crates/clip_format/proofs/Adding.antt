@@ -9,7 +9,7 @@ use Rattle.std.proofs.lemmas.List.Elements.{All-nil, All-cons}
 use Rattle.std.proofs.lemmas.Slice.Eq.{bytes_eq-Decides}
 use Rattle.indexmap.specs.IndexMap.{insert_entry}
 use Rattle.play_types.specs.ClipFile.{ClipView}
-use Rattle.clip_format.specs.declared.fault.ClipFault.{ClipFault}
+use Rattle.play_types.specs.declared.clip_fault.ClipFault.{ClipFault}
 use Rattle.clip_format.specs.Table.{Entry, IsBelow, IsAbove, IsRising, IsReady, IsMediaTable}
 use Rattle.clip_format.specs.Shown.{entry_of, entries_of}
 

@@ -8,8 +8,8 @@ use Rattle.std.proofs.lemmas.Nat.{from_be_bytes-to_be_bytes_2, from_be_bytes-to_
 use Rattle.std.proofs.lemmas.Slice.Eq.{bytes_eq-Decides}
 use Rattle.play_types.specs.Geometry.{frame_bytes}
 use Rattle.play_types.specs.ClipFile.{ClipView, IsClip, IsClipFile, clip_bytes}
-use Rattle.clip_format.specs.declared.fault.ClipFault.{ClipFault}
-use Rattle.clip_format.specs.declared.fault.ClipFault.TheVariants.{Short, Long}
+use Rattle.play_types.specs.declared.clip_fault.ClipFault.{ClipFault}
+use Rattle.play_types.specs.declared.clip_fault.ClipFault.TheVariants.{Short, Long}
 use Rattle.clip_format.specs.Decoding.{number_of_2, number_of_4, is_within, header_fault, header_size, header_frames, announced, clip_of}
 
 -- the fields of a header that is accepted

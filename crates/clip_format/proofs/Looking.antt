@@ -5,7 +5,7 @@ use Rattle.std.specs.Global.{Global}
 use Rattle.std.proofs.lemmas.Option.{slice_get-map, slice_get_within, unwrap_or-slice_get}
 use Rattle.std.proofs.lemmas.List.{map-append, take_more}
 use Rattle.play_types.specs.ClipFile.{ClipView}
-use Rattle.clip_format.specs.declared.fault.ClipFault.{ClipFault}
+use Rattle.play_types.specs.declared.clip_fault.ClipFault.{ClipFault}
 use Rattle.clip_format.specs.Table.{Entry, IsReady, IsMediaTable, media_name, media_names}
 use Rattle.clip_format.specs.Shown.{entry_of, entries_of}
 

@@ -4,8 +4,8 @@ use Rattle.std.specs.Int.{w16, w32, from_be_bytes}
 use Rattle.play_types.specs.declared.geometry.Geometry.{Geometry}
 use Rattle.play_types.specs.Geometry.{frame_bytes}
 use Rattle.play_types.specs.ClipFile.{ClipView}
-use Rattle.clip_format.specs.declared.fault.ClipFault.{ClipFault}
-use Rattle.clip_format.specs.declared.fault.ClipFault.TheVariants.{BadMagic, BadVersion, BadField, Short, Long}
+use Rattle.play_types.specs.declared.clip_fault.ClipFault.{ClipFault}
+use Rattle.play_types.specs.declared.clip_fault.ClipFault.TheVariants.{BadMagic, BadVersion, BadField, Short, Long}
 
 -- the number of the two bytes at a place, the higher one first
 abbrev pub number_of_2 : List ℕ → ℕ → ℕ

@@ -2,4 +2,4 @@ pub mod Decoding
 pub mod Lowering
 pub mod Table
 pub mod Shown
-pub mod FileClip
+pub mod inner

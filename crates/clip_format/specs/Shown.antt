@@ -3,7 +3,7 @@ use Rattle.std.specs.Prelude.{List, map, String, Result, string_bytes}
 use Rattle.std.specs.Global.{Global}
 use Rattle.std.specs.Str.{chars}
 use Rattle.play_types.specs.ClipFile.{ClipView}
-use Rattle.clip_format.specs.declared.fault.ClipFault.{ClipFault}
+use Rattle.play_types.specs.declared.clip_fault.ClipFault.{ClipFault}
 use Rattle.clip_format.specs.Table.{Entry}
 
 -- an entry under the characters of its name

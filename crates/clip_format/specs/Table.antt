@@ -1,12 +1,12 @@
 -- What contracts see of the media table.
-use Rattle.std.specs.Prelude.{◌≡◌, ◌≢◌, ℕ, ◌≤◌, true, false, List, [], ◌∷◌, length, map, All, Option, Some, None, option_and_then, slice_get, Result, Ok, Err}
+use Rattle.std.specs.Prelude.{◌≡◌, ◌≢◌, ℕ, ◌≤◌, true, List, [], ◌∷◌, length, map, All, Option, Some, None, option_and_then, slice_get, Result, Ok, Err}
 use Rattle.std.specs.Ordering.{nat_cmp, is_lt}
 use Rattle.std.specs.Cmp.Lexicographic.{slice_cmp}
 use Rattle.std.specs.Str.{encode_utf8_all}
 use Rattle.play_types.specs.ClipFile.{ClipView}
-use Rattle.play_types.specs.Media.{MediaNameView, media_name_of}
-use Rattle.clip_format.specs.declared.fault.ClipFault.{ClipFault}
-use Rattle.clip_format.specs.declared.fault.ClipFault.TheVariants.{OutOfMemory}
+use Rattle.play_types.specs.Media.{MediaNameView, clip_name, unreadable_name}
+use Rattle.play_types.specs.declared.clip_fault.ClipFault.{ClipFault}
+use Rattle.play_types.specs.declared.clip_fault.ClipFault.TheVariants.{OutOfMemory}
 use Rattle.clip_format.specs.Lowering.{IsLowered}
 
 -- a name and its clip, or the fault of its file
@@ -50,8 +50,8 @@ clip_at entries id = option_and_then (λ entry. readable entry.clip) (slice_get 
 -- a name with the numbers of its clip, where the file is readable
 abbrev pub media_name : List ℕ → Result ClipView ClipFault → MediaNameView
 media_name name (Ok clip) =
-    media_name_of name true clip.geometry.width clip.geometry.height clip.frames clip.geometry.pairs
-media_name name (Err fault) = media_name_of name false 0 0 0 0
+    clip_name name clip.geometry clip.frames
+media_name name (Err fault) = unreadable_name name
 
 -- the names of a table, in its order
 abbrev pub media_names : List Entry → List MediaNameView

@@ -2,11 +2,10 @@
 ghost use Rattle.std.specs.Prelude.{◌≡◌, ◌≢◌, ◌≤◌, length, drop, Ok, Err, IfOk, IfErr};
 ghost use Rattle.play_types.specs.ClipFile.{ClipView, IsClipFile};
 ghost use Rattle.clip_format.specs.Decoding.{clip_of};
-ghost use Rattle.clip_format.specs.FileClip.{file_clip};
+ghost use Rattle.clip_format.specs.inner.FileClip.{file_clip};
 
-use crate::fault::ClipFault;
 use crate::header::{HEADER_LEN, Header, fault_of, numbers_in};
-use play_types::{ByteList, Clip};
+use play_types::{ByteList, Clip, ClipFault};
 
 /// Reads a clip file. The clip keeps the bytes after the header as they are, and no memory is taken.
 ///

@@ -3,7 +3,7 @@ ghost use Rattle.std.specs.Prelude.{◌≡◌, ◌∷◌, ◌++◌, [], Ok, Err,
 ghost use Rattle.clip_format.specs.Decoding.{clip_of};
 ghost use Rattle.clip_format.specs.Lowering.{lowered_clip};
 
-use crate::fault::ClipFault;
+use play_types::ClipFault;
 
 /// One pixel of opaque black, and files that are not quite it.
 #[tactic(auto, unfolding(crate::specs::Decoding::clip_of, crate::specs::Decoding::header_fault))]

@@ -3,8 +3,7 @@ ghost use Rattle.std.specs.Prelude.{◌≡◌, ◌≢◌, ◌+◌, ◌≤◌, le
 ghost use Rattle.play_types.specs.ClipFile.{header_bytes};
 ghost use Rattle.clip_format.specs.Decoding.{header_fault, header_frames, header_size, is_within, number_of_2, number_of_4};
 
-use crate::fault::ClipFault;
-use play_types::Geometry;
+use play_types::{ClipFault, Geometry};
 
 /// The bytes of a header.
 pub(crate) const HEADER_LEN: usize = 20;

@@ -10,14 +10,12 @@
 mod decoding;
 mod encoding;
 mod examples;
-mod fault;
 mod header;
 mod laws;
 mod table;
 
 pub use decoding::decode;
 pub use encoding::encode;
-pub use fault::ClipFault;
 pub use table::MediaTable;
 
 #[cfg(test)]

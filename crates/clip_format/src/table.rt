@@ -4,9 +4,8 @@ ghost use Rattle.std.specs.Str.{chars};
 ghost use Rattle.clip_format.specs.Lowering.{IsLowered};
 ghost use Rattle.clip_format.specs.Table.{IsAbove, IsMediaTable, IsReady, clip_at, media_name, media_names};
 
-use crate::fault::ClipFault;
 use indexmap::IndexMap;
-use play_types::{Clip, MediaName, MediaNames, Text};
+use play_types::{Clip, ClipFault, MediaName, MediaNames, Text};
 use std::alloc::{AllocError, Global};
 use std::marker::Model;
 
@@ -103,22 +102,8 @@ fn name_of(
     ensures { IfOk result (λ media. media ≡ media_name (chars name.now) clip.now) }
 {
     let name = Text::copy(alloc, name)?;
-    let made = match clip {
-        Ok(clip) => {
-            let size = clip.geometry();
-            MediaName::new(
-                name,
-                true,
-                size.width,
-                size.height,
-                clip.frames(),
-                size.pairs,
-            )
-        }
-        Err(_) => MediaName::new(name, false, 0, 0, 0, 0),
-    };
-    match made {
-        Some(media) => Ok(media),
-        None => unreachable!(),
+    match clip {
+        Ok(clip) => Ok(MediaName::clip(name, clip.geometry(), clip.frames()).unwrap()),
+        Err(_) => Ok(MediaName::unreadable(name)),
     }
 }

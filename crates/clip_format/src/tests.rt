@@ -2,7 +2,7 @@
 
 use crate::*;
 use play_outside::{MemSink, Sent};
-use play_types::Text;
+use play_types::{ClipFault, Text};
 use std::test::Fail;
 
 const SMALLEST: &[u8] = b"RCLP\0\x01\0\0\0\x01\0\x01\0\0\0\x01\0\0\0\0\0\0\xff\xff";
@@ -119,6 +119,6 @@ fn tables(rt: HostRuntime) -> Result<(), Fail> {
     assert_eq!(rt; names.len(), 1);
     let name = names.get(0).ok_or("a name")?;
     assert!(rt; name.name().is_same("SHORTER"));
-    assert!(rt; !name.readable());
+    assert!(rt; !name.is_readable());
     Ok(())
 }

@@ -11,14 +11,14 @@ use Rattle.play_types.proofs.Texts.{encode_utf8_all-chars}
 use Rattle.play_types.specs.ClipFile.{ClipView}
 use Rattle.play_outside.specs.FolderState.{Files}
 use Rattle.play_outside.specs.Folder.{IsHeld, bytes_at}
-use Rattle.clip_format.specs.declared.fault.ClipFault.{ClipFault}
+use Rattle.play_types.specs.declared.clip_fault.ClipFault.{ClipFault}
 use Rattle.clip_format.specs.Decoding.{clip_of}
 use Rattle.clip_format.specs.Table.{Entry, IsAbove}
 use Rattle.clip_store.specs.declared.fault.ScanFault.TheVariants.{TooLarge}
 use Rattle.clip_store.specs.declared.names.ClipFile.{ClipFile}
-use Rattle.clip_store.specs.Kept.{file_view, file_views}
+use Rattle.clip_store.specs.inner.Kept.{file_view, file_views}
 use Rattle.clip_store.specs.Listing.{Found}
-use Rattle.clip_store.specs.Orders.{IsStrict}
+use Rattle.clip_store.specs.inner.Orders.{IsStrict}
 use Rattle.clip_store.specs.Scan.{most_bytes, bytes_of, kept_clip, entry, weight, first_above, table_of, Tells}
 
 -- the table and the sum of lengths after so many files, where the folder tells what it holds

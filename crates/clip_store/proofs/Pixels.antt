@@ -11,7 +11,7 @@ use Rattle.play_types.specs.Geometry.{frame_bytes}
 use Rattle.play_types.specs.ClipFile.{ClipView}
 use Rattle.clip_format.specs.Lowering.{lowered_byte, lowered_clip}
 use Rattle.clip_format.proofs.Lowered.{four_of}
-use Rattle.clip_store.specs.Pictures.{lowered_at, IsLoweredFront, AreLoweredFrames}
+use Rattle.clip_store.specs.inner.Pictures.{lowered_at, IsLoweredFront, AreLoweredFrames}
 
 -- a byte of a frame that was lowered, by its place among all bytes
 pub byte_of_frame : (picture frame start offset i : ℕ) (old new before after : List ℕ) → picture ≤ frame → picture % 4 ≡ 0 → frame % 4 ≡ 0 → length old % frame ≡ 0

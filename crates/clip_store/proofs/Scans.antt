@@ -8,7 +8,7 @@ use Rattle.clip_format.specs.Table.{Entry}
 use Rattle.clip_store.specs.declared.fault.ScanFault.{ScanFault}
 use Rattle.clip_store.specs.declared.fault.ScanFault.TheVariants.{ReadFault, TwoNames, TooLarge, OutOfMemory}
 use Rattle.clip_store.specs.Listing.{Found, clip_files, sorted, first_twice}
-use Rattle.clip_store.specs.Orders.{IsStrict}
+use Rattle.clip_store.specs.inner.Orders.{IsStrict}
 use Rattle.clip_store.specs.Scan.{ordered, table_of, scanned, Tells, Answers}
 use Rattle.clip_store.proofs.Sorting.{IsRisingBy-sorted}
 use Rattle.clip_store.proofs.Twice.{IsStrict-from}

@@ -9,7 +9,7 @@ use Rattle.std.specs.Str.{bytes_eq}
 use Rattle.std.proofs.lemmas.Cmp.{nat_list_cmp_total}
 use Rattle.std.proofs.lemmas.List.Elements.{All-nil, All-cons}
 use Rattle.clip_store.specs.Listing.{Found, compared, first_twice}
-use Rattle.clip_store.specs.Orders.{IsStrict}
+use Rattle.clip_store.specs.inner.Orders.{IsStrict}
 use Rattle.clip_store.proofs.Sorting.{IsRisingBy}
 
 first_below : (o p : Ordering) → is_gt (ordering_then o p) ≡ false → is_eq o ≡ false → is_lt o ≡ true

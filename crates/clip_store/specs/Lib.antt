@@ -1,6 +1,4 @@
 pub mod Listing
 pub mod Scan
 pub mod Faults
-pub mod Kept
-pub mod Orders
-pub mod Pictures
+pub mod inner

@@ -5,7 +5,7 @@ use Rattle.play_outside.specs.Faults.{Rose}
 use Rattle.play_outside.specs.FolderState.{FolderState, Files}
 use Rattle.play_outside.specs.Folder.{bytes_at}
 use Rattle.play_types.specs.ClipFile.{ClipView}
-use Rattle.clip_format.specs.declared.fault.ClipFault.{ClipFault}
+use Rattle.play_types.specs.declared.clip_fault.ClipFault.{ClipFault}
 use Rattle.clip_format.specs.Decoding.{clip_of}
 use Rattle.clip_format.specs.Lowering.{lowered_clip}
 use Rattle.clip_format.specs.Table.{Entry}

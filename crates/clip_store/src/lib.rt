@@ -5,7 +5,7 @@
 //! byte of a pixel that is above its alpha, in several threads, and leaves the sound as it is.
 #![tactic(auto)]
 
-mod examples;
+pub mod examples;
 mod fault;
 mod lowering;
 mod names;
@@ -13,6 +13,7 @@ mod reading;
 mod scanning;
 
 pub use fault::ScanFault;
+pub use reading::MAX_MEDIA_BYTES;
 pub use scanning::scan;
 
 #[cfg(test)]

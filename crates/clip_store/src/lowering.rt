@@ -2,13 +2,13 @@
 ghost use Rattle.std.specs.Prelude.{◌≡◌, ◌<◌, ◌≤◌, ◌%◌, length};
 ghost use Rattle.play_types.specs.Geometry.{frame_bytes};
 ghost use Rattle.clip_format.specs.Lowering.{lowered_clip};
-ghost use Rattle.clip_store.specs.Pictures.{IsLoweredFront, AreLoweredFrames};
+ghost use Rattle.clip_store.specs.inner.Pictures.{IsLoweredFront, AreLoweredFrames};
 
 use play_types::{ByteList, Clip};
 use rayon::prelude::*;
 use std::thread::Threads;
 
-/// The clip with each colour byte that is above its alpha lowered to it, in several threads. No memory is taken.
+/// Returns the clip with each colour byte that is above its alpha lowered to it, in several threads. It takes no memory.
 pub(crate) fn lowered<R: Threads + Sync>(rt: &R, clip: Clip) -> Clip
     ensures { result ≡ lowered_clip clip }
 {
@@ -18,10 +18,7 @@ pub(crate) fn lowered<R: Threads + Sync>(rt: &R, clip: Clip) -> Clip
     let frame = picture + 4 * usize::from(size.pairs);
     let mut bytes = clip.into_bytes().into_vec();
     lower_frames(rt, picture, frame, bytes.as_mut_slice());
-    match Clip::new(size, frames, ByteList::new(bytes)) {
-        Some(clip) => clip,
-        None => unreachable!(),
-    }
+    Clip::new(size, frames, ByteList::new(bytes)).unwrap()
 }
 
 /// Lowers the picture of each frame, the bytes at its front.
@@ -47,7 +44,7 @@ fn lower_frames<R: Threads + Sync>(rt: &R, picture: usize, frame: usize, bytes: 
     );
 }
 
-/// Lowers so many bytes of pixels at the front.
+/// Lowers the pixels of the first `picture` bytes.
 fn lower_front(picture: usize, bytes: &mut [u8])
     requires within { picture ≤ length bytes.old }
     requires pixels { picture % 4 ≡ 0 }

@@ -1,7 +1,7 @@
 //! The clip files of a folder, by name.
 ghost use Rattle.std.specs.Prelude.{◌≡◌, ◌<◌, IfOk, map, option_map, string_bytes};
 ghost use Rattle.clip_store.specs.Listing.{clip_file, clip_files, first_twice, sorted};
-ghost use Rattle.clip_store.specs.Kept.{file_view, file_views};
+ghost use Rattle.clip_store.specs.inner.Kept.{file_view, file_views};
 
 use std::alloc::{AllocError, Global};
 

@@ -2,21 +2,21 @@
 ghost use Rattle.std.specs.Prelude.{◌≡◌, ◌<◌, ◌≢◌};
 ghost use Rattle.clip_format.specs.Decoding.{clip_of};
 ghost use Rattle.clip_format.specs.Table.{IsReady};
-ghost use Rattle.clip_store.specs.Kept.{file_views};
-ghost use Rattle.clip_store.specs.Orders.{IsStrict};
+ghost use Rattle.clip_store.specs.inner.Kept.{file_views};
+ghost use Rattle.clip_store.specs.inner.Orders.{IsStrict};
 ghost use Rattle.clip_store.specs.Scan.{Answers, kept_clip, table_of};
 
 use crate::fault::ScanFault;
 use crate::lowering::lowered;
 use crate::names::ClipFile;
-use clip_format::{ClipFault, MediaTable, decode};
+use clip_format::{MediaTable, decode};
 use play_outside::MediaDir;
-use play_types::{Clip, Text};
+use play_types::{Clip, ClipFault, Text};
 use std::alloc::Global;
 use std::thread::Threads;
 
-/// The greatest sum of the lengths of clip files, in bytes.
-const MOST_BYTES: u64 = 1_073_741_824;
+/// The greatest sum of the lengths of clip files, in bytes. An empty file counts as one byte.
+pub const MAX_MEDIA_BYTES: u64 = 1_073_741_824;
 
 /// Reads clip files in this order, in which their names rise.
 pub(crate) fn read_all<R: Threads + Sync, M: MediaDir>(
@@ -34,7 +34,7 @@ pub(crate) fn read_all<R: Threads + Sync, M: MediaDir>(
     for file in files {
         let bytes = media.bytes(alloc, folder, file.file.as_str())?;
         total += bytes.len().max(1) as u64;
-        if total > MOST_BYTES {
+        if total > MAX_MEDIA_BYTES {
             return Err(ScanFault::TooLarge { total });
         }
         let name = Text::copy(alloc, file.name.as_str())?;
@@ -43,7 +43,7 @@ pub(crate) fn read_all<R: Threads + Sync, M: MediaDir>(
     Ok(table)
 }
 
-/// The clip of a file with its pixels lowered, or why it is none.
+/// Returns the clip of a file with its pixels lowered, or why the file is none.
 fn ready_clip<R: Threads + Sync>(rt: &R, bytes: Vec<u8>) -> Result<Clip, ClipFault>
     ensures value { result ≡ kept_clip (clip_of bytes.items) }
     ensures ready { IsReady result }

@@ -52,7 +52,7 @@ fn told_names(alloc: Global, table: &MediaTable) -> Result<String, AllocError> {
     for at in 0..names.len() {
         if let Some(name) = names.get(at) {
             text.push_str(name.name().as_str())?;
-            text.push_str(if name.readable() { "+ " } else { "- " })?;
+            text.push_str(if name.is_readable() { "+ " } else { "- " })?;
         }
     }
     Ok(text)

@@ -6,13 +6,13 @@ use Rattle.std.specs.List.{list_any, before_first, after_first}
 use Rattle.std.specs.Str.{IsUtf8, chars}
 use Rattle.std.proofs.lemmas.Bool.{false_from_ne_true, true_from_ne_false}
 use Rattle.std.proofs.lemmas.Str.Pattern.{IsSplitOnceResult, split_once_first}
-use Rattle.play_types.specs.Config.{ConfigView}
-use Rattle.play_types.specs.declared.reply.Name.{Name}
+use Rattle.play_types.specs.declared.place.TheConstants.{MAX_LAYER}
 use Rattle.play_types.specs.declared.parsed.Refusal.{Refusal}
 use Rattle.play_types.specs.declared.parsed.Refusal.TheVariants.{Channel}
 use Rattle.amcp_text.proofs.FirstEnd.{position_or_len_none, position_or_len_some}
-use Rattle.history_model.specs.CommandWords.{◌>>=◌, whole_within, legal}
-use Rattle.history_model.specs.CommandPlace.{is_dash, area_of}
+use Rattle.history_model.specs.commands.Line.{Line, ◌>>=◌, legal}
+use Rattle.amcp_text.specs.Numbers.{number_within}
+use Rattle.history_model.specs.commands.Places.{is_dash, area_of}
 use Rattle.cmd_parse.proofs.Texts.{chars_without, cut_text}
 
 -- a word without a dash, and one of two parts
@@ -20,10 +20,10 @@ pub record IsWhole (word : List ℕ) : Type 0 where
   pub has : list_any is_dash (chars word) ≡ false
   pub before : before_first is_dash (chars word) ≡ chars word
 
-pub record HasParts (word front back : List ℕ) : Type 0 where
+pub record HasParts (word prefix rest : List ℕ) : Type 0 where
   pub has : list_any is_dash (chars word) ≡ true
-  pub before : before_first is_dash (chars word) ≡ chars front
-  pub after : after_first is_dash (chars word) ≡ chars back
+  pub before : before_first is_dash (chars word) ≡ chars prefix
+  pub after : after_first is_dash (chars word) ≡ chars rest
 
 -- what splitting a word once at a dash says of its characters
 pub split_word : (word : List ℕ) (parts : Option (Bor (List ℕ) × Bor (List ℕ))) → IsUtf8 word → IsSplitOnceResult 45 word parts
@@ -38,18 +38,18 @@ split_word word (Some p) utf8 h =
     record { has = parts.has; before = parts.before ∙ ap chars (sym cut.1); after = parts.after ∙ ap chars (sym cut.2) }
 
 -- the channel of a written place
-abbrev pub channel_named : ConfigView → Name → List ℕ → Result ℕ Refusal
-channel_named config name word = ok_or (whole_within 1 (length config.channels) (chars word)) (Channel name)
+abbrev pub channel_named : Line → List ℕ → Result ℕ Refusal
+channel_named line word = ok_or (number_within 1 (length line.config.channels) (chars word)) (Channel line.name)
 
 -- a place without a layer
-pub area_whole : (config : ConfigView) (name : Name) (at : ℕ) (word : List ℕ) → IsWhole word
-    → area_of config name at (chars word) ≡ (channel_named config name word >>= λ channel. Ok (record { channel = channel; layer = None }))
+pub area_whole : (line : Line) (at : ℕ) (word : List ℕ) → IsWhole word
+    → area_of line at (chars word) ≡ (channel_named line word >>= λ channel. Ok (record { channel = channel; layer = None }))
 unfolding area_of
-area_whole config name at word h = rw (h.has, h.before) refl
+area_whole line at word h = rw (h.has, h.before) refl
 
 -- a place with a layer
-pub area_parts : (config : ConfigView) (name : Name) (at : ℕ) (word front back : List ℕ) → HasParts word front back
-    → area_of config name at (chars word) ≡ (channel_named config name front >>= λ channel.
-    (legal name at (whole_within 0 9999 (chars back)) >>= λ layer. Ok (Some layer)) >>= λ layer. Ok (record { channel = channel; layer = layer }))
+pub area_parts : (line : Line) (at : ℕ) (word prefix rest : List ℕ) → HasParts word prefix rest
+    → area_of line at (chars word) ≡ (channel_named line prefix >>= λ channel.
+    (legal line at (number_within 0 MAX_LAYER (chars rest)) >>= λ layer. Ok (Some layer)) >>= λ layer. Ok (record { channel = channel; layer = layer }))
 unfolding area_of
-area_parts config name at word front back h = rw (h.has, h.before, h.after) refl
+area_parts line at word prefix rest h = rw (h.has, h.before, h.after) refl

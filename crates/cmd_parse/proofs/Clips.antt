@@ -1,10 +1,9 @@
 -- The first clip of a name, entry by entry.
-use Rattle.std.proofs.Common.{◌≡◌, ℕ, ◌+◌, ◌≤◌, zero, suc, true, false, List, [], ◌∷◌, drop, length, refl, ap, arith}
-use Rattle.std.specs.Prelude.{Option, Some, None, slice_get}
+use Rattle.std.proofs.Common.{◌≡◌, ℕ, ◌+◌, zero, suc, true, false, List, [], ◌∷◌, drop, refl, ap, arith}
+use Rattle.std.specs.Prelude.{Option, Some, slice_get}
 use Rattle.std.specs.List.{find, enumerate_from}
-use Rattle.std.proofs.lemmas.List.{drop_all}
 use Rattle.play_types.specs.Media.{MediaNameView}
-use Rattle.history_model.specs.CommandWords.{is_same_name}
+use Rattle.play_types.specs.Words.{is_same_name}
 
 -- the first clip of a name from a position on
 abbrev pub clip_from : List MediaNameView → List ℕ → ℕ → Option (ℕ × MediaNameView)
@@ -23,13 +22,3 @@ clip_here media word at entry h same = rw (drop_here media at entry h, same) ref
 pub clip_later : (media : List MediaNameView) (word : List ℕ) (at : ℕ) (entry : MediaNameView) → slice_get media at ≡ Some entry → is_same_name entry.name word ≡ false
     → clip_from media word at ≡ clip_from media word (at + 1)
 clip_later media word at entry h other = rw (drop_here media at entry h, other) refl
-
--- none past the end
-pub clip_past : (media : List MediaNameView) (word : List ℕ) (at : ℕ) → length media ≤ at → clip_from media word at ≡ None
-clip_past media word at end = rw (drop_all at media end) refl
-
--- what is missing at a position stands past the end
-pub past_end : {X : Type 0} (xs : List X) (at : ℕ) → None ≡ slice_get xs at → length xs ≤ at
-past_end [] at h = omega arith
-past_end (x ∷ xs) zero h = cc
-past_end (x ∷ xs) (suc at) h = omega (arith, past_end xs at h)

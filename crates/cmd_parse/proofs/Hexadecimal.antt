@@ -11,7 +11,7 @@ use Rattle.std.proofs.lemmas.Bool.Decides.{nat_tests}
 use Rattle.std.proofs.lemmas.Int.Digits.{digits_value-lt}
 use Rattle.std.proofs.lemmas.Str.{encodes-chars, encodes-IsAscii, chars-IsAscii}
 use Rattle.std.proofs.lemmas.Str.Ascii.{IsAscii-nil, IsAscii-cons}
-use Rattle.history_model.specs.CommandProducer.{colour_of_digits}
+use Rattle.history_model.specs.commands.Producer.{colour_of_digits}
 
 hexdigit : (c : ℕ) → is_ascii_hexdigit c ≡ true → (c < 103) × (48 ≤ c) × (digit_value c < 16)
 hexdigit c h = (grind (arith, nat_tests), grind (arith, nat_tests), grind (arith, nat_tests))

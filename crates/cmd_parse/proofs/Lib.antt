@@ -1,5 +1,4 @@
 pub mod Texts
-pub mod Numbers
 pub mod Areas
 pub mod Manner
 pub mod OptionLaws

@@ -1,5 +1,6 @@
 -- The curve and the direction of a transition, by the words that are left of the line.
 use Rattle.std.proofs.Common.{◌≡◌, ℕ, ◌+◌, zero, suc, Bool, true, false, ◌||◌, List, [], ◌∷◌, map, take, drop, refl, sym, ap, ◌∙◌, inl, inr, arith}
+use Rattle.std.proofs.Math.Bool.{or-false}
 use Rattle.std.specs.Prelude.{Option, Some, None, slice_get, codes, if◌then◌else◌}
 use Rattle.std.specs.Option.{option_map_or}
 use Rattle.std.specs.List.{list_any}
@@ -7,9 +8,10 @@ use Rattle.std.specs.Char.{to_ascii_uppercase}
 use Rattle.std.specs.Str.{bytes_eq}
 use Rattle.std.proofs.lemmas.Bool.{cases_Bool}
 use Rattle.std.proofs.lemmas.Slice.Eq.{bytes_eq-Decides}
-use Rattle.history_model.specs.CommandWords.{is_word}
-use Rattle.history_model.specs.CommandOptions.{is_curve, is_direction, is_leftward, manner_len}
-use Rattle.cmd_parse.specs.Options.{manner_at}
+use Rattle.play_types.specs.Words.{is_word}
+use Rattle.history_model.specs.commands.Line.{Line}
+use Rattle.history_model.specs.commands.Options.{is_curve, is_direction, is_leftward, manner_len}
+use Rattle.cmd_parse.specs.inner.Options.{manner_at}
 
 -- the words from a position on
 pub word_here : {X : Type 0} (words rest : List X) (at : ℕ) → drop at words ≡ rest → slice_get words at ≡ slice_get rest 0
@@ -34,10 +36,6 @@ curve_not_leftward : (word : List ℕ) → is_curve word ≡ true → is_leftwar
 curve_not_leftward word h =
     rw (other_word (codes "LINEAR") (codes "LEFT") word refl h, other_word (codes "LINEAR") (codes "FROMRIGHT") word refl h) refl
 
-or-false : (b : Bool) → (b || false) ≡ b
-or-false true = refl
-or-false false = refl
-
 -- whether a word that may be missing is such a one
 abbrev is_one : (List ℕ → Bool) → Option (List ℕ) → Bool
 is_one test word = option_map_or test word false
@@ -49,7 +47,7 @@ manner_of one two =
     else if is_one is_direction one then (if is_one is_curve two then 2 else 1, is_one is_leftward one)
     else (0, false)
 
--- the same, word by word
+-- whether a fixed word is written where a word may be missing
 abbrev stands : List ℕ → Option (List ℕ) → Bool
 stands fixed word = is_one (is_word fixed) word
 
@@ -73,18 +71,18 @@ manner_by curve curve' left left' directed directed' =
     else if directed then (if curve' then 2 else 1, left)
     else (0, false)
 
-manner_at-words : (words : List (List ℕ)) (at : ℕ) → manner_at words at ≡ manner_of (slice_get words at) (slice_get words (at + 1))
+manner_at-words : (line : Line) (at : ℕ) → manner_at line at ≡ manner_of (slice_get line.words at) (slice_get line.words (at + 1))
 unfolding manner_at
-manner_at-words words at =
-    let one = slice_get words at in
-    let two = slice_get words (at + 1) in
+manner_at-words line at =
+    let one = slice_get line.words at in
+    let two = slice_get line.words (at + 1) in
     let by = manner_by (is_one is_curve one) (is_one is_curve two) in
     ap (λ left. by left (leftward two) (direction one) (direction two)) (leftward_is one)
     ∙ ap (λ left. by (is_one is_leftward one) left (direction one) (direction two)) (leftward_is two)
     ∙ ap (λ directed. by (is_one is_leftward one) (is_one is_leftward two) directed (direction two)) (direction_is one)
     ∙ ap (λ directed. by (is_one is_leftward one) (is_one is_leftward two) (is_one is_direction one) directed) (direction_is two)
 
--- what a position says of the first word left, and of the second
+-- the curve and the direction by the first two words that are left
 manner_left : (rest : List (List ℕ)) → manner_of (slice_get rest 0) (slice_get rest 1) ≡ (manner_len rest, list_any is_leftward (take (manner_len rest) rest))
 manner_left [] = refl
 manner_left (one ∷ []) = elim (cases_Bool (is_curve one)) [
@@ -108,8 +106,8 @@ manner_left (one ∷ two ∷ rest) = elim (cases_Bool (is_curve one)) [
   ]
 ]
 
-pub manner_from : (words rest : List (List ℕ)) (at : ℕ) → drop at words ≡ rest
-    → manner_at words at ≡ (manner_len rest, list_any is_leftward (take (manner_len rest) rest))
-manner_from words rest at h =
-    manner_at-words words at ∙ ap (λ one. manner_of one (slice_get words (at + 1))) (word_here words rest at h)
-    ∙ ap (manner_of (slice_get rest 0)) (word_next words rest at h) ∙ manner_left rest
+pub manner_from : (line : Line) (rest : List (List ℕ)) (at : ℕ) → drop at line.words ≡ rest
+    → manner_at line at ≡ (manner_len rest, list_any is_leftward (take (manner_len rest) rest))
+manner_from line rest at h =
+    manner_at-words line at ∙ ap (λ one. manner_of one (slice_get line.words (at + 1))) (word_here line.words rest at h)
+    ∙ ap (manner_of (slice_get rest 0)) (word_next line.words rest at h) ∙ manner_left rest

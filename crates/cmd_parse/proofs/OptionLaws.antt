@@ -11,14 +11,15 @@ use Rattle.play_types.specs.Transition.{TransView, trans_of}
 use Rattle.play_types.specs.declared.transition.Kind.{Kind}
 use Rattle.play_types.specs.declared.transition.Kind.TheVariants.{Cut, Mix, Push, Slide, Wipe}
 use Rattle.play_types.specs.declared.transition.Curve.TheVariants.{Linear}
-use Rattle.play_types.specs.declared.reply.Name.{Name}
+use Rattle.play_types.specs.declared.transition.TheConstants.{MAX_DURATION}
 use Rattle.play_types.specs.declared.parsed.Refusal.{Refusal}
 use Rattle.play_types.specs.declared.parsed.Refusal.TheVariants.{Illegal, Missing}
-use Rattle.history_model.specs.CommandWords.{◌>>=◌, is_word, whole_within, legal}
-use Rattle.history_model.specs.CommandOptions.{OptionName, Written, option_of, kind_of, number_len, option_len, manner_len, is_leftward, is_same, is_option, given, number_of, number_refusal, option_refusal, options_refusal, options_after, options_from, options_of, options_at, transition_of, unless_refused, least_number}
-use Rattle.history_model.specs.CommandOptions as meant
-use Rattle.cmd_parse.specs.Keyword.{keyword_of, option_named, is_cut}
-use Rattle.cmd_parse.specs.Options.{result_seen, no_options, has_option, count_at, duration_at, transition_at, manner_at, with_given, with_keyword, with_word, with_option, is_number_at}
+use Rattle.history_model.specs.commands.Line.{Line, ◌>>=◌, legal, number_at}
+use Rattle.play_types.specs.Words.{is_word, kind_of}
+use Rattle.history_model.specs.commands.Options.{OptionName, Written, option_of, number_len, option_len, manner_len, is_leftward, is_same_option, is_option, given, written_number, number_refusal, option_refusal, options_refusal, options_after, options_from, options_of, options_at, transition_of, unless_refused, least_number, most_number, option_value}
+use Rattle.history_model.specs.commands.Options as meant
+use Rattle.cmd_parse.specs.inner.Keyword.{keyword_of, option_named, is_cut}
+use Rattle.cmd_parse.specs.inner.Options.{result_view, no_options, has_option, duration_at, transition_at, manner_at, with_given, with_keyword, with_word, with_option, is_number_at}
 use Rattle.cmd_parse.specs.declared.keyword.Keyword.{Keyword}
 use Rattle.cmd_parse.specs.declared.keyword.Keyword.TheVariants.{Loop, Seek, Length, Auto, Transition}
 use Rattle.cmd_parse.specs.declared.options.Given.{Given}
@@ -29,8 +30,8 @@ abbrev pub read_of : List Written → Given
 read_of all = record {
   looped = is_some (given meant.Loop all);
   transition = option_map transition_of (given meant.Transition all);
-  seek = option_map (number_of meant.Seek) (given meant.Seek all);
-  length = option_map (number_of meant.Length) (given meant.Length all);
+  seek = option_map (written_number meant.Seek) (given meant.Seek all);
+  length = option_map (written_number meant.Length) (given meant.Length all);
   auto = is_some (given meant.Auto all);
 }
 
@@ -42,8 +43,8 @@ is_some-map f (Some a) = refl
 has_given : (all : List Written) (keyword : Keyword) → has_option (read_of all) keyword ≡ is_some (given (option_named keyword) all)
 has_given all Loop = refl
 has_given all Auto = refl
-has_given all Seek = is_some-map (number_of meant.Seek) (given meant.Seek all)
-has_given all Length = is_some-map (number_of meant.Length) (given meant.Length all)
+has_given all Seek = is_some-map (written_number meant.Seek) (given meant.Seek all)
+has_given all Length = is_some-map (written_number meant.Length) (given meant.Length all)
 has_given all (Transition kind) = is_some-map transition_of (given meant.Transition all)
 
 -- the option that a word begins, with the kind of a transition and without
@@ -88,6 +89,7 @@ keyword_kind word kind h = elim (cases_Bool (is_word (codes "LOOP") word)) [
 
 -- only CUT names a cut
 no_cut : (word : List ℕ) (kind : Kind) → kind_of word ≡ Some kind → is_cut kind ≡ false → is_word (codes "CUT") word ≡ false
+unfolding kind_of
 no_cut word kind h other = elim (cases_Bool (is_word (codes "CUT") word)) [
   | inl is ↦
       let e : Some Cut ≡ Some kind = rw is at h in
@@ -97,6 +99,7 @@ no_cut word kind h other = elim (cases_Bool (is_word (codes "CUT") word)) [
 ]
 
 cut_word : (word : List ℕ) (kind : Kind) → kind_of word ≡ Some kind → is_word (codes "CUT") word ≡ is_cut kind
+unfolding kind_of
 cut_word word Cut h = elim (cases_Bool (is_word (codes "CUT") word)) [
   | inl is ↦ is
   | inr no_cut ↦ elim (cases_Bool (is_word (codes "MIX") word)) [
@@ -138,8 +141,8 @@ given_new option before written h is =
     find-append (is_option option) before (written ∷ []) ∙ rw is (or_new (given option before) written h)
 
 -- an option that begins with this word is none of another name
-is_option_of : (option : OptionName) (written : Written) (found : OptionName) → option_of written.word ≡ Some found → is_option option written ≡ is_same option found
-is_option_of option written found h = ap (λ o. option_map_or (is_same option) o false) h
+is_option_of : (option : OptionName) (written : Written) (found : OptionName) → option_of written.word ≡ Some found → is_option option written ≡ is_same_option option found
+is_option_of option written found h = ap (λ o. option_map_or (is_same_option option) o false) h
 
 -- the options that are read, after one more is written
 abbrev Found : Type 0
@@ -149,8 +152,8 @@ abbrev read_by : Found → Found → Found → Found → Found → Given
 read_by looped transition seek length auto = record {
   looped = is_some looped;
   transition = option_map transition_of transition;
-  seek = option_map (number_of meant.Seek) seek;
-  length = option_map (number_of meant.Length) length;
+  seek = option_map (written_number meant.Seek) seek;
+  length = option_map (written_number meant.Length) length;
   auto = is_some auto;
 }
 
@@ -158,15 +161,15 @@ read_by looped transition seek length auto = record {
 abbrev read_with : List Written → Written → OptionName → Given
 read_with before written meant.Loop = record (read_of before) { looped = true }
 read_with before written meant.Transition = record (read_of before) { transition = Some (transition_of written) }
-read_with before written meant.Seek = record (read_of before) { seek = Some (number_of meant.Seek written) }
-read_with before written meant.Length = record (read_of before) { length = Some (number_of meant.Length written) }
+read_with before written meant.Seek = record (read_of before) { seek = Some (written_number meant.Seek written) }
+read_with before written meant.Length = record (read_of before) { length = Some (written_number meant.Length written) }
 read_with before written meant.Auto = record (read_of before) { auto = true }
 
 module _ (before : List Written) (written : Written) (found : OptionName) (is : option_of written.word ≡ Some found) where
-  other : (option : OptionName) → is_same option found ≡ false → given option (before ++ written ∷ []) ≡ given option before
+  other : (option : OptionName) → is_same_option option found ≡ false → given option (before ++ written ∷ []) ≡ given option before
   other option differ = given_other option before written (is_option_of option written found is ∙ differ)
 
-  new : (option : OptionName) → is_some (given option before) ≡ false → is_same option found ≡ true → given option (before ++ written ∷ []) ≡ Some written
+  new : (option : OptionName) → is_some (given option before) ≡ false → is_same_option option found ≡ true → given option (before ++ written ∷ []) ≡ Some written
   new option absent same = given_new option before written absent (is_option_of option written found is ∙ same)
 
 read_push : (before : List Written) (written : Written) (found : OptionName) → option_of written.word ≡ Some found → is_some (given found before) ≡ false
@@ -196,27 +199,26 @@ unless_then : {A B : Type 0} (refusal : Option Refusal) (value : A) (next : A �
 unless_then None value next = refl
 unless_then (Some refusal) value next = refl
 
--- the number of an option
+-- the number of an option that a word writes
 abbrev number_in : OptionName → Option (List ℕ) → ℕ
-number_in option word = unwrap_or (option_and_then (whole_within (least_number option) 1000000) word) 0
+number_in option word = unwrap_or (option_and_then (option_value option) word) 0
 
-legal_number : (name : Name) (at : ℕ) (value : Option ℕ) → legal name at value ≡ unless (cond (is_some value) None (Some (Illegal name at))) (unwrap_or value 0)
-legal_number name at None = refl
-legal_number name at (Some value) = refl
+legal_number : (line : Line) (at : ℕ) (value : Option ℕ) → legal line at value ≡ unless (cond (is_some value) None (Some (Illegal line.name at))) (unwrap_or value 0)
+legal_number line at None = refl
+legal_number line at (Some value) = refl
 
-number_read : (name : Name) (at : ℕ) (option : OptionName) (word : Option (List ℕ))
-    → (ok_or word (Missing name) >>= λ w. legal name (at + 1) (whole_within (least_number option) 1000000 w)) ≡ unless (number_refusal name at option word) (number_in option word)
-number_read name at option None = refl
-number_read name at option (Some word) = legal_number name (at + 1) (whole_within (least_number option) 1000000 word)
+number_read : (line : Line) (at : ℕ) (option : OptionName) (word : Option (List ℕ))
+    → (ok_or word (Missing line.name) >>= λ w. legal line (at + 1) (option_value option w)) ≡ unless (number_refusal line.name at option word) (number_in option word)
+number_read line at option None = refl
+number_read line at option (Some word) = legal_number line (at + 1) (option_value option word)
 
-count_read : (name : Name) (option : OptionName) (words rest : List (List ℕ)) (at : ℕ) → drop (at + 1) words ≡ rest
-    → count_at name (least_number option) words (at + 1) ≡ unless (number_refusal name at option (slice_get rest 0)) (number_in option (slice_get rest 0))
-unfolding count_at
-count_read name option words rest at h =
-    ap (λ word. ok_or word (Missing name) >>= λ w. legal name (at + 1) (whole_within (least_number option) 1000000 w)) (word_here words rest (at + 1) h)
-    ∙ number_read name at option (slice_get rest 0)
+count_read : (line : Line) (option : OptionName) (rest : List (List ℕ)) (at : ℕ) → drop (at + 1) line.words ≡ rest
+    → number_at line (at + 1) (least_number option) (most_number option) ≡ unless (number_refusal line.name at option (slice_get rest 0)) (number_in option (slice_get rest 0))
+count_read line option rest at h =
+    ap (λ word. ok_or word (Missing line.name) >>= λ w. legal line (at + 1) (option_value option w)) (word_here line.words rest (at + 1) h)
+    ∙ number_read line at option (slice_get rest 0)
 
--- the first word of a front
+-- the first word of a prefix that has one
 first_taken : {X : Type 0} (len : ℕ) (rest : List X) → slice_get (take (suc len) rest) 0 ≡ slice_get rest 0
 first_taken len [] = refl
 first_taken len (x ∷ xs) = refl
@@ -225,23 +227,24 @@ first_taken len (x ∷ xs) = refl
 abbrev written_at : ℕ → List ℕ → Option OptionName → List (List ℕ) → Written
 written_at at word option rest = record { at = at; word = word; more = take (option_len word option rest) rest }
 
--- what reading an option gives: the options with it, and how many words after its first it takes
-abbrev one_more : Name → List Written → ℕ → List ℕ → OptionName → List (List ℕ) → Result (Given × ℕ) Refusal
-one_more name before at word option rest =
-    let written = written_at at word (Some option) rest in
-    unless (option_refusal name before written (Some option)) (read_of (before ++ written ∷ []), option_len word (Some option) rest)
+-- what reading an option gives that a word begins, or none: the options with it, and how many words after its first
+-- belong to it
+abbrev one_step : Line → List Written → Written → Option OptionName → ℕ → Result (Given × ℕ) Refusal
+one_step line before written option len =
+    unless (option_refusal line.name before written option) (read_of (before ++ written ∷ []), len)
 
--- options, and that the last of them took one word after its first
+-- options, and that one word after its first belongs to the last of them
 abbrev with_one : Given → Given × ℕ
 with_one options = (options, 1)
 
 -- the numbers of SEEK and LENGTH
-counted : (name : Name) (words : List (List ℕ)) (at : ℕ) (word : List ℕ) (rest : List (List ℕ)) (option : OptionName) (next : ℕ → Given)
-    → drop (at + 1) words ≡ rest
-    → (count_at name (least_number option) words (at + 1) >>= λ count. Ok (with_one (next count)))
-    ≡ unless (number_refusal name at option (slice_get (take 1 rest) 0)) (with_one (next (number_of option (record { at = at; word = word; more = take 1 rest }))))
-counted name words at word rest option next h =
-    ap (λ count. count >>= λ c. Ok (with_one (next c))) (count_read name option words rest at h)
+counted : (line : Line) (at : ℕ) (word : List ℕ) (rest : List (List ℕ)) (option : OptionName) (next : ℕ → Given)
+    → drop (at + 1) line.words ≡ rest
+    → (number_at line (at + 1) (least_number option) (most_number option) >>= λ count. Ok (with_one (next count)))
+    ≡ unless (number_refusal line.name at option (slice_get (take 1 rest) 0)) (with_one (next (written_number option (record { at = at; word = word; more = take 1 rest }))))
+counted line at word rest option next h =
+    let name = line.name in
+    ap (λ count. count >>= λ c. Ok (with_one (next c))) (count_read line option rest at h)
     ∙ unless_then (number_refusal name at option (slice_get rest 0)) (number_in option (slice_get rest 0)) (λ c. with_one (next c))
     ∙ ap (λ first. unless (number_refusal name at option first) (with_one (next (number_in option first)))) (sym (first_taken 0 rest))
 
@@ -253,65 +256,65 @@ not_some (Some a) = refl
 abbrev has_no_number : List ℕ → List (List ℕ) → Bool
 has_no_number word rest = is_word (codes "CUT") word && is_none (option_and_then whole_number (slice_get rest 0))
 
-no_number_test : (words rest : List (List ℕ)) (at : ℕ) (word : List ℕ) (kind : Kind) → drop (at + 1) words ≡ rest → kind_of word ≡ Some kind
-    → (is_cut kind && not (is_number_at words (at + 1))) ≡ has_no_number word rest
-no_number_test words rest at word kind h is =
-    ap (λ cut. cut && not (is_number_at words (at + 1))) (sym (cut_word word kind is))
-    ∙ ap (λ no. is_word (codes "CUT") word && no) (not_some (option_and_then whole_number (slice_get words (at + 1))))
-    ∙ ap (λ first. is_word (codes "CUT") word && is_none (option_and_then whole_number first)) (word_here words rest (at + 1) h)
+no_number_test : (line : Line) (rest : List (List ℕ)) (at : ℕ) (word : List ℕ) (kind : Kind) → drop (at + 1) line.words ≡ rest → kind_of word ≡ Some kind
+    → (is_cut kind && not (is_number_at line (at + 1))) ≡ has_no_number word rest
+no_number_test line rest at word kind h is =
+    ap (λ cut. cut && not (is_number_at line (at + 1))) (sym (cut_word word kind is))
+    ∙ ap (λ no. is_word (codes "CUT") word && no) (not_some (option_and_then whole_number (slice_get line.words (at + 1))))
+    ∙ ap (λ first. is_word (codes "CUT") word && is_none (option_and_then whole_number first)) (word_here line.words rest (at + 1) h)
 
 -- what reading a transition gives
-abbrev transition_more : Name → ℕ → List ℕ → List (List ℕ) → Result (TransView × ℕ) Refusal
-transition_more name at word rest =
+abbrev transition_more : Line → ℕ → List ℕ → List (List ℕ) → Result (TransView × ℕ) Refusal
+transition_more line at word rest =
     let written = written_at at word (Some meant.Transition) rest in
-    unless (if number_len word meant.Transition written.more == 0 then None else number_refusal name at meant.Transition (slice_get written.more 0))
+    unless (if number_len word meant.Transition written.more == 0 then None else number_refusal line.name at meant.Transition (slice_get written.more 0))
     (transition_of written, option_len word (Some meant.Transition) rest)
 
--- a transition with this duration, which so many words wrote before its curve and direction
-abbrev timed : Kind → List (List ℕ) → ℕ → ℕ × ℕ → TransView × ℕ
-timed kind words at duration =
-    let manner = manner_at words (at + duration.1) in (trans_of kind duration.0 Linear manner.1, duration.1 + manner.0)
+-- a transition with this duration, to which as many words belong as the second number says
+abbrev timed : Line → ℕ → Kind → ℕ × ℕ → TransView × ℕ
+timed line at kind duration =
+    let manner = manner_at line (at + duration.1) in (trans_of kind duration.0 Linear manner.1, duration.1 + manner.0)
 
 abbrev with_number : ℕ → ℕ × ℕ
 with_number duration = (duration, 1)
 
-timed_number : (name : Name) (words rest : List (List ℕ)) (at : ℕ) (kind : Kind) → drop (at + 1) words ≡ rest
-    → ((count_at name 0 words (at + 1) >>= λ duration. Ok (with_number duration)) >>= λ duration. Ok (timed kind words (at + 1) duration))
-    ≡ unless (number_refusal name at meant.Transition (slice_get rest 0)) (timed kind words (at + 1) (with_number (number_in meant.Transition (slice_get rest 0))))
-timed_number name words rest at kind h =
-    let refused = number_refusal name at meant.Transition (slice_get rest 0) in
+timed_number : (line : Line) (rest : List (List ℕ)) (at : ℕ) (kind : Kind) → drop (at + 1) line.words ≡ rest
+    → ((number_at line (at + 1) 0 MAX_DURATION >>= λ duration. Ok (with_number duration)) >>= λ duration. Ok (timed line (at + 1) kind duration))
+    ≡ unless (number_refusal line.name at meant.Transition (slice_get rest 0)) (timed line (at + 1) kind (with_number (number_in meant.Transition (slice_get rest 0))))
+timed_number line rest at kind h =
+    let refused = number_refusal line.name at meant.Transition (slice_get rest 0) in
     let number = number_in meant.Transition (slice_get rest 0) in
-    ap (λ count. (count >>= λ duration. Ok (with_number duration)) >>= λ duration. Ok (timed kind words (at + 1) duration)) (count_read name meant.Transition words rest at h)
-    ∙ ap (λ count. count >>= λ duration. Ok (timed kind words (at + 1) duration)) (unless_then refused number with_number)
-    ∙ unless_then refused (with_number number) (timed kind words (at + 1))
+    ap (λ count. (count >>= λ duration. Ok (with_number duration)) >>= λ duration. Ok (timed line (at + 1) kind duration)) (count_read line meant.Transition rest at h)
+    ∙ ap (λ count. count >>= λ duration. Ok (timed line (at + 1) kind duration)) (unless_then refused number with_number)
+    ∙ unless_then refused (with_number number) (timed line (at + 1) kind)
 
 drop_one-take : {X : Type 0} (len : ℕ) (rest : List X) → drop 1 (take (suc len) rest) ≡ take len (drop 1 rest)
 drop_one-take zero [] = refl
 drop_one-take (suc len) [] = refl
 drop_one-take len (x ∷ xs) = refl
 
-transition_read_number : (name : Name) (words rest : List (List ℕ)) (at : ℕ) (word : List ℕ) (kind : Kind) → drop (at + 1) words ≡ rest → kind_of word ≡ Some kind
-    → has_no_number word rest ≡ false → transition_at name kind words (at + 1) ≡ transition_more name at word rest
-unfolding transition_at duration_at
-transition_read_number name words rest at word kind h is number =
+transition_read_number : (line : Line) (rest : List (List ℕ)) (at : ℕ) (word : List ℕ) (kind : Kind) → drop (at + 1) line.words ≡ rest → kind_of word ≡ Some kind
+    → has_no_number word rest ≡ false → transition_at line (at + 1) kind ≡ transition_more line at word rest
+unfolding transition_at duration_at kind_of
+transition_read_number line rest at word kind h is number =
     let manner = manner_len (drop 1 rest) in
-    let further : drop (at + 1 + 1) words ≡ drop 1 rest = sym (drop-drop 1 (at + 1) words) ∙ ap (drop 1) h in
-    let left = manner_from words (drop 1 rest) (at + 1 + 1) further in
-    rw (no_number_test words rest at word kind h is, number, one-add manner, first_taken manner rest, number, drop_one-take manner rest)
-    (timed_number name words rest at kind h ∙ rw (left, is, one-add manner) refl)
+    let further : drop (at + 1 + 1) line.words ≡ drop 1 rest = sym (drop-drop 1 (at + 1) line.words) ∙ ap (drop 1) h in
+    let left = manner_from line (drop 1 rest) (at + 1 + 1) further in
+    rw (no_number_test line rest at word kind h is, number, one-add manner, first_taken manner rest, number, drop_one-take manner rest)
+    (timed_number line rest at kind h ∙ rw (left, is, one-add manner) refl)
 
 number_unread : {X : Type 0} (len : ℕ) (rest : List X) (test : Option X → Bool) → test None ≡ true → test (slice_get rest 0) ≡ true → test (slice_get (take len rest) 0) ≡ true
 number_unread zero rest test none first = none
 number_unread (suc len) rest test none first = ap test (first_taken len rest) ∙ first
 
-transition_read_cut : (name : Name) (words rest : List (List ℕ)) (at : ℕ) (word : List ℕ) → drop (at + 1) words ≡ rest → kind_of word ≡ Some Cut
-    → has_no_number word rest ≡ true → transition_at name Cut words (at + 1) ≡ transition_more name at word rest
-unfolding transition_at duration_at
-transition_read_cut name words rest at word h is none =
+transition_read_cut : (line : Line) (rest : List (List ℕ)) (at : ℕ) (word : List ℕ) → drop (at + 1) line.words ≡ rest → kind_of word ≡ Some Cut
+    → has_no_number word rest ≡ true → transition_at line (at + 1) Cut ≡ transition_more line at word rest
+unfolding transition_at duration_at kind_of
+transition_read_cut line rest at word h is none =
     let parts = and_parts (is_word (codes "CUT") word) (is_none (option_and_then whole_number (slice_get rest 0))) none in
-    let left = manner_from words rest (at + 1) h in
+    let left = manner_from line rest (at + 1) h in
     let still = number_unread (0 + manner_len rest) rest (λ first. is_none (option_and_then whole_number first)) refl parts.1 in
-    rw (no_number_test words rest at word Cut h is, none, add-zero (at + 1), left, parts.0, still) refl
+    rw (no_number_test line rest at word Cut h is, none, add-zero (at + 1), left, parts.0, still) refl
 
 cut_kind : (kind : Kind) → is_cut kind ≡ true → kind ≡ Cut
 cut_kind Cut h = refl
@@ -320,59 +323,56 @@ cut_kind Push h = cc
 cut_kind Slide h = cc
 cut_kind Wipe h = cc
 
-transition_read : (name : Name) (words rest : List (List ℕ)) (at : ℕ) (word : List ℕ) (kind : Kind) → drop (at + 1) words ≡ rest → kind_of word ≡ Some kind
-    → transition_at name kind words (at + 1) ≡ transition_more name at word rest
-transition_read name words rest at word kind h is = elim (cases_Bool (has_no_number word rest)) [
+transition_read : (line : Line) (rest : List (List ℕ)) (at : ℕ) (word : List ℕ) (kind : Kind) → drop (at + 1) line.words ≡ rest → kind_of word ≡ Some kind
+    → transition_at line (at + 1) kind ≡ transition_more line at word rest
+transition_read line rest at word kind h is = elim (cases_Bool (has_no_number word rest)) [
   | inl none ↦
       let parts = and_parts (is_word (codes "CUT") word) (is_none (option_and_then whole_number (slice_get rest 0))) none in
       let cut : kind ≡ Cut = cut_kind kind (sym (cut_word word kind is) ∙ parts.0) in
-      ap (λ k. transition_at name k words (at + 1)) cut ∙ transition_read_cut name words rest at word h (is ∙ ap Some cut) none
-  | inr number ↦ transition_read_number name words rest at word kind h is number
+      ap (λ k. transition_at line (at + 1) k) cut ∙ transition_read_cut line rest at word h (is ∙ ap Some cut) none
+  | inr number ↦ transition_read_number line rest at word kind h is number
 ]
 
 abbrev with_transition : Given → TransView × ℕ → Given × ℕ
 with_transition options read = (record options { transition = Some read.0 }, read.1)
 
--- an option that was not given is read as it is written
-given_read : (name : Name) (before : List Written) (words : List (List ℕ)) (at : ℕ) (word : List ℕ) (rest : List (List ℕ)) (keyword : Keyword)
-    → drop (at + 1) words ≡ rest → keyword_of word ≡ Some keyword → is_some (given (option_named keyword) before) ≡ false
-    → with_given name (read_of before) words at keyword ≡ one_more name before at word (option_named keyword) rest
-given_read name before words at word rest Loop h is absent =
+-- an option that was not given before is read as it is written
+given_read : (line : Line) (before : List Written) (at : ℕ) (word : List ℕ) (rest : List (List ℕ)) (keyword : Keyword)
+    → drop (at + 1) line.words ≡ rest → keyword_of word ≡ Some keyword → is_some (given (option_named keyword) before) ≡ false
+    → with_given line at (read_of before) keyword
+    ≡ one_step line before (written_at at word (Some (option_named keyword)) rest) (Some (option_named keyword)) (option_len word (Some (option_named keyword)) rest)
+given_read line before at word rest Loop h is absent =
     let named = keyword_named word ∙ ap (option_map option_named) is in
     rw (absent, read_push before (written_at at word (Some meant.Loop) rest) meant.Loop named absent) refl
-given_read name before words at word rest Auto h is absent =
+given_read line before at word rest Auto h is absent =
     let named = keyword_named word ∙ ap (option_map option_named) is in
     rw (absent, read_push before (written_at at word (Some meant.Auto) rest) meant.Auto named absent) refl
-given_read name before words at word rest Seek h is absent =
+given_read line before at word rest Seek h is absent =
     let named = keyword_named word ∙ ap (option_map option_named) is in
     rw (absent, read_push before (written_at at word (Some meant.Seek) rest) meant.Seek named absent)
-    (counted name words at word rest meant.Seek (λ count. record (read_of before) { seek = Some count }) h)
-given_read name before words at word rest Length h is absent =
+    (counted line at word rest meant.Seek (λ count. record (read_of before) { seek = Some count }) h)
+given_read line before at word rest Length h is absent =
     let named = keyword_named word ∙ ap (option_map option_named) is in
     rw (absent, read_push before (written_at at word (Some meant.Length) rest) meant.Length named absent)
-    (counted name words at word rest meant.Length (λ count. record (read_of before) { length = Some count }) h)
-given_read name before words at word rest (Transition kind) h is absent =
+    (counted line at word rest meant.Length (λ count. record (read_of before) { length = Some count }) h)
+given_read line before at word rest (Transition kind) h is absent =
     let named = keyword_named word ∙ ap (option_map option_named) is in
     rw (absent, read_push before (written_at at word (Some meant.Transition) rest) meant.Transition named absent)
-    (ap (λ read. read >>= λ r. Ok (with_transition (read_of before) r)) (transition_read name words rest at word kind h (keyword_kind word kind is))
+    (ap (λ read. read >>= λ r. Ok (with_transition (read_of before) r)) (transition_read line rest at word kind h (keyword_kind word kind is))
     ∙ unless_then _ _ (with_transition (read_of before)))
 
 -- a word is read as the option that it begins, or refused
-abbrev one_step : Name → List Written → ℕ → List ℕ → Option OptionName → List (List ℕ) → Result (Given × ℕ) Refusal
-one_step name before at word option rest =
-    let written = written_at at word option rest in
-    unless (option_refusal name before written option) (read_of (before ++ written ∷ []), option_len word option rest)
-
-one_found : (name : Name) (before : List Written) (words : List (List ℕ)) (at : ℕ) (word : List ℕ) (rest : List (List ℕ)) (found : Option Keyword)
-    → drop (at + 1) words ≡ rest → keyword_of word ≡ found
-    → with_word name (read_of before) words at found ≡ one_step name before at word (option_map option_named found) rest
+one_found : (line : Line) (before : List Written) (at : ℕ) (word : List ℕ) (rest : List (List ℕ)) (found : Option Keyword)
+    → drop (at + 1) line.words ≡ rest → keyword_of word ≡ found
+    → with_word line at (read_of before) found
+    ≡ one_step line before (written_at at word (option_map option_named found) rest) (option_map option_named found) (option_len word (option_map option_named found) rest)
 unfolding with_keyword
-one_found name before words at word rest None h is = refl
-one_found name before words at word rest (Some keyword) h is = elim (cases_Bool (is_some (given (option_named keyword) before))) [
+one_found line before at word rest None h is = refl
+one_found line before at word rest (Some keyword) h is = elim (cases_Bool (is_some (given (option_named keyword) before))) [
   | inl present ↦ rw (has_given before keyword, present) refl
   | inr absent ↦
-      let read : with_word name (read_of before) words at (Some keyword) ≡ with_given name (read_of before) words at keyword = rw (has_given before keyword, absent) refl in
-      read ∙ given_read name before words at word rest keyword h is absent
+      let read : with_word line at (read_of before) (Some keyword) ≡ with_given line at (read_of before) keyword = rw (has_given before keyword, absent) refl in
+      read ∙ given_read line before at word rest keyword h is absent
 ]
 
 -- the words after the first of those that are left
@@ -380,78 +380,79 @@ words_after : (words rest : List (List ℕ)) (word : List ℕ) (at : ℕ) → dr
 words_after words rest word at h = sym (drop-drop 1 at words) ∙ ap (drop 1) h
 
 -- an option is read as it is written
-one_read : (name : Name) (before : List Written) (words : List (List ℕ)) (at : ℕ) (word : List ℕ) (rest : List (List ℕ))
-    → drop at words ≡ word ∷ rest → with_option name (read_of before) words at ≡ one_step name before at word (option_of word) rest
+one_read : (line : Line) (before : List Written) (at : ℕ) (word : List ℕ) (rest : List (List ℕ))
+    → drop at line.words ≡ word ∷ rest
+    → with_option line at (read_of before) ≡ one_step line before (written_at at word (option_of word) rest) (option_of word) (option_len word (option_of word) rest)
 unfolding with_option
-one_read name before words at word rest h =
-    ap (λ first. with_word name (read_of before) words at (option_and_then keyword_of first)) (word_here words (word ∷ rest) at h)
-    ∙ one_found name before words at word rest (keyword_of word) (words_after words rest word at h) refl
-    ∙ ap (λ option. one_step name before at word option rest) (sym (keyword_named word))
+one_read line before at word rest h =
+    ap (λ first. with_word line at (read_of before) (option_and_then keyword_of first)) (word_here line.words (word ∷ rest) at h)
+    ∙ one_found line before at word rest (keyword_of word) (words_after line.words rest word at h) refl
+    ∙ ap (λ option. one_step line before (written_at at word option rest) option (option_len word option rest)) (sym (keyword_named word))
 
--- the options that are read from the words that are left, of which the first are passed over
-abbrev pub run : Name → List (List ℕ) → ℕ → ℕ → List (List ℕ) → Given → Result Given Refusal
-run name words passed at [] options = Ok options
-run name words (suc passed) at (word ∷ rest) options = run name words passed (at + 1) rest options
-run name words zero at (word ∷ rest) options = with_option name options words at >>= λ read. run name words read.1 (at + 1) rest read.0
+-- the options that are read from the words that are left, of which the first ones are passed over
+abbrev pub run : Line → ℕ → ℕ → List (List ℕ) → Given → Result Given Refusal
+run line passed at [] options = Ok options
+run line (suc passed) at (word ∷ rest) options = run line passed (at + 1) rest options
+run line zero at (word ∷ rest) options = with_option line at options >>= λ read. run line read.1 (at + 1) rest read.0
 
 -- words that are passed over may be left out
-pub run_passed : (name : Name) (words : List (List ℕ)) (passed at : ℕ) (rest : List (List ℕ)) (options : Given)
-    → run name words passed at rest options ≡ run name words 0 (at + passed) (drop passed rest) options
-run_passed name words zero at rest options = rw (add-zero at) refl
-run_passed name words (suc passed) at [] options = refl
-run_passed name words (suc passed) at (word ∷ rest) options =
+run_passed : (line : Line) (passed at : ℕ) (rest : List (List ℕ)) (options : Given)
+    → run line passed at rest options ≡ run line 0 (at + passed) (drop passed rest) options
+run_passed line zero at rest options = rw (add-zero at) refl
+run_passed line (suc passed) at [] options = refl
+run_passed line (suc passed) at (word ∷ rest) options =
     let e : at + suc passed ≡ at + 1 + passed = omega arith in
-    rw e (run_passed name words passed (at + 1) rest options)
+    rw e (run_passed line passed (at + 1) rest options)
 
-run_step : (name : Name) (words : List (List ℕ)) (at : ℕ) (rest : List (List ℕ)) (one : Given × ℕ) (refusal later : Option Refusal) (all : Given)
-    → run name words one.1 (at + 1) rest one.0 ≡ unless later all
-    → (unless refusal one >>= λ read. run name words read.1 (at + 1) rest read.0) ≡ unless (cond (is_some refusal) refusal later) all
-run_step name words at rest one None later all h = h
-run_step name words at rest one (Some refusal) later all h = refl
+run_step : (line : Line) (at : ℕ) (rest : List (List ℕ)) (one : Given × ℕ) (refusal later : Option Refusal) (all : Given)
+    → run line one.1 (at + 1) rest one.0 ≡ unless later all
+    → (unless refusal one >>= λ read. run line read.1 (at + 1) rest read.0) ≡ unless (cond (is_some refusal) refusal later) all
+run_step line at rest one None later all h = h
+run_step line at rest one (Some refusal) later all h = refl
 
 -- what is read one after another is what is written
-run_is : (name : Name) (words : List (List ℕ)) (passed at : ℕ) (rest : List (List ℕ)) (before : List Written) → drop at words ≡ rest
-    → run name words passed at rest (read_of before) ≡ unless (options_refusal name before (options_after passed at rest)) (read_of (before ++ options_after passed at rest))
-run_is name words passed at [] before h = ap (λ all. Ok (read_of all)) (sym (append-nil before))
-run_is name words (suc passed) at (word ∷ rest) before h = run_is name words passed (at + 1) rest before (words_after words rest word at h)
-run_is name words zero at (word ∷ rest) before h =
+run_is : (line : Line) (passed at : ℕ) (rest : List (List ℕ)) (before : List Written) → drop at line.words ≡ rest
+    → run line passed at rest (read_of before) ≡ unless (options_refusal line.name before (options_after passed at rest)) (read_of (before ++ options_after passed at rest))
+run_is line passed at [] before h = ap (λ all. Ok (read_of all)) (sym (append-nil before))
+run_is line (suc passed) at (word ∷ rest) before h = run_is line passed (at + 1) rest before (words_after line.words rest word at h)
+run_is line zero at (word ∷ rest) before h =
     let option = option_of word in
     let written = written_at at word option rest in
     let len = option_len word option rest in
     let more = options_after len (at + 1) rest in
-    ap (λ step. step >>= λ read. run name words read.1 (at + 1) rest read.0) (one_read name before words at word rest h)
-    ∙ run_step name words at rest (read_of (before ++ written ∷ []), len) (option_refusal name before written option) (options_refusal name (before ++ written ∷ []) more)
-    (read_of ((before ++ written ∷ []) ++ more)) (run_is name words len (at + 1) rest (before ++ written ∷ []) (words_after words rest word at h))
-    ∙ ap (λ all. unless (options_refusal name before (written ∷ more)) (read_of all)) (append_assoc before (written ∷ []) more)
+    ap (λ step. step >>= λ read. run line read.1 (at + 1) rest read.0) (one_read line before at word rest h)
+    ∙ run_step line at rest (read_of (before ++ written ∷ []), len) (option_refusal line.name before written option) (options_refusal line.name (before ++ written ∷ []) more)
+    (read_of ((before ++ written ∷ []) ++ more)) (run_is line len (at + 1) rest (before ++ written ∷ []) (words_after line.words rest word at h))
+    ∙ ap (λ all. unless (options_refusal line.name before (written ∷ more)) (read_of all)) (append_assoc before (written ∷ []) more)
 
-seen_unless : (refusal : Option Refusal) (all : List Written) → result_seen (unless refusal (read_of all)) ≡ unless_refused refusal (options_of all)
-seen_unless None all = refl
-seen_unless (Some refusal) all = refl
+view_unless : (refusal : Option Refusal) (all : List Written) → result_view (unless refusal (read_of all)) ≡ unless_refused refusal (options_of all)
+view_unless None all = refl
+view_unless (Some refusal) all = refl
 
 -- the options that are read from a position on are those of the line
-pub run_options : (name : Name) (words : List (List ℕ)) (at : ℕ) → result_seen (run name words 0 at (drop at words) no_options) ≡ options_at name words at
+pub run_options : (line : Line) (at : ℕ) → result_view (run line 0 at (drop at line.words) no_options) ≡ options_at line at
 unfolding options_at
-run_options name words at =
-    let all = options_from at (drop at words) in
-    ap result_seen (run_is name words 0 at (drop at words) [] refl) ∙ seen_unless (options_refusal name [] all) all
+run_options line at =
+    let all = options_from at (drop at line.words) in
+    ap result_view (run_is line 0 at (drop at line.words) [] refl) ∙ view_unless (options_refusal line.name [] all) all
 
 -- one option, and what follows it
-abbrev then_run : Name → List (List ℕ) → ℕ → Result (Given × ℕ) Refusal → Result Given Refusal
-then_run name words at step = step >>= λ read. run name words 0 (at + 1 + read.1) (drop (at + 1 + read.1) words) read.0
+abbrev pub then_run : Line → ℕ → Result (Given × ℕ) Refusal → Result Given Refusal
+then_run line at step = step >>= λ read. run line 0 (at + 1 + read.1) (drop (at + 1 + read.1) line.words) read.0
 
-run_one : (name : Name) (words : List (List ℕ)) (at : ℕ) (step : Result (Given × ℕ) Refusal)
-    → (step >>= λ read. run name words read.1 (at + 1) (drop (at + 1) words) read.0) ≡ then_run name words at step
-run_one name words at (Ok read) =
-    run_passed name words read.1 (at + 1) (drop (at + 1) words) read.0 ∙ ap (λ rest. run name words 0 (at + 1 + read.1) rest read.0) (drop-drop read.1 (at + 1) words)
-run_one name words at (Err refusal) = refl
+run_one : (line : Line) (at : ℕ) (step : Result (Given × ℕ) Refusal)
+    → (step >>= λ read. run line read.1 (at + 1) (drop (at + 1) line.words) read.0) ≡ then_run line at step
+run_one line at (Ok read) =
+    run_passed line read.1 (at + 1) (drop (at + 1) line.words) read.0 ∙ ap (λ rest. run line 0 (at + 1 + read.1) rest read.0) (drop-drop read.1 (at + 1) line.words)
+run_one line at (Err refusal) = refl
 
-pub run_at : (name : Name) (words : List (List ℕ)) (at : ℕ) (options : Given) (step : Result (Given × ℕ) Refusal) → at < length words → step ≡ with_option name options words at
-    → run name words 0 at (drop at words) options ≡ then_run name words at step
-run_at name words at options step inside read =
-    let first : drop at words ≡ get_or words at [] ∷ drop (at + 1) words = rw add-one (drop-cons words at [] inside) in
-    ap (λ rest. run name words 0 at rest options) first
-    ∙ ap (λ one. one >>= λ more. run name words more.1 (at + 1) (drop (at + 1) words) more.0) (sym read)
-    ∙ run_one name words at step
+pub run_at : (line : Line) (at : ℕ) (options : Given) (step : Result (Given × ℕ) Refusal) → at < length line.words → step ≡ with_option line at options
+    → run line 0 at (drop at line.words) options ≡ then_run line at step
+run_at line at options step inside read =
+    let first : drop at line.words ≡ get_or line.words at [] ∷ drop (at + 1) line.words = rw add-one (drop-cons line.words at [] inside) in
+    ap (λ rest. run line 0 at rest options) first
+    ∙ ap (λ one. one >>= λ more. run line more.1 (at + 1) (drop (at + 1) line.words) more.0) (sym read)
+    ∙ run_one line at step
 
-pub run_end : (name : Name) (words : List (List ℕ)) (at : ℕ) (options : Given) → length words ≤ at → run name words 0 at (drop at words) options ≡ Ok options
-run_end name words at options end = ap (λ rest. run name words 0 at rest options) (drop_all at words end)
+pub run_end : (line : Line) (at : ℕ) (options : Given) → length line.words ≤ at → run line 0 at (drop at line.words) options ≡ Ok options
+run_end line at options end = ap (λ rest. run line 0 at rest options) (drop_all at line.words end)

@@ -12,9 +12,9 @@ use Rattle.std.proofs.lemmas.List.{length-map, length-append, take_at, drop_at, 
 use Rattle.std.proofs.lemmas.Slice.Eq.{bytes_eq-Decides}
 use Rattle.std.proofs.lemmas.Bool.Decides.{nat_tests}
 use Rattle.std.proofs.lemmas.Bool.{false_from_ne_true, eqb-true}
-use Rattle.cmd_parse.proofs.Texts.{uppercase_of_lowercase, lowercase_of_uppercase, capitals_are_ascii}
-use Rattle.history_model.specs.CommandWords.{is_word}
-use Rattle.history_model.specs.CommandProducer.{is_colour_word, is_route_word}
+use Rattle.play_types.proofs.Letters.{uppercase_of_lowercase, lowercase_of_uppercase, capitals_are_ascii}
+use Rattle.play_types.specs.Words.{is_word}
+use Rattle.history_model.specs.commands.Producer.{is_colour_word, is_route_word}
 
 -- the characters after an ASCII one
 pub chars_after_ascii : (c : ℕ) → c < 128 → (text rest : List ℕ) → IsUtf8 text → text ≡ c ∷ rest → chars text ≡ c ∷ chars rest

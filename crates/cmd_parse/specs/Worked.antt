@@ -17,7 +17,7 @@ use Rattle.play_types.specs.declared.command.Cmd.TheVariants.{Set}
 use Rattle.play_types.specs.declared.parsed.Parsed.{Parsed}
 use Rattle.play_types.specs.declared.parsed.Parsed.TheVariants.{Stage}
 use Rattle.play_types.specs.declared.parsed.Refusal.{Refusal}
-use Rattle.history_model.specs.Command.{parsed}
+use Rattle.history_model.specs.commands.Command.{parsed}
 
 abbrev channel : ChannelView
 channel = record { width = 1; height = 1; pairs = 0; output = codes "one.raw" }

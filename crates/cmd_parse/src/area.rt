@@ -1,12 +1,14 @@
 //! Places as they are written.
 ghost use Rattle.std.specs.Prelude.{◌≡◌, ◌≤◌, length, IfOk, ok_or, is_some};
 ghost use Rattle.std.specs.Str.{chars};
-ghost use Rattle.history_model.specs.CommandWords.{whole_within};
-ghost use Rattle.history_model.specs.CommandPlace.{area_at, area_of, place_of};
+ghost use Rattle.amcp_text.specs.Numbers.{number_within};
+ghost use Rattle.play_types.specs.declared.place.TheConstants.{MAX_CHANNELS, MAX_LAYER};
+ghost use Rattle.history_model.specs.commands.Line.{legal};
+ghost use Rattle.history_model.specs.commands.Places.{area_at, area_of, place_of};
 
-use crate::word::whole_within;
-use amcp_text::WordList;
-use play_types::{Config, Name, Place, Refusal};
+use crate::line::Line;
+use amcp_text::word_within;
+use play_types::{MAX_LAYER, Place, Refusal};
 use std::marker::Model;
 
 /// A channel, and a layer of it where one is written.
@@ -17,8 +19,8 @@ pub struct Area {
 }
 
 impl Model for Area {
-    ghost use Rattle.history_model.specs.CommandPlace.{Area};
-    ghost use Rattle.cmd_parse.specs.Area.{IsArea};
+    ghost use Rattle.history_model.specs.commands.Places.{Area};
+    ghost use Rattle.cmd_parse.specs.inner.Area.{IsArea};
 
     ghost Value = { Area };
 
@@ -30,57 +32,21 @@ impl Model for Area {
 }
 
 impl Area {
-    /// The area that the word at a position names: `c`, or `c-l`, split at its first dash.
-    ///
-    /// Refused are a channel that is not configured, and then a layer that is no whole number up to 9999.
-    pub fn at(name: Name, config: &Config, words: &WordList, at: usize) -> Result<Area, Refusal>
-        ensures { result ≡ area_at config.now name words.now at }
-    {
-        match words.get(at) {
-            Some(word) => Area::of(name, config, at, word),
-            None => Err(Refusal::Missing(name)),
-        }
-    }
-
-    /// The area that a word names, which stands at a position.
-    pub fn of(name: Name, config: &Config, at: usize, word: &str) -> Result<Area, Refusal>
-        ensures { result ≡ area_of config.now name at (chars word.now) }
-    {
-        let Some((channel, layer)) = word.split_once('-') else {
-            let channel = channel_of(name, config, word)?;
-            return Ok(Area {
-                channel,
-                layer: None,
-            });
-        };
-        let channel = channel_of(name, config, channel)?;
-        match whole_within(layer, 0, 9999) {
-            Some(layer) => Ok(Area {
-                channel,
-                layer: Some(layer as u16),
-            }),
-            None => Err(Refusal::Illegal(name, at)),
-        }
-    }
-
-    /// The place that is meant: layer 0 where no layer is written.
+    /// Returns the place that is meant: layer 0 where no layer is written.
     pub fn place(self) -> Place
         ensures { result ≡ place_of self }
     {
-        match Place::new(self.channel, self.layer.unwrap_or(0)) {
-            Some(place) => place,
-            None => unreachable!(),
-        }
+        Place::new(self.channel, self.layer.unwrap_or(0)).unwrap()
     }
 
-    /// 1 to 16.
+    /// Returns the channel, from 1 to `MAX_CHANNELS`.
     pub fn channel(self) -> u8
         ensures { result ≡ self.channel }
     {
         self.channel
     }
 
-    /// Whether a layer is written.
+    /// Returns whether a layer is written.
     pub fn has_layer(self) -> bool
         ensures { result ≡ is_some self.layer }
     {
@@ -88,15 +54,54 @@ impl Area {
     }
 }
 
-/// The configured channel that a word names.
-fn channel_of(name: Name, config: &Config, word: &str) -> Result<u8, Refusal>
-    ensures value { result
-        ≡ ok_or (whole_within 1 (length config.now.channels) (chars word.now)) (Refusal.Channel name) }
-    ensures range { IfOk result (λ channel. (1 ≤ channel) × (channel ≤ 16)) }
-{
-    let channels = config.channels().len() as u32;
-    match whole_within(word, 1, channels) {
-        Some(channel) => Ok(channel as u8),
-        None => Err(Refusal::Channel(name)),
+impl Line<'_> {
+    /// Returns the area that the word at a position names: `c`, or `c-l`, split at its first dash.
+    ///
+    /// Refused are a channel that is not configured, and then a layer that is no whole number up to `MAX_LAYER`.
+    pub fn area(&self, at: usize) -> Result<Area, Refusal>
+        ensures { result ≡ area_at self.now at }
+    {
+        let word = self.word(at)?;
+        self.area_of(at, word)
+    }
+
+    /// Returns the area that a word names, which stands at a position.
+    pub fn area_of(&self, at: usize, word: &str) -> Result<Area, Refusal>
+        ensures { result ≡ area_of self.now at (chars word.now) }
+    {
+        let Some((channel, layer)) = word.split_once('-') else {
+            let channel = self.channel(word)?;
+            return Ok(Area {
+                channel,
+                layer: None,
+            });
+        };
+        let channel = self.channel(channel)?;
+        let layer = Some(self.layer(at, layer)?);
+        Ok(Area { channel, layer })
+    }
+
+    /// Returns the configured channel that a word names.
+    fn channel(&self, word: &str) -> Result<u8, Refusal>
+        ensures value { result
+            ≡ ok_or (number_within 1 (length self.now.config.channels) (chars word.now)) (Refusal.Channel self.now.name) }
+        ensures range { IfOk result (λ channel. (1 ≤ channel) × (channel ≤ MAX_CHANNELS)) }
+    {
+        let channels = self.config.channels().len() as u32;
+        match word_within(1, channels, word) {
+            Some(channel) => Ok(channel as u8),
+            None => Err(Refusal::Channel(self.name)),
+        }
+    }
+
+    /// Returns the layer that a word writes, which stands at a position.
+    fn layer(&self, at: usize, word: &str) -> Result<u16, Refusal>
+        ensures value { result ≡ legal self.now at (number_within 0 MAX_LAYER (chars word.now)) }
+        ensures range { IfOk result (λ layer. layer ≤ MAX_LAYER) }
+    {
+        match word_within(0, u32::from(MAX_LAYER), word) {
+            Some(layer) => Ok(layer as u16),
+            None => Err(self.illegal(at)),
+        }
     }
 }

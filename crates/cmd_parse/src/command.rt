@@ -1,135 +1,150 @@
 //! What the words of a line ask for.
 ghost use Rattle.std.specs.Prelude.{◌≡◌, ◌<◌, length};
-ghost use Rattle.history_model.specs.Command.{clear, cleared, load, load_bg, meaning, only_place, parsed, play, swap, version};
-ghost use Rattle.history_model.specs.CommandWords.{ended};
+ghost use Rattle.history_model.specs.commands.Command.{clear, cleared, least_words, load, load_bg, meaning, only_place, parsed, play, swap, version};
+ghost use Rattle.history_model.specs.commands.Line.{ended};
 
 use crate::area::Area;
-use crate::line::{end_at, flag_at};
+use crate::line::Line;
 use crate::mixer::mixer;
-use crate::name::{least_words, name_of};
-use crate::take::take_at;
 use amcp_text::WordList;
 use play_types::{Cmd, Config, MediaNames, Name, Parsed, Place, Refusal};
 
-/// What the words of a line ask for, with these channels and these clips. It takes no memory.
+/// Returns what the words of a line ask for, with these channels and these clips. It takes no memory.
 ///
 /// Refused are, in this order: a name that is none; a line with fewer words than its command needs; a place, from the
 /// left; the other words, from the left, except the producer; and the producer. The position in `Illegal` counts the
 /// words from 0, where the name stands.
-#[tactic(auto, unfolding(history_model::specs::Command::parsed))]
+#[tactic(auto, unfolding(history_model::specs::commands::Command::parsed))]
 pub fn parse(words: &WordList, config: &Config, media: &MediaNames) -> Result<Parsed, Refusal>
     requires { 0 < length words.now }
     ensures { result ≡ parsed config.now media.now words.now }
 {
-    let Some(word) = words.get(0) else {
-        return Err(Refusal::Unknown);
+    let word = words.get(0).ok_or(Refusal::Unknown)?;
+    let name = Name::read(word).ok_or(Refusal::Unknown)?;
+    let line = Line {
+        name,
+        words,
+        config,
+        media,
     };
-    let Some(name) = name_of(word) else {
-        return Err(Refusal::Unknown);
-    };
-    if words.len() <= least_words(name) {
+    if line.len() <= least_words(name) {
         return Err(Refusal::Missing(name));
     }
-    meaning(words, config, media, name)
+    meaning(&line)
 }
 
-/// What the words of a command ask for that are enough.
-fn meaning(
-    words: &WordList,
-    config: &Config,
-    media: &MediaNames,
-    name: Name,
-) -> Result<Parsed, Refusal>
-    ensures { result ≡ meaning config.now media.now words.now name }
+/// Returns the least number of words that a command needs after its name.
+fn least_words(name: Name) -> usize
+    ensures { result ≡ least_words name }
 {
     match name {
-        Name::LoadBg => Ok(Parsed::Stage(load_bg(words, config, media)?)),
-        Name::Load => Ok(Parsed::Stage(load(words, config, media)?)),
-        Name::Play => Ok(Parsed::Stage(play(words, config, media)?)),
-        Name::Pause => Ok(Parsed::Stage(Cmd::Pause(only_place(name, words, config)?))),
-        Name::Resume => Ok(Parsed::Stage(Cmd::Resume(only_place(name, words, config)?))),
-        Name::Stop => Ok(Parsed::Stage(Cmd::StopLayer(only_place(name, words, config)?))),
-        Name::Clear => Ok(Parsed::Stage(clear(words, config)?)),
-        Name::Swap => Ok(Parsed::Stage(swap(words, config)?)),
-        Name::Mixer => Ok(Parsed::Stage(mixer(config, words)?)),
-        Name::Begin => only_name(name, words, Parsed::Begin),
-        Name::Commit => only_name(name, words, Parsed::Commit),
-        Name::Discard => only_name(name, words, Parsed::Discard),
-        Name::Info => only_name(name, words, Parsed::Stage(Cmd::Info)),
-        Name::Cls => only_name(name, words, Parsed::Cls),
-        Name::Version => version(words),
-        Name::Bye => only_name(name, words, Parsed::Bye),
-        Name::Kill => only_name(name, words, Parsed::Kill),
+        Name::LoadBg | Name::Load | Name::Swap | Name::Mixer => 2,
+        Name::Play | Name::Pause | Name::Resume | Name::Stop | Name::Clear => 1,
+        Name::Begin
+        | Name::Commit
+        | Name::Discard
+        | Name::Info
+        | Name::Cls
+        | Name::Version
+        | Name::Bye
+        | Name::Kill => 0,
     }
 }
 
-/// What is asked for by a name that stands alone.
-fn only_name(name: Name, words: &WordList, asked: Parsed) -> Result<Parsed, Refusal>
-    ensures { result ≡ ended name words.now 1 asked }
+/// Returns what a line with enough words asks for.
+fn meaning(line: &Line<'_>) -> Result<Parsed, Refusal>
+    ensures { result ≡ meaning line.now }
 {
-    end_at(name, words, 1)?;
+    match line.name {
+        Name::LoadBg => Ok(Parsed::Stage(load_bg(line)?)),
+        Name::Load => Ok(Parsed::Stage(load(line)?)),
+        Name::Play => Ok(Parsed::Stage(play(line)?)),
+        Name::Pause => Ok(Parsed::Stage(Cmd::Pause(only_place(line)?))),
+        Name::Resume => Ok(Parsed::Stage(Cmd::Resume(only_place(line)?))),
+        Name::Stop => Ok(Parsed::Stage(Cmd::StopLayer(only_place(line)?))),
+        Name::Clear => Ok(Parsed::Stage(clear(line)?)),
+        Name::Swap => Ok(Parsed::Stage(swap(line)?)),
+        Name::Mixer => Ok(Parsed::Stage(mixer(line)?)),
+        Name::Begin => only_name(line, Parsed::Begin),
+        Name::Commit => only_name(line, Parsed::Commit),
+        Name::Discard => only_name(line, Parsed::Discard),
+        Name::Info => only_name(line, Parsed::Stage(Cmd::Info)),
+        Name::Cls => only_name(line, Parsed::Cls),
+        Name::Version => version(line),
+        Name::Bye => only_name(line, Parsed::Bye),
+        Name::Kill => only_name(line, Parsed::Kill),
+    }
+}
+
+/// Returns what is asked for by a name that stands alone.
+fn only_name(line: &Line<'_>, asked: Parsed) -> Result<Parsed, Refusal>
+    ensures { result ≡ ended line.now 1 asked }
+{
+    line.end(1)?;
     Ok(asked)
 }
 
-/// VERSION, with its one word or without it.
-fn version(words: &WordList) -> Result<Parsed, Refusal>
-    ensures { result ≡ version words.now }
+/// Reads a VERSION, with its one word or without it.
+fn version(line: &Line<'_>) -> Result<Parsed, Refusal>
+    ensures { result ≡ version line.now }
 {
-    flag_at(Name::Version, words, 1, "SERVER")?;
+    line.flag(1, "SERVER")?;
     Ok(Parsed::Version)
 }
 
-/// The place that stands alone after a name.
-fn only_place(name: Name, words: &WordList, config: &Config) -> Result<Place, Refusal>
-    ensures { result ≡ only_place config.now name words.now }
+/// Returns the place that stands alone after a name.
+fn only_place(line: &Line<'_>) -> Result<Place, Refusal>
+    ensures { result ≡ only_place line.now }
 {
-    let area = Area::at(name, config, words, 1)?;
-    end_at(name, words, 2)?;
+    let area = line.area(1)?;
+    line.end(2)?;
     Ok(area.place())
 }
 
-#[tactic(auto, unfolding(history_model::specs::Command::load_bg))]
-fn load_bg(words: &WordList, config: &Config, media: &MediaNames) -> Result<Cmd, Refusal>
-    ensures { result ≡ load_bg config.now media.now words.now }
+/// Reads a LOADBG.
+#[tactic(auto, unfolding(history_model::specs::commands::Command::load_bg))]
+fn load_bg(line: &Line<'_>) -> Result<Cmd, Refusal>
+    ensures { result ≡ load_bg line.now }
 {
-    let area = Area::at(Name::LoadBg, config, words, 1)?;
-    let take = take_at(Name::LoadBg, config, media, words, 2)?;
+    let area = line.area(1)?;
+    let take = line.take(2)?;
     Ok(Cmd::LoadBg(area.place(), take))
 }
 
-/// Its take is kept with a cut and without AUTO.
-#[tactic(auto, unfolding(history_model::specs::Command::load))]
-fn load(words: &WordList, config: &Config, media: &MediaNames) -> Result<Cmd, Refusal>
-    ensures { result ≡ load config.now media.now words.now }
+/// Reads a LOAD. Its take is kept with a cut and without AUTO.
+#[tactic(auto, unfolding(history_model::specs::commands::Command::load))]
+fn load(line: &Line<'_>) -> Result<Cmd, Refusal>
+    ensures { result ≡ load line.now }
 {
-    let area = Area::at(Name::Load, config, words, 1)?;
-    let take = take_at(Name::Load, config, media, words, 2)?;
+    let area = line.area(1)?;
+    let take = line.take(2)?;
     Ok(Cmd::load(area.place(), take))
 }
 
-/// A PLAY of the background, or of a take, which is kept without AUTO.
-#[tactic(auto, unfolding(history_model::specs::Command::play))]
-fn play(words: &WordList, config: &Config, media: &MediaNames) -> Result<Cmd, Refusal>
-    ensures { result ≡ play config.now media.now words.now }
+/// Reads a PLAY of the background, or of a take, which is kept without AUTO.
+#[tactic(auto, unfolding(history_model::specs::commands::Command::play))]
+fn play(line: &Line<'_>) -> Result<Cmd, Refusal>
+    ensures { result ≡ play line.now }
 {
-    let area = Area::at(Name::Play, config, words, 1)?;
-    if words.len() == 2 {
+    let area = line.area(1)?;
+    if line.len() == 2 {
         return Ok(Cmd::Play(area.place()));
     }
-    let take = take_at(Name::Play, config, media, words, 2)?;
+    let take = line.take(2)?;
     Ok(Cmd::play_take(area.place(), take))
 }
 
-/// Clears all layers of a channel, or one layer.
-#[tactic(auto, unfolding(history_model::specs::Command::clear))]
-fn clear(words: &WordList, config: &Config) -> Result<Cmd, Refusal>
-    ensures { result ≡ clear config.now words.now }
+/// Reads a CLEAR of all layers of a channel, or of one layer.
+#[tactic(auto, unfolding(history_model::specs::commands::Command::clear))]
+fn clear(line: &Line<'_>) -> Result<Cmd, Refusal>
+    ensures { result ≡ clear line.now }
 {
-    let area = Area::at(Name::Clear, config, words, 1)?;
-    end_at(Name::Clear, words, 2)?;
+    let area = line.area(1)?;
+    line.end(2)?;
     Ok(cleared(area))
 }
 
+/// Returns the command that clears an area.
 fn cleared(area: Area) -> Cmd
     ensures { result ≡ cleared area.channel area.layer }
 {
@@ -140,17 +155,17 @@ fn cleared(area: Area) -> Cmd
     }
 }
 
-/// Exchanges two channels, or two layers.
-#[tactic(auto, unfolding(history_model::specs::Command::swap))]
-fn swap(words: &WordList, config: &Config) -> Result<Cmd, Refusal>
-    ensures { result ≡ swap config.now words.now }
+/// Reads a SWAP of two channels, or of two layers.
+#[tactic(auto, unfolding(history_model::specs::commands::Command::swap))]
+fn swap(line: &Line<'_>) -> Result<Cmd, Refusal>
+    ensures { result ≡ swap line.now }
 {
-    let one = Area::at(Name::Swap, config, words, 1)?;
-    let other = Area::at(Name::Swap, config, words, 2)?;
+    let one = line.area(1)?;
+    let other = line.area(2)?;
     if one.has_layer() != other.has_layer() {
-        return Err(Refusal::Illegal(Name::Swap, 2));
+        return Err(line.illegal(2));
     }
-    let transforms = flag_at(Name::Swap, words, 3, "TRANSFORMS")?;
+    let transforms = line.flag(3, "TRANSFORMS")?;
     if one.has_layer() {
         Ok(Cmd::SwapLayers(one.place(), other.place(), transforms))
     } else {

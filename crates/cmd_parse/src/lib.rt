@@ -11,11 +11,9 @@ pub mod examples;
 mod keyword;
 mod line;
 mod mixer;
-mod name;
 mod options;
 mod producer;
 mod take;
-mod word;
 
 pub use command::parse;
 

@@ -1,41 +1,97 @@
-//! What stands at a position of a line.
-ghost use Rattle.std.specs.Prelude.{◌≡◌, ◌+◌, ◌^◌, ◌<◌, IsTrue};
-ghost use Rattle.history_model.specs.CommandWords.{ended, flag_at, stands_at};
-ghost use Rattle.cmd_parse.specs.Capitals.{are_capitals};
+//! A client's line whose command is known, and what stands at its positions.
+ghost use Rattle.std.specs.Prelude.{◌≡◌, ◌+◌, ◌^◌, ◌<◌, ◌≤◌, length, IfOk, OnOk, IsTrue, MatchResult, Ok, Err};
+ghost use Rattle.std.specs.Str.{chars};
+ghost use Rattle.play_types.specs.Words.{are_capitals};
+ghost use Rattle.history_model.specs.commands.Line.{ended, flag_at, number_at, stands_at, word_at};
 
-use crate::word::is_word;
-use amcp_text::WordList;
-use play_types::{Name, Refusal};
+use amcp_text::{WordList, word_within};
+use play_types::{Config, MediaNames, Name, Refusal, is_word};
+use std::marker::Model;
 
-/// Whether the fixed word, which is given in capitals, stands at a position.
-pub fn stands_at(words: &WordList, at: usize, fixed: &str) -> bool
-    requires { IsTrue (are_capitals fixed.now) }
-    ensures { result ≡ stands_at fixed.now words.now at }
-{
-    match words.get(at) {
-        Some(word) => is_word(word, fixed),
-        None => false,
-    }
+/// A client's line whose command is known, and the channels and the clips that its words can name.
+///
+/// Positions count the words from 0, where the command's name stands.
+#[derive(Drop)]
+pub struct Line<'a> {
+    pub name: Name,
+    pub words: &'a WordList,
+    pub config: &'a Config,
+    pub media: &'a MediaNames,
 }
 
-/// Refuses a word at a position, where the line has to end.
-pub fn end_at(name: Name, words: &WordList, at: usize) -> Result<(), Refusal>
-    ensures { result ≡ ended name words.now at tt }
-{
-    if at < words.len() {
-        return Err(Refusal::Illegal(name, at));
-    }
-    Ok(())
+impl<'a> Model for Line<'a> {
+    ghost use Rattle.history_model.specs.commands.Line.{Line};
+
+    ghost Value = { Line };
+
+    ghost view = { λ l. record { name = l.name; words = l.words.now; config = l.config.now; media = l.media.now } };
 }
 
-/// Whether the fixed word, which is given in capitals, stands at a position. No other word may stand there, and none
-/// after it.
-pub fn flag_at(name: Name, words: &WordList, at: usize, fixed: &str) -> Result<bool, Refusal>
-    requires capitals { IsTrue (are_capitals fixed.now) }
-    requires fits { at + 1 < 2 ^ 64 }
-    ensures { result ≡ flag_at fixed.now name words.now at }
-{
-    let stands = stands_at(words, at, fixed);
-    end_at(name, words, if stands { at + 1 } else { at })?;
-    Ok(stands)
+impl<'a> Line<'a> {
+    /// Returns how many words the line has, the name with them.
+    pub fn len(&self) -> usize
+        ensures { result ≡ length self.now.words }
+    {
+        self.words.len()
+    }
+
+    /// Returns the refusal of the word at a position.
+    pub fn illegal(&self, at: usize) -> Refusal
+        ensures { result ≡ Refusal.Illegal self.now.name at }
+    {
+        Refusal::Illegal(self.name, at)
+    }
+
+    /// Returns the word at a position, which the line may not leave out.
+    pub fn word(&self, at: usize) -> Result<&'a str, Refusal>
+        ensures value { MatchResult result
+            (λ word. word_at self.now at ≡ Ok (chars word.now))
+            (λ refusal. word_at self.now at ≡ Err refusal) }
+        ensures within { OnOk result (at < length self.now.words) }
+    {
+        self.words.get(at).ok_or(Refusal::Missing(self.name))
+    }
+
+    /// Returns the whole number at a position, which lies from `least` to `most`.
+    pub fn number(&self, at: usize, least: u32, most: u32) -> Result<u32, Refusal>
+        ensures value { result ≡ number_at self.now at least most }
+        ensures range { IfOk result (λ number. (least ≤ number) × (number ≤ most)) }
+        ensures within { OnOk result (at < length self.now.words) }
+    {
+        let word = self.word(at)?;
+        word_within(least, most, word).ok_or(self.illegal(at))
+    }
+
+    /// Returns whether the fixed word, which is given in capitals, stands at a position.
+    pub fn stands(&self, at: usize, fixed: &str) -> bool
+        requires { IsTrue (are_capitals fixed.now) }
+        ensures { result ≡ stands_at self.now at fixed.now }
+    {
+        match self.words.get(at) {
+            Some(word) => is_word(word, fixed),
+            None => false,
+        }
+    }
+
+    /// Refuses a word at a position, where the line has to end.
+    pub fn end(&self, at: usize) -> Result<(), Refusal>
+        ensures { result ≡ ended self.now at tt }
+    {
+        if at < self.len() {
+            return Err(self.illegal(at));
+        }
+        Ok(())
+    }
+
+    /// Returns whether the fixed word, which is given in capitals, stands at a position. No other word may stand there,
+    /// and none after it.
+    pub fn flag(&self, at: usize, fixed: &str) -> Result<bool, Refusal>
+        requires capitals { IsTrue (are_capitals fixed.now) }
+        requires fits { at + 1 < 2 ^ 64 }
+        ensures { result ≡ flag_at self.now at fixed.now }
+    {
+        let stands = self.stands(at, fixed);
+        self.end(if stands { at + 1 } else { at })?;
+        Ok(stands)
+    }
 }

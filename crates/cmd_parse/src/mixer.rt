@@ -1,49 +1,48 @@
 //! The forms of MIXER.
-ghost use Rattle.std.specs.Prelude.{◌≡◌, ◌≤◌, ◌<◌, IfOk, IfSome, pos};
+ghost use Rattle.std.specs.Prelude.{◌≡◌, ◌≤◌, ◌<◌, IfOk, IfSome, pos, ℤ};
 ghost use Rattle.std.specs.Str.{chars};
 ghost use Rattle.play_types.specs.Setting.{AreValues, IsWithin};
-ghost use Rattle.history_model.specs.CommandMixer.{deferral_at, mixer, mixer_command, number_at, number_of, numbers_of, property_command, property_of, reset, timing_at, timing_of, up_to};
-ghost use Rattle.cmd_parse.specs.Mixer.{IsNumber};
+ghost use Rattle.play_types.specs.declared.transition.TheConstants.{MAX_DURATION};
+ghost use Rattle.history_model.specs.commands.Mixer.{deferral_at, micros_at, mixer, mixer_command, number_of, numbers_of, property_command, reset, timing_at, timing_of, up_to};
+ghost use Rattle.cmd_parse.specs.inner.Mixer.{IsNumber};
 
 use crate::area::Area;
-use crate::line::{end_at, flag_at, stands_at};
-use crate::word::{is_word, whole_within};
-use amcp_text::WordList;
+use crate::line::Line;
 use fixed_params::read_micro;
-use play_types::{Cmd, Config, Curve, Name, Place, Prop, Refusal, Setting};
+use play_types::{
+    Cmd, Curve, MAX_DURATION, MAX_MICROS, MICROS_PER_UNIT, Place, Prop, Refusal, Setting, is_word,
+};
 use std::marker::Model;
 
-/// The command of a MIXER: its area stands at position 1, what is asked of it at 2.
-#[tactic(auto, unfolding(history_model::specs::CommandMixer::mixer))]
-pub fn mixer(config: &Config, words: &WordList) -> Result<Cmd, Refusal>
-    ensures { result ≡ mixer config.now words.now }
+/// Reads a MIXER: its area stands at position 1, what is asked of it at 2.
+#[tactic(auto, unfolding(history_model::specs::commands::Mixer::mixer))]
+pub fn mixer(line: &Line<'_>) -> Result<Cmd, Refusal>
+    ensures { result ≡ mixer line.now }
 {
-    let area = Area::at(Name::Mixer, config, words, 1)?;
-    match words.get(2) {
-        Some(word) => mixer_command(area, word, words),
-        None => Err(Refusal::Missing(Name::Mixer)),
-    }
+    let area = line.area(1)?;
+    let word = line.word(2)?;
+    mixer_command(line, area, word)
 }
 
-/// The command whose words name an area and then this word.
-fn mixer_command(area: Area, word: &str, words: &WordList) -> Result<Cmd, Refusal>
-    ensures { result ≡ mixer_command area (chars word.now) words.now }
+/// Returns the command of a MIXER whose words name an area and then this word.
+fn mixer_command(line: &Line<'_>, area: Area, word: &str) -> Result<Cmd, Refusal>
+    ensures { result ≡ mixer_command line.now area (chars word.now) }
 {
     if is_word(word, "COMMIT") {
-        end_at(Name::Mixer, words, 3)?;
+        line.end(3)?;
         return Ok(Cmd::CommitMixer(area.channel()));
     }
     if is_word(word, "CLEAR") {
-        end_at(Name::Mixer, words, 3)?;
+        line.end(3)?;
         return Ok(reset(area));
     }
-    match property_of(word) {
-        Some(property) => property_command(area.place(), property, words),
-        None => Err(Refusal::Illegal(Name::Mixer, 2)),
+    match Prop::read(word) {
+        Some(property) => property_command(line, area.place(), property),
+        None => Err(line.illegal(2)),
     }
 }
 
-/// Sets all mixer values to their defaults.
+/// Returns the command that sets all mixer values of an area to their defaults.
 fn reset(area: Area) -> Cmd
     ensures { result ≡ reset area.channel area.layer }
 {
@@ -54,116 +53,93 @@ fn reset(area: Area) -> Cmd
     }
 }
 
-/// The mixer value that a word names.
-fn property_of(word: &str) -> Option<Prop>
-    ensures { result ≡ property_of (chars word.now) }
+/// Returns the command that asks for a value, or sets it where words follow.
+fn property_command(line: &Line<'_>, place: Place, property: Prop) -> Result<Cmd, Refusal>
+    ensures { result ≡ property_command line.now place property }
 {
-    if is_word(word, "OPACITY") {
-        Some(Prop::Opacity)
-    } else if is_word(word, "FILL") {
-        Some(Prop::Fill)
-    } else if is_word(word, "CLIP") {
-        Some(Prop::Clip)
-    } else if is_word(word, "VOLUME") {
-        Some(Prop::Volume)
-    } else if is_word(word, "KEYER") {
-        Some(Prop::Keyer)
-    } else {
-        None
-    }
-}
-
-/// Asks for a value, or sets it where words follow.
-fn property_command(place: Place, property: Prop, words: &WordList) -> Result<Cmd, Refusal>
-    ensures { result ≡ property_command place property words.now }
-{
-    if words.len() <= 3 {
+    if line.len() <= 3 {
         return Ok(Cmd::Value(place, property));
     }
-    let numbers = numbers_of(property, words)?;
-    let timing = timing_of(property, words)?;
-    match Setting::new(
+    let numbers = numbers_of(line, property)?;
+    let timing = timing_of(line, property)?;
+    let setting = Setting::new(
         place,
         property,
         numbers,
         timing.duration,
         Curve::Linear,
         timing.deferred,
-    ) {
-        Some(setting) => Ok(Cmd::Set(setting)),
-        None => unreachable!(),
-    }
+    );
+    Ok(Cmd::Set(setting.unwrap()))
 }
 
-/// The numbers of a property, which stand from position 3 on, in millionths. Those that it has not are 0.
-#[tactic(auto, unfolding(history_model::specs::CommandMixer::numbers_of))]
-fn numbers_of(property: Prop, words: &WordList) -> Result<[i64; 4], Refusal>
-    ensures value { result ≡ numbers_of property words.now }
+/// Returns the numbers of a property, which stand from position 3 on, in millionths. Those that it has not are 0.
+#[tactic(auto, unfolding(history_model::specs::commands::Mixer::numbers_of))]
+fn numbers_of(line: &Line<'_>, property: Prop) -> Result<[i64; 4], Refusal>
+    ensures value { result ≡ numbers_of line.now property }
     ensures range { IfOk result (AreValues property) }
 {
-    let first = number_at(property, words, 3)?;
+    let first = micros_at(line, 3, property)?;
     match property {
         Prop::Opacity | Prop::Volume | Prop::Keyer => Ok([first, 0, 0, 0]),
         Prop::Fill | Prop::Clip => {
-            let second = number_at(property, words, 4)?;
-            let third = number_at(property, words, 5)?;
-            let fourth = number_at(property, words, 6)?;
+            let second = micros_at(line, 4, property)?;
+            let third = micros_at(line, 5, property)?;
+            let fourth = micros_at(line, 6, property)?;
             Ok([first, second, third, fourth])
         }
     }
 }
 
-/// The number of a property at a position, in millionths.
-fn number_at(property: Prop, words: &WordList, at: usize) -> Result<i64, Refusal>
-    ensures value { result ≡ number_at property words.now at }
+/// Returns the number of a property at a position, in millionths.
+fn micros_at(line: &Line<'_>, at: usize, property: Prop) -> Result<i64, Refusal>
+    ensures value { result ≡ micros_at line.now at property }
     ensures range { IfOk result (IsNumber property) }
 {
-    let Some(word) = words.get(at) else {
-        return Err(Refusal::Missing(Name::Mixer));
-    };
+    let word = line.word(at)?;
     match number_of(property, word) {
         Some(number) => Ok(number),
-        None => Err(Refusal::Illegal(Name::Mixer, at)),
+        None => Err(line.illegal(at)),
     }
 }
 
-/// The number of a property that a word writes, in millionths.
+/// Returns the number of a property that a word writes, in millionths.
 fn number_of(property: Prop, word: &str) -> Option<i64>
     ensures value { result ≡ number_of property (chars word.now) }
     ensures range { IfSome result (IsNumber property) }
 {
     match property {
-        Prop::Opacity => up_to(1_000_000, read_micro(word)?),
-        Prop::Volume => up_to(1_000_000_000, read_micro(word)?),
+        Prop::Opacity => up_to(MICROS_PER_UNIT, read_micro(word)?),
+        Prop::Volume => up_to(MAX_MICROS, read_micro(word)?),
         Prop::Fill | Prop::Clip => read_micro(word),
         Prop::Keyer => keyer(word),
     }
 }
 
-/// A number that is not negative and not above the most.
-fn up_to(most: u32, number: i64) -> Option<i64>
+/// Returns a number that is not negative and not above the most.
+fn up_to(most: i64, number: i64) -> Option<i64>
     ensures value { result ≡ up_to most number }
-    ensures range { IfSome result (IsWithin (pos 0) (pos most)) }
+    ensures range { IfSome result (IsWithin (pos 0) most) }
 {
-    if 0 <= number && number <= i64::from(most) {
+    if 0 <= number && number <= most {
         Some(number)
     } else {
         None
     }
 }
 
-/// Off or on, by the word `0` or `1`.
+/// Returns off or on, by the word `0` or `1`.
 fn keyer(word: &str) -> Option<i64>
     ensures { result ≡ number_of Prop.Keyer (chars word.now) }
 {
     match word {
         "0" => Some(0),
-        "1" => Some(1_000_000),
+        "1" => Some(MICROS_PER_UNIT),
         _ => None,
     }
 }
 
-/// How long a value takes to be reached, in ticks, at most 1,000,000, and whether it waits.
+/// In how many ticks a value is reached, at most `MAX_DURATION`, and whether it waits.
 #[derive(Clone, Copy)]
 struct Timing {
     duration: u32,
@@ -172,56 +148,52 @@ struct Timing {
 
 impl Model for Timing {
     ghost use Rattle.std.specs.Prelude.{◌≤◌};
-    ghost use Rattle.history_model.specs.CommandMixer.{Timing};
+    ghost use Rattle.play_types.specs.declared.transition.TheConstants.{MAX_DURATION};
+    ghost use Rattle.history_model.specs.commands.Mixer.{Timing};
 
     ghost Value = { Timing };
 
     ghost view = { λ t. record { duration = t.duration; deferred = t.deferred } };
 
-    ghost invariant = { λ t. t.duration ≤ 1000000 };
+    ghost invariant = { λ t. t.duration ≤ MAX_DURATION };
 
     ghost inverse = { λ v. record { duration = v.duration; deferred = v.deferred } };
 }
 
-/// What stands after the numbers of a property. A keyer has no duration.
-fn timing_of(property: Prop, words: &WordList) -> Result<Timing, Refusal>
-    ensures { result ≡ timing_of property words.now }
+/// Returns what stands after the numbers of a property. A keyer has no duration.
+fn timing_of(line: &Line<'_>, property: Prop) -> Result<Timing, Refusal>
+    ensures { result ≡ timing_of line.now property }
 {
     match property {
-        Prop::Opacity | Prop::Volume => timing_at(words, 4),
-        Prop::Fill | Prop::Clip => timing_at(words, 7),
-        Prop::Keyer => deferral_at(0, words, 4),
+        Prop::Opacity | Prop::Volume => timing_at(line, 4),
+        Prop::Fill | Prop::Clip => timing_at(line, 7),
+        Prop::Keyer => deferral_at(line, 4, 0),
     }
 }
 
-/// At most a duration, a curve after it, and DEFER, from a position to the end of the line.
-#[tactic(auto, unfolding(history_model::specs::CommandMixer::timing_at))]
-fn timing_at(words: &WordList, at: usize) -> Result<Timing, Refusal>
+/// Returns what stands from a position to the end of the line: at most a duration, a curve after it, and DEFER.
+#[tactic(auto, unfolding(history_model::specs::commands::Mixer::timing_at))]
+fn timing_at(line: &Line<'_>, at: usize) -> Result<Timing, Refusal>
     requires { at < 100 }
-    ensures { result ≡ timing_at words.now at }
+    ensures { result ≡ timing_at line.now at }
 {
-    let Some(word) = words.get(at) else {
-        return deferral_at(0, words, at);
-    };
-    if is_word(word, "DEFER") {
-        return deferral_at(0, words, at);
+    if at >= line.len() || line.stands(at, "DEFER") {
+        return deferral_at(line, at, 0);
     }
-    let Some(duration) = whole_within(word, 0, 1_000_000) else {
-        return Err(Refusal::Illegal(Name::Mixer, at));
-    };
-    if stands_at(words, at + 1, "LINEAR") {
-        deferral_at(duration, words, at + 2)
+    let duration = line.number(at, 0, MAX_DURATION)?;
+    if line.stands(at + 1, "LINEAR") {
+        deferral_at(line, at + 2, duration)
     } else {
-        deferral_at(duration, words, at + 1)
+        deferral_at(line, at + 1, duration)
     }
 }
 
-/// At most DEFER, from a position to the end of the line.
-fn deferral_at(duration: u32, words: &WordList, at: usize) -> Result<Timing, Refusal>
-    requires short { duration ≤ 1000000 }
+/// Returns what stands from a position to the end of the line: at most DEFER.
+fn deferral_at(line: &Line<'_>, at: usize, duration: u32) -> Result<Timing, Refusal>
+    requires short { duration ≤ MAX_DURATION }
     requires early { at < 200 }
-    ensures { result ≡ deferral_at duration words.now at }
+    ensures { result ≡ deferral_at line.now at duration }
 {
-    let deferred = flag_at(Name::Mixer, words, at, "DEFER")?;
+    let deferred = line.flag(at, "DEFER")?;
     Ok(Timing { duration, deferred })
 }

@@ -1,13 +1,13 @@
 //! The options of LOADBG, LOAD and PLAY.
-ghost use Rattle.std.specs.Prelude.{◌≡◌, ◌+◌, ◌^◌, ◌<◌, ◌≤◌, length, slice_get, IfOk, IfSome, OnOk, true, false};
-ghost use Rattle.history_model.specs.CommandOptions.{options_at};
-ghost use Rattle.cmd_parse.specs.Options.{count_at, duration_at, has_option, is_direction_at, is_leftward_at, is_number_at, manner_at, no_options, result_seen, seen, transition_at, with_keyword, with_option};
+ghost use Rattle.std.specs.Prelude.{◌≡◌, ◌+◌, ◌^◌, ◌<◌, ◌≤◌, length, IfOk, IfSome, true, false};
+ghost use Rattle.history_model.specs.commands.Options.{options_at};
+ghost use Rattle.play_types.specs.declared.transition.TheConstants.{MAX_DURATION};
+ghost use Rattle.cmd_parse.specs.inner.Options.{duration_at, has_option, is_direction_at, is_leftward_at, is_number_at, manner_at, no_options, result_view, transition_at, view, with_keyword, with_option};
 
 use crate::keyword::{Keyword, keyword_of};
-use crate::line::stands_at;
-use crate::word::{is_whole_number, whole_within};
-use amcp_text::WordList;
-use play_types::{Curve, Kind, Name, Refusal, Trans};
+use crate::line::Line;
+use amcp_text::is_whole_number;
+use play_types::{Curve, Kind, MAX_DURATION, MAX_FRAMES, Refusal, Trans};
 use std::marker::Model;
 
 /// What options say: how a clip is played, which transition brings it in, and whether it starts by itself.
@@ -22,7 +22,7 @@ pub struct Options {
 
 impl Model for Options {
     ghost use Rattle.std.specs.Prelude.{◌≤◌, IfSome};
-    ghost use Rattle.history_model.specs.CommandOptions.{Options};
+    ghost use Rattle.history_model.specs.commands.Options.{Options};
 
     ghost Value = { Options };
 
@@ -34,38 +34,28 @@ impl Model for Options {
 }
 
 impl Options {
-    /// The options that stand in a line from a position on, in any order, each at most once.
-    ///
-    /// Refused is the first word, from the left, that begins no option, repeats one, or is a wrong number, or else the
-    /// end of the line where a number has to follow.
-    pub fn at(name: Name, words: &WordList, first: usize) -> Result<Options, Refusal>
-        ensures { result ≡ options_at name words.now first }
-    {
-        let given = Given::at(name, words, first)?;
-        Ok(given.options())
-    }
-
+    /// Returns whether a clip begins anew at its end.
     pub fn looped(self) -> bool
         ensures { result ≡ self.looped }
     {
         self.looped
     }
 
-    /// A cut where none was given.
+    /// Returns the transition: a cut where none was given.
     pub fn transition(self) -> Trans
         ensures { result ≡ self.transition }
     {
         self.transition
     }
 
-    /// In frames, 0 where none was given.
+    /// Returns the first frame that is played, 0 where none was given.
     pub fn seek(self) -> u32
         ensures { result ≡ self.seek }
     {
         self.seek
     }
 
-    /// In frames, at least 1. Without it a clip is played to its end.
+    /// Returns how many frames are played, at least 1. Without a length a clip is played to its end.
     pub fn length(self) -> Option<u32>
         ensures value { result ≡ self.length }
         ensures range { IfSome result (λ frames. 1 ≤ frames) }
@@ -73,10 +63,24 @@ impl Options {
         self.length
     }
 
+    /// Returns whether the take starts by itself.
     pub fn auto(self) -> bool
         ensures { result ≡ self.auto }
     {
         self.auto
+    }
+}
+
+impl Line<'_> {
+    /// Returns what the options say that stand in the line from a position on, in any order, each at most once.
+    ///
+    /// Refused is the first word, from the left, that begins no option, repeats one, or is a wrong number, or else the
+    /// end of the line where a number has to follow.
+    pub fn options(&self, at: usize) -> Result<Options, Refusal>
+        ensures { result ≡ options_at self.now at }
+    {
+        let given = Given::read(self, at)?;
+        Ok(given.options())
     }
 }
 
@@ -91,25 +95,25 @@ struct Given {
 }
 
 impl Given {
-    /// The options that are given in a line from a position on.
-    fn at(name: Name, words: &WordList, first: usize) -> Result<Given, Refusal>
-        ensures value { result_seen result ≡ options_at name words.now first }
+    /// Returns the options that are given in a line from a position on.
+    fn read(line: &Line<'_>, first: usize) -> Result<Given, Refusal>
+        ensures value { result_view result ≡ options_at line.now first }
         ensures frames { IfOk result (λ options. IfSome options.length (λ frames. 1 ≤ frames)) }
     {
         let mut options = Given::none();
         let mut at = first;
-        while at < words.len() {
-            let (more_options, more) = options.with_option(name, words, at)?;
+        while at < line.len() {
+            let (more_options, more) = options.with_option(line, at)?;
             options = more_options;
             at += 1 + more;
         }
         Ok(options)
     }
 
-    /// What the options say.
+    /// Returns what the options say.
     fn options(self) -> Options
         requires { IfSome self.length (λ frames. 1 ≤ frames) }
-        ensures { result ≡ seen self }
+        ensures { result ≡ view self }
     {
         Options {
             looped: self.looped,
@@ -120,6 +124,7 @@ impl Given {
         }
     }
 
+    /// Returns no options.
     fn none() -> Given
         ensures { result ≡ no_options }
     {
@@ -132,40 +137,40 @@ impl Given {
         }
     }
 
-    /// The options with the one that begins at a position, and how many words after its first belong to it.
-    #[tactic(auto, unfolding(crate::specs::Options::with_option))]
-    fn with_option(self, name: Name, words: &WordList, at: usize) -> Result<(Given, usize), Refusal>
-        requires inside { at < length words.now }
-        requires fits { length words.now < 2 ^ 64 }
+    /// Returns the options with the one that begins at a position, and how many words after its first belong to it.
+    #[tactic(auto, unfolding(crate::specs::inner::Options::with_option))]
+    fn with_option(self, line: &Line<'_>, at: usize) -> Result<(Given, usize), Refusal>
+        requires inside { at < length line.now.words }
+        requires fits { length line.now.words < 2 ^ 64 }
         requires frames { IfSome self.length (λ frames. 1 ≤ frames) }
-        ensures value { result ≡ with_option name self words.now at }
-        ensures within { IfOk result (λ read. at + 1 + read.1 ≤ length words.now) }
+        ensures value { result ≡ with_option line.now at self }
+        ensures within { IfOk result (λ read. at + 1 + read.1 ≤ length line.now.words) }
         ensures frames { IfOk result (λ read. IfSome read.0.length (λ frames. 1 ≤ frames)) }
     {
-        match words.get(at).and_then(keyword_of) {
-            Some(keyword) => self.with_keyword(name, words, at, keyword),
-            None => Err(Refusal::Illegal(name, at)),
+        match line.words.get(at).and_then(keyword_of) {
+            Some(keyword) => self.with_keyword(line, at, keyword),
+            None => Err(line.illegal(at)),
         }
     }
 
-    /// The same, where the option is known.
-    #[tactic(auto, unfolding(crate::specs::Options::with_keyword))]
+    /// Returns the options with the one that begins at a position with this keyword, and how many words after its first
+    /// belong to it.
+    #[tactic(auto, unfolding(crate::specs::inner::Options::with_keyword))]
     fn with_keyword(
         self,
-        name: Name,
-        words: &WordList,
+        line: &Line<'_>,
         at: usize,
         keyword: Keyword,
     ) -> Result<(Given, usize), Refusal>
-        requires inside { at < length words.now }
-        requires fits { length words.now < 2 ^ 64 }
+        requires inside { at < length line.now.words }
+        requires fits { length line.now.words < 2 ^ 64 }
         requires frames { IfSome self.length (λ frames. 1 ≤ frames) }
-        ensures value { result ≡ with_keyword name self words.now at keyword }
-        ensures within { IfOk result (λ read. at + 1 + read.1 ≤ length words.now) }
+        ensures value { result ≡ with_keyword line.now at self keyword }
+        ensures within { IfOk result (λ read. at + 1 + read.1 ≤ length line.now.words) }
         ensures frames { IfOk result (λ read. IfSome read.0.length (λ frames. 1 ≤ frames)) }
     {
         if self.has(keyword) {
-            return Err(Refusal::Illegal(name, at));
+            return Err(line.illegal(at));
         }
         match keyword {
             Keyword::Loop => {
@@ -177,22 +182,22 @@ impl Given {
                 Ok((Given { auto, ..self }, 0))
             }
             Keyword::Seek => {
-                let seek = Some(count_at(name, words, at + 1, 0)?);
+                let seek = Some(line.number(at + 1, 0, MAX_FRAMES)?);
                 Ok((Given { seek, ..self }, 1))
             }
             Keyword::Length => {
-                let length = Some(count_at(name, words, at + 1, 1)?);
+                let length = Some(line.number(at + 1, 1, MAX_FRAMES)?);
                 Ok((Given { length, ..self }, 1))
             }
             Keyword::Transition(kind) => {
-                let (transition, more) = transition_at(name, words, at + 1, kind)?;
+                let (transition, more) = transition_at(line, at + 1, kind)?;
                 let transition = Some(transition);
                 Ok((Given { transition, ..self }, more))
             }
         }
     }
 
-    /// Whether an option was given.
+    /// Returns whether an option was given.
     fn has(self, keyword: Keyword) -> bool
         ensures { result ≡ has_option self keyword }
     {
@@ -206,100 +211,80 @@ impl Given {
     }
 }
 
-/// The number of an option, which stands at a position: at least so much, and at most 1,000,000.
-#[tactic(auto, unfolding(crate::specs::Options::count_at))]
-fn count_at(name: Name, words: &WordList, at: usize, least: u32) -> Result<u32, Refusal>
-    ensures value { result ≡ count_at name least words.now at }
-    ensures range { IfOk result (λ count. (least ≤ count) × (count ≤ 1000000)) }
-    ensures within { OnOk result (at < length words.now) }
+/// Returns the transition of this kind whose words stand from a position on, and how many they are.
+#[tactic(auto, unfolding(crate::specs::inner::Options::transition_at))]
+fn transition_at(line: &Line<'_>, at: usize, kind: Kind) -> Result<(Trans, usize), Refusal>
+    requires inside { at ≤ length line.now.words }
+    requires fits { length line.now.words < 2 ^ 64 }
+    ensures value { result ≡ transition_at line.now at kind }
+    ensures within { IfOk result (λ read. at + read.1 ≤ length line.now.words) }
 {
-    let Some(word) = words.get(at) else {
-        return Err(Refusal::Missing(name));
-    };
-    match whole_within(word, least, 1_000_000) {
-        Some(count) => Ok(count),
-        None => Err(Refusal::Illegal(name, at)),
-    }
+    let (duration, numbers) = duration_at(line, at, kind)?;
+    let (manner, leftward) = manner_at(line, at + numbers);
+    let transition = Trans::new(kind, duration, Curve::Linear, leftward).unwrap();
+    Ok((transition, numbers + manner))
 }
 
-/// The transition of this kind whose words stand from a position on, and how many they are.
-#[tactic(auto, unfolding(crate::specs::Options::transition_at))]
-fn transition_at(
-    name: Name,
-    words: &WordList,
-    at: usize,
-    kind: Kind,
-) -> Result<(Trans, usize), Refusal>
-    requires inside { at ≤ length words.now }
-    requires fits { length words.now < 2 ^ 64 }
-    ensures value { result ≡ transition_at name kind words.now at }
-    ensures within { IfOk result (λ read. at + read.1 ≤ length words.now) }
+/// Returns the duration of a transition, and how many words it takes. A cut may have none.
+#[tactic(auto, unfolding(crate::specs::inner::Options::duration_at))]
+fn duration_at(line: &Line<'_>, at: usize, kind: Kind) -> Result<(u32, usize), Refusal>
+    requires { at ≤ length line.now.words }
+    ensures value { result ≡ duration_at line.now at kind }
+    ensures range { IfOk result (λ read. read.0 ≤ MAX_DURATION) }
+    ensures within { IfOk result (λ read. at + read.1 ≤ length line.now.words) }
 {
-    let (duration, numbers) = duration_at(name, words, at, kind)?;
-    let (manner, leftward) = manner_at(words, at + numbers);
-    match Trans::new(kind, duration, Curve::Linear, leftward) {
-        Some(transition) => Ok((transition, numbers + manner)),
-        None => unreachable!(),
-    }
-}
-
-/// The duration of a transition, and how many words it takes. A cut may have none.
-#[tactic(auto, unfolding(crate::specs::Options::duration_at))]
-fn duration_at(name: Name, words: &WordList, at: usize, kind: Kind) -> Result<(u32, usize), Refusal>
-    requires { at ≤ length words.now }
-    ensures value { result ≡ duration_at name kind words.now at }
-    ensures range { IfOk result (λ read. read.0 ≤ 1000000) }
-    ensures within { IfOk result (λ read. at + read.1 ≤ length words.now) }
-{
-    if matches!(kind, Kind::Cut) && !is_number_at(words, at) {
+    if matches!(kind, Kind::Cut) && !is_number_at(line, at) {
         return Ok((0, 0));
     }
-    let duration = count_at(name, words, at, 0)?;
+    let duration = line.number(at, 0, MAX_DURATION)?;
     Ok((duration, 1))
 }
 
-/// How many words from a position on are a curve and a direction, in either order, and whether it goes leftward.
-#[tactic(auto, unfolding(crate::specs::Options::manner_at))]
-fn manner_at(words: &WordList, at: usize) -> (usize, bool)
-    requires inside { at ≤ length words.now }
-    requires fits { length words.now < 2 ^ 64 }
-    ensures value { result ≡ manner_at words.now at }
-    ensures within { at + result.0 ≤ length words.now }
+/// Returns how many words from a position on are a curve and a direction, in either order, and whether the transition
+/// goes leftward.
+#[tactic(auto, unfolding(crate::specs::inner::Options::manner_at))]
+fn manner_at(line: &Line<'_>, at: usize) -> (usize, bool)
+    requires inside { at ≤ length line.now.words }
+    requires fits { length line.now.words < 2 ^ 64 }
+    ensures value { result ≡ manner_at line.now at }
+    ensures within { at + result.0 ≤ length line.now.words }
 {
-    if stands_at(words, at, "LINEAR") {
-        if is_direction_at(words, at + 1) {
-            return (2, is_leftward_at(words, at + 1));
+    if line.stands(at, "LINEAR") {
+        if is_direction_at(line, at + 1) {
+            return (2, is_leftward_at(line, at + 1));
         }
         return (1, false);
     }
-    if !is_direction_at(words, at) {
+    if !is_direction_at(line, at) {
         return (0, false);
     }
-    let leftward = is_leftward_at(words, at);
-    if stands_at(words, at + 1, "LINEAR") {
+    let leftward = is_leftward_at(line, at);
+    if line.stands(at + 1, "LINEAR") {
         (2, leftward)
     } else {
         (1, leftward)
     }
 }
 
-fn is_leftward_at(words: &WordList, at: usize) -> bool
-    ensures { result ≡ is_leftward_at words.now at }
+/// Returns whether a direction to the left stands at a position.
+fn is_leftward_at(line: &Line<'_>, at: usize) -> bool
+    ensures { result ≡ is_leftward_at line.now at }
 {
-    stands_at(words, at, "LEFT") || stands_at(words, at, "FROMRIGHT")
+    line.stands(at, "LEFT") || line.stands(at, "FROMRIGHT")
 }
 
-fn is_direction_at(words: &WordList, at: usize) -> bool
-    ensures { result ≡ is_direction_at words.now at }
+/// Returns whether a direction stands at a position.
+fn is_direction_at(line: &Line<'_>, at: usize) -> bool
+    ensures { result ≡ is_direction_at line.now at }
 {
-    is_leftward_at(words, at) || stands_at(words, at, "RIGHT") || stands_at(words, at, "FROMLEFT")
+    is_leftward_at(line, at) || line.stands(at, "RIGHT") || line.stands(at, "FROMLEFT")
 }
 
-/// Whether a whole number stands at a position, of any size.
-fn is_number_at(words: &WordList, at: usize) -> bool
-    ensures { result ≡ is_number_at words.now at }
+/// Returns whether a whole number stands at a position, of any size.
+fn is_number_at(line: &Line<'_>, at: usize) -> bool
+    ensures { result ≡ is_number_at line.now at }
 {
-    match words.get(at) {
+    match line.words.get(at) {
         Some(word) => is_whole_number(word),
         None => false,
     }

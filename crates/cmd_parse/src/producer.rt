@@ -4,14 +4,15 @@ ghost use Rattle.std.specs.Char.{is_ascii_hexdigit};
 ghost use Rattle.std.specs.List.{list_all};
 ghost use Rattle.std.specs.Str.{chars};
 ghost use Rattle.std.specs.Str.Parse.{digits_value};
-ghost use Rattle.history_model.specs.CommandProducer.{clip_named, clip_producer, colour_of_digits, is_colour_word, is_route_word, named_colour, plain, producer_of, route_to};
+ghost use Rattle.play_types.specs.declared.clip.TheConstants.{MAX_FRAMES};
+ghost use Rattle.history_model.specs.commands.Producer.{clip_named, clip_producer, colour_of_digits, is_colour_word, is_route_word, named_colour, plain, producer_of, route_to};
 
 use crate::area::Area;
-use crate::word::{is_same_name, is_word};
-use play_types::{Config, MediaNames, Name, Refusal, Spec};
+use crate::line::Line;
+use play_types::{Refusal, Spec, is_same_name, is_word};
 use std::marker::Model;
 
-/// A producer, and the frames of a clip, at most 1,000,000, or 0 for another.
+/// A producer, and how many frames a clip has, at most `MAX_FRAMES`, or 0 for another producer.
 #[derive(Clone, Copy)]
 pub struct Producer {
     spec: Spec,
@@ -20,67 +21,74 @@ pub struct Producer {
 
 impl Model for Producer {
     ghost use Rattle.std.specs.Prelude.{◌≤◌};
-    ghost use Rattle.history_model.specs.CommandProducer.{Producer};
+    ghost use Rattle.play_types.specs.declared.clip.TheConstants.{MAX_FRAMES};
+    ghost use Rattle.history_model.specs.commands.Producer.{Producer};
 
     ghost Value = { Producer };
 
     ghost view = { λ p. record { spec = p.spec; frames = p.frames } };
 
-    ghost invariant = { λ p. p.frames ≤ 1000000 };
+    ghost invariant = { λ p. p.frames ≤ MAX_FRAMES };
 
     ghost inverse = { λ v. record { spec = v.spec; frames = v.frames } };
 }
 
 impl Producer {
-    /// The producer that the word at a position names: a colour, a route, a named colour or a clip, tried in this order.
-    ///
-    /// Refused are a word that begins as a colour or a route and is none, and a clip that is missing or unreadable.
-    #[tactic(auto, unfolding(history_model::specs::CommandProducer::producer_of))]
-    pub fn of(
-        name: Name,
-        config: &Config,
-        media: &MediaNames,
-        at: usize,
-        word: &str,
-    ) -> Result<Producer, Refusal>
-        ensures { result ≡ producer_of config.now media.now name at (chars word.now) }
-    {
-        if let Some(digits) = after_hash(word) {
-            return match colour_of_digits(digits) {
-                Some(value) => Ok(Producer::plain(Spec::Colour(value))),
-                None => Err(Refusal::Illegal(name, at)),
-            };
-        }
-        if let Some(target) = after_route(word) {
-            return match Area::of(name, config, at, target) {
-                Ok(area) => Ok(Producer::plain(route_to(area))),
-                Err(_) => Err(Refusal::Illegal(name, at)),
-            };
-        }
-        match named_colour(word) {
-            Some(value) => Ok(Producer::plain(Spec::Colour(value))),
-            None => Producer::clip(name, media, word),
-        }
-    }
-
-    /// A producer that is no clip.
+    /// Returns a producer that is no clip.
     fn plain(spec: Spec) -> Producer
         ensures { result ≡ plain spec }
     {
         Producer { spec, frames: 0 }
     }
 
-    /// The first clip of this name in the media table.
-    fn clip(name: Name, media: &MediaNames, word: &str) -> Result<Producer, Refusal>
-        ensures { result ≡ clip_producer name (clip_named media.now (chars word.now)) }
+    /// Returns what is played.
+    pub fn spec(self) -> Spec
+        ensures { result ≡ self.spec }
     {
-        for id in 0..media.len() {
-            let Some(entry) = media.get(id) else {
-                break;
-            };
+        self.spec
+    }
+
+    /// Returns how many frames a clip has, at most `MAX_FRAMES`, or 0 for another producer.
+    pub fn frames(self) -> u32
+        ensures value { result ≡ self.frames }
+        ensures range { self.frames ≤ MAX_FRAMES }
+    {
+        self.frames
+    }
+}
+
+impl Line<'_> {
+    /// Returns the producer that the word at a position names: a colour, a route, a named colour or a clip, tried in
+    /// this order.
+    ///
+    /// Refused are a word that begins as a colour or a route and is none, and a clip that is missing or unreadable.
+    #[tactic(auto, unfolding(history_model::specs::commands::Producer::producer_of))]
+    pub fn producer(&self, at: usize, word: &str) -> Result<Producer, Refusal>
+        ensures { result ≡ producer_of self.now at (chars word.now) }
+    {
+        if let Some(digits) = after_hash(word) {
+            let value = colour_of_digits(digits).ok_or(self.illegal(at))?;
+            return Ok(Producer::plain(Spec::Colour(value)));
+        }
+        if let Some(target) = after_route(word) {
+            let area = self.area_of(at, target).ok().ok_or(self.illegal(at))?;
+            return Ok(Producer::plain(route_to(area)));
+        }
+        match named_colour(word) {
+            Some(value) => Ok(Producer::plain(Spec::Colour(value))),
+            None => self.clip(word),
+        }
+    }
+
+    /// Returns the first clip of this name in the media table.
+    fn clip(&self, word: &str) -> Result<Producer, Refusal>
+        ensures { result ≡ clip_producer self.now (clip_named self.now.media (chars word.now)) }
+    {
+        for id in 0..self.media.len() {
+            let entry = self.media.get(id).unwrap();
             if is_same_name(entry.name().as_str(), word) {
-                if !entry.readable() {
-                    return Err(Refusal::Unreadable(name));
+                if !entry.is_readable() {
+                    return Err(Refusal::Unreadable(self.name));
                 }
                 return Ok(Producer {
                     spec: Spec::Clip(id as u32),
@@ -88,25 +96,11 @@ impl Producer {
                 });
             }
         }
-        Err(Refusal::NotFound(name))
-    }
-
-    pub fn spec(self) -> Spec
-        ensures { result ≡ self.spec }
-    {
-        self.spec
-    }
-
-    /// The frames of a clip, at most 1,000,000.
-    pub fn frames(self) -> u32
-        ensures value { result ≡ self.frames }
-        ensures range { self.frames ≤ 1000000 }
-    {
-        self.frames
+        Err(Refusal::NotFound(self.name))
     }
 }
 
-/// What follows the `#` of a colour.
+/// Returns what follows the `#` of a colour.
 fn after_hash(word: &str) -> Option<&str>
     ensures { MatchOption result
         (is_colour_word (chars word.now) ≡ false)
@@ -115,7 +109,7 @@ fn after_hash(word: &str) -> Option<&str>
     word.strip_prefix('#')
 }
 
-/// The colour 0xAARRGGBB of eight hexadecimal digits, or of six, whose alpha is FF.
+/// Returns the colour 0xAARRGGBB of eight hexadecimal digits, or of six, whose alpha is FF.
 fn colour_of_digits(digits: &str) -> Option<u32>
     ensures { result ≡ colour_of_digits (chars digits.now) }
 {
@@ -129,7 +123,7 @@ fn colour_of_digits(digits: &str) -> Option<u32>
     }
 }
 
-/// The number that one to eight hexadecimal digits write.
+/// Returns the number that one to eight hexadecimal digits write.
 fn hexadecimal_value(digits: &str) -> u32
     requires digits { IsTrue (list_all is_ascii_hexdigit digits.now) }
     requires some { 0 < length digits.now }
@@ -137,19 +131,17 @@ fn hexadecimal_value(digits: &str) -> u32
     ensures value { result ≡ digits_value 16 digits.now }
     ensures range { result < 16 ^ length digits.now }
 {
-    match u32::from_str_radix(digits, 16) {
-        Ok(value) => value,
-        Err(_) => unreachable!(),
-    }
+    u32::from_str_radix(digits, 16).unwrap()
 }
 
+/// Returns whether each character is a hexadecimal digit.
 fn are_hexadecimal(text: &[u8]) -> bool
     ensures { result ≡ list_all is_ascii_hexdigit text.now }
 {
     text.iter().all(|byte| byte.is_ascii_hexdigit())
 }
 
-/// What follows the `route://` of a route, in any case.
+/// Returns what follows the `route://` of a route, in any case.
 fn after_route(word: &str) -> Option<&str>
     ensures { MatchOption result
         (is_route_word (chars word.now) ≡ false)
@@ -162,7 +154,7 @@ fn after_route(word: &str) -> Option<&str>
     Some(&word[8..])
 }
 
-/// A route to a channel, or to a layer of it.
+/// Returns a route to a channel, or to a layer of it.
 fn route_to(area: Area) -> Spec
     ensures { result ≡ route_to area.channel area.layer }
 {
@@ -173,7 +165,7 @@ fn route_to(area: Area) -> Spec
     }
 }
 
-/// The colour that a word names.
+/// Returns the colour that a word names.
 fn named_colour(word: &str) -> Option<u32>
     ensures { result ≡ named_colour (chars word.now) }
 {

@@ -3,7 +3,7 @@
 
 use super::parse;
 use amcp_text::tokens;
-use play_types::{Channel, ChannelList, Config, MediaName, MediaNames, Text};
+use play_types::{Channel, ChannelList, Config, Geometry, MediaName, MediaNames, Text};
 use std::alloc::Global;
 use std::test::Fail;
 
@@ -128,9 +128,14 @@ fn two_channels(alloc: Global) -> Result<Config, Fail> {
 fn two_clips(alloc: Global) -> Result<MediaNames, Fail> {
     let mut names = MediaNames::new(alloc);
     let bad = Text::copy(alloc, "BAD")?;
-    names.push(MediaName::new(bad, false, 0, 0, 0, 0).ok_or("bad")?)?;
+    names.push(MediaName::unreadable(bad))?;
     let three = Text::copy(alloc, "THREE")?;
-    names.push(MediaName::new(three, true, 1, 1, 3, 0).ok_or("three")?)?;
+    let pixel = Geometry {
+        width: 1,
+        height: 1,
+        pairs: 0,
+    };
+    names.push(MediaName::clip(three, pixel, 3).ok_or("three")?)?;
     Ok(names)
 }
 

@@ -7,7 +7,7 @@ use Rattle.toml.specs.Parse.{parse_document}
 use Rattle.play_types.specs.Config.{ConfigView}
 use Rattle.config_file.specs.Configuration.{config_of, faults_of, first_or, values_of}
 use Rattle.config_file.specs.Reading.{IsReadOf, config_in, document_of}
-use Rattle.config_file.specs.Told.{IsTold}
+use Rattle.config_file.specs.inner.Told.{IsTold}
 use Rattle.config_file.specs.declared.fault.ConfigFault.{ConfigFault}
 use Rattle.config_file.specs.declared.fault.ConfigFault.TheVariants.{NotToml, Key, OutOfMemory}
 

@@ -1,7 +1,7 @@
 -- First faults of lists of faults that follow one another.
 use Rattle.std.proofs.Common.{◌≡◌, ℕ, List, [], ◌∷◌, ◌++◌, Result, Ok, Err, IsErr, IsErrAnd}
 use Rattle.std.proofs.lemmas.Bool.{false≢true}
-use Rattle.config_file.specs.Told.{IsFirst, IsTold}
+use Rattle.config_file.specs.inner.Told.{IsFirst, IsTold}
 use Rattle.config_file.specs.declared.fault.ConfigFault.{ConfigFault}
 use Rattle.config_file.specs.declared.fault.ConfigFault.TheVariants.{NotToml, Key, OutOfMemory}
 

@@ -2,5 +2,5 @@ pub mod Key
 pub mod Section
 pub mod Configuration
 pub mod Reading
-pub mod Told
 pub mod Worked
+pub mod inner

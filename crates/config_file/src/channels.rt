@@ -5,7 +5,7 @@ ghost use Rattle.toml.specs.View.{items_view, table_view, view};
 ghost use Rattle.config_file.specs.Configuration.{channel_of, channels_of, element_faults, elements_of, list_of, of_each, unknown_of_element};
 ghost use Rattle.config_file.specs.Key.{channel_keys};
 ghost use Rattle.config_file.specs.Section.{faults_in};
-ghost use Rattle.config_file.specs.Told.{IsTold};
+ghost use Rattle.config_file.specs.inner.Told.{IsTold};
 
 use crate::fault::ConfigFault;
 use crate::section::{Section, value_in};

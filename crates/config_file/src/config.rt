@@ -2,7 +2,7 @@
 ghost use Rattle.toml.specs.View.{table_view};
 ghost use Rattle.config_file.specs.Configuration.{faults_of, values_of};
 ghost use Rattle.config_file.specs.Reading.{IsReadOf};
-ghost use Rattle.config_file.specs.Told.{IsTold};
+ghost use Rattle.config_file.specs.inner.Told.{IsTold};
 
 use crate::channels::{check_elements, elements_of, read_channels};
 use crate::fault::ConfigFault;
@@ -39,7 +39,7 @@ pub fn read_config(alloc: Global, bytes: &[u8]) -> Result<Config, ConfigFault>
     }
 }
 
-/// The configuration that the top table says.
+/// Returns the configuration that the top table says.
 fn config_of(alloc: Global, table: &Table) -> Result<Config, ConfigFault>
     ensures { IsTold (faults_of (table_view table.now)) (values_of (table_view table.now)) result }
 {
@@ -63,8 +63,5 @@ fn config_of(alloc: Global, table: &Table) -> Result<Config, ConfigFault>
     let channels = read_channels(alloc, elements)?;
     top.check_keys(alloc, table)?;
     check_elements(alloc, elements)?;
-    match Config::new(listen, media, rate, connections, limit, channels) {
-        Some(config) => Ok(config),
-        None => unreachable!(),
-    }
+    Ok(Config::new(listen, media, rate, connections, limit, channels).unwrap())
 }

@@ -1,10 +1,12 @@
 //! Why a configuration is refused.
 ghost use Rattle.config_file.specs.Section.{channel_name};
-ghost use Rattle.config_file.specs.Told.{IsFirst};
+ghost use Rattle.config_file.specs.inner.Told.{IsFirst};
 ghost use Rattle.std.specs.Prelude.{[], ◌∷◌};
 
 use play_types::Text;
 use std::alloc::Global;
+use std::error::Error;
+use std::fmt;
 
 /// Why bytes are refused as a configuration.
 #[derive(Debug, Drop)]
@@ -17,8 +19,26 @@ pub enum ConfigFault {
     OutOfMemory,
 }
 
+impl fmt::Display for ConfigFault {
+    fn fmt<W: fmt::Write>(&self, f: &mut fmt::Formatter<W>) -> fmt::Result {
+        match self {
+            ConfigFault::NotToml => write!(f, "the text is not TOML"),
+            ConfigFault::Key(name) => {
+                let name = name.as_str();
+                write!(
+                    f,
+                    "the key {name} is missing, unknown, of another type or out of range"
+                )
+            }
+            ConfigFault::OutOfMemory => write!(f, "out of memory"),
+        }
+    }
+}
+
+impl Error for ConfigFault {}
+
 impl ConfigFault {
-    /// The fault at the key of this name.
+    /// Returns the fault at the key of this name.
     pub(crate) fn at(alloc: Global, name: &str) -> ConfigFault
         ensures { IsFirst (name.now ∷ []) result }
     {
@@ -28,7 +48,7 @@ impl ConfigFault {
         }
     }
 
-    /// The fault at the whole channel of this number.
+    /// Returns the fault at the whole channel of this number.
     pub(crate) fn at_channel(alloc: Global, number: usize) -> ConfigFault
         ensures { IsFirst (channel_name number ∷ []) result }
     {

@@ -2,7 +2,7 @@
 ghost use Rattle.std.specs.Prelude.{◌≡◌, option_map};
 ghost use Rattle.toml.specs.View.{table_view};
 ghost use Rattle.config_file.specs.Section.{is_among, known_names, unknown_in, unknown_of};
-ghost use Rattle.config_file.specs.Told.{IsTold};
+ghost use Rattle.config_file.specs.inner.Told.{IsTold};
 
 use crate::fault::ConfigFault;
 use crate::section::Section;

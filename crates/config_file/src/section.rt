@@ -5,7 +5,7 @@ ghost use Rattle.toml.specs.Data.{get_member};
 ghost use Rattle.toml.specs.View.{table_view, view};
 ghost use Rattle.config_file.specs.Key.{Key, is_kept, number, number_at, number_of, text, text_at, text_of};
 ghost use Rattle.config_file.specs.Section.{fault_in, name_in};
-ghost use Rattle.config_file.specs.Told.{IsFirst, IsRead, IsTold, ranged};
+ghost use Rattle.config_file.specs.inner.Told.{IsFirst, IsRead, IsTold, ranged};
 
 use crate::fault::ConfigFault;
 use play_types::Text;

@@ -6,8 +6,5 @@
 mod print;
 mod read;
 
-pub use print::print_micro;
+pub use print::{MicroText, print_micro};
 pub use read::read_micro;
-
-#[cfg(test)]
-mod tests;

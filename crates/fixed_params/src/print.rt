@@ -18,31 +18,17 @@ pub fn print_micro<K: Sink>(value: i64, to: &mut K) -> Sent
     ensures sends { Sends result (printed_micro value) (K.state to.old) (K.state to.new) }
     ensures reads_back { micro_of (printed_micro value) ≡ Some value }
 {
-    send(text_of(value).as_slice(), to)
+    send(MicroText::of(value).as_bytes(), to)
 }
 
-/// The text of a value.
-fn text_of(value: i64) -> ShortText
-    requires low { neg_ℤ (pos 1000000000) ≤ℤ value }
-    requires high { value ≤ℤ pos 1000000000 }
-    ensures { result ≡ printed_micro value }
-{
-    let mut text = ShortText::new();
-    if value < 0 {
-        text.push(b'-');
-    }
-    text.push_unsigned(value.unsigned_abs() as u32);
-    text
-}
-
-/// A text of at most 12 bytes.
+/// The text of a value in millionths, in room of its own. Contracts see its bytes.
 #[derive(Drop)]
-struct ShortText {
+pub struct MicroText {
     bytes: [u8; ROOM],
     len: usize,
 }
 
-impl Model for ShortText {
+impl Model for MicroText {
     ghost use Rattle.std.specs.Prelude.{List, ℕ, ◌≤◌, take};
 
     ghost Value = { List ℕ };
@@ -52,17 +38,27 @@ impl Model for ShortText {
     ghost invariant = { λ t. t.len ≤ 12 };
 }
 
-impl ShortText {
-    fn new() -> ShortText
-        ensures { result ≡ [] }
+impl MicroText {
+    /// Returns the text of a value: a minus where it is negative, the whole part, and where the rest is not zero a point
+    /// and the rest without zeros at its end. It takes no memory.
+    pub fn of(value: i64) -> MicroText
+        requires low { neg_ℤ (pos 1000000000) ≤ℤ value }
+        requires high { value ≤ℤ pos 1000000000 }
+        ensures { result ≡ printed_micro value }
     {
-        ShortText {
+        let mut text = MicroText {
             bytes: [0; ROOM],
             len: 0,
+        };
+        if value < 0 {
+            text.push(b'-');
         }
+        text.push_unsigned(value.unsigned_abs() as u32);
+        text
     }
 
-    fn as_slice(&self) -> &[u8]
+    /// Returns the bytes of the text.
+    pub fn as_bytes(&self) -> &[u8]
         ensures { result.now ≡ self.now }
     {
         &self.bytes[..self.len]

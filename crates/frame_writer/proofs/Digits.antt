@@ -1,5 +1,6 @@
 -- Hexadecimal text of bytes that come in parts.
-use Rattle.std.proofs.Common.{◌≡◌, ℕ, ◌+◌, ◌-◌, ◌/◌, ◌%◌, List, [], ◌∷◌, ◌++◌, take, drop, slice_index, refl, sym, ap, ◌∙◌, arith}
+use Rattle.std.proofs.Common.{◌≡◌, ℕ, ◌+◌, ◌-◌, ◌/◌, ◌%◌, List, [], ◌∷◌, ◌++◌, take, drop, length, slice_index, refl, sym, ap, ◌∙◌, append_assoc, arith}
+use Rattle.std.proofs.lemmas.Grind.{common_steps}
 use Rattle.std.proofs.lemmas.List.{take-append-drop}
 use Rattle.std.proofs.Math.Seq.{take-add}
 use Rattle.hex.specs.Hex.{encode_with, encode_lower, lower_digits}
@@ -19,16 +20,23 @@ pub encode_lower-nil : encode_lower [] ≡ []
 unfolding encode_with
 encode_lower-nil = refl
 
--- the text of a front and of one piece more
+-- the text of a prefix and of one piece more
 pub encode_lower-more : (at count : ℕ) (bytes : List ℕ) → encode_lower (take (at + count) bytes)
     ≡ encode_lower (take at bytes) ++ encode_lower (take (at + count - at) (drop at bytes))
 encode_lower-more at count bytes =
     let piece : at + count - at ≡ count = omega arith in
     rw piece (rw take-add (encode_lower-append (take at bytes) (take count (drop at bytes))))
 
--- the text of a front, of one piece more, and of the rest
+-- the text of a prefix, of one piece more, and of the rest
 pub encode_lower-parts : (at count : ℕ) (bytes : List ℕ) → encode_lower bytes
     ≡ (encode_lower (take at bytes) ++ encode_lower (take (at + count - at) (drop at bytes))) ++ encode_lower (drop (at + count) bytes)
 encode_lower-parts at count bytes =
     rw (← encode_lower-more at count bytes)
     (ap encode_lower (sym (take-append-drop (at + count) bytes)) ∙ encode_lower-append (take (at + count) bytes) (drop (at + count) bytes))
+
+-- the line of bytes, after the text of their first ones
+pub line-parts : (at : ℕ) (bytes : List ℕ) → encode_lower bytes ++ 10 ∷ []
+    ≡ encode_lower (take at bytes) ++ (encode_lower (take (length bytes - at) (drop at bytes)) ++ 10 ∷ [])
+line-parts at bytes =
+    let rest : take (length bytes - at) (drop at bytes) ≡ drop at bytes = grind (arith, common_steps) in
+    rw (rest, ← append_assoc, ← encode_lower-append, take-append-drop) refl

@@ -2,7 +2,7 @@
 use Rattle.std.proofs.Common.{◌≡◌, ℕ, zero, suc, ◌+◌, ◌-◌, ◌*◌, ◌<◌, List, [], ◌∷◌, ◌++◌, take, drop, refl, sym, ap, ◌∙◌, append_assoc, append-nil, arith}
 use Rattle.std.proofs.lemmas.List.{drop-drop}
 use Rattle.hex.specs.Hex.{encode_lower}
-use Rattle.history_model.specs.FrameText.{row_lines}
+use Rattle.history_model.specs.text.Frames.{row_lines}
 
 -- no rows have no lines
 pub row_lines-zero : (len : ℕ) (frame : List ℕ) → row_lines len 0 frame ≡ []

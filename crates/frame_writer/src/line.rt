@@ -1,68 +1,59 @@
-//! Parts of lines.
-ghost use Rattle.std.specs.Prelude.{◌≤◌, ◌∷◌, ◌++◌, [], length, decimal};
+//! Lines of hexadecimal.
+ghost use Rattle.std.specs.Prelude.{◌≤◌, ◌∷◌, ◌++◌, [], length};
 ghost use Rattle.hex.specs.Hex.{encode_lower};
 ghost use Rattle.play_outside.specs.Sink.{Sends};
 
-use play_outside::{Sent, Sink, send, send_number};
+use play_outside::{Sent, Sink, send};
 
-/// How many bytes are turned into text at a time.
-const PIECE: usize = 2048;
+/// How many bytes are turned into digits at a time.
+const PIECE: usize = 16_384;
 
-/// Writes what the line is, then the channel, a blank and the tick.
-pub(crate) fn send_label<K: Sink>(label: &[u8], channel: u8, tick: u64, to: &mut K) -> Sent
-    ensures { Sends result (label.now ++ decimal channel ++ 32 ∷ decimal tick) (K.state to.old) (K.state to.new) }
-{
-    match send(label, to) {
-        Sent::All => {}
-        Sent::Failed => return Sent::Failed,
+/// Room for the digits of one piece, and for a line feed.
+#[derive(Drop)]
+pub(crate) struct DigitRoom {
+    digits: [u8; 2 * PIECE + 1],
+}
+
+impl DigitRoom {
+    /// Makes room.
+    pub(crate) fn new() -> DigitRoom {
+        DigitRoom {
+            digits: [0; 2 * PIECE + 1],
+        }
     }
-    match send_number(u64::from(channel), to) {
-        Sent::All => {}
-        Sent::Failed => return Sent::Failed,
-    }
-    match send(b" ", to) {
-        Sent::All => {}
-        Sent::Failed => return Sent::Failed,
-    }
-    send_number(tick, to)
 }
 
 /// Writes bytes in hexadecimal, and a line feed.
-pub(crate) fn write_line<K: Sink>(bytes: &[u8], to: &mut K) -> Sent
+pub(crate) fn write_line<K: Sink>(bytes: &[u8], room: &mut DigitRoom, to: &mut K) -> Sent
     ensures { Sends result (encode_lower bytes.now ++ 10 ∷ []) (K.state to.old) (K.state to.new) }
 {
-    match write_digits(bytes, to) {
-        Sent::All => {}
-        Sent::Failed => return Sent::Failed,
-    }
-    send(b"\n", to)
-}
-
-/// Writes bytes in hexadecimal.
-fn write_digits<K: Sink>(bytes: &[u8], to: &mut K) -> Sent
-    ensures { Sends result (encode_lower bytes.now) (K.state to.old) (K.state to.new) }
-{
     let mut at = 0;
-    while at < bytes.len() {
-        let count = (bytes.len() - at).min(PIECE);
-        match write_piece(&bytes[at..at + count], to) {
-            Sent::All => {}
+    while bytes.len() - at > PIECE {
+        match write_piece(&bytes[at..at + PIECE], room, to) {
+            Sent::All => at += PIECE,
             Sent::Failed => return Sent::Failed,
         }
-        at += count;
     }
-    Sent::All
+    write_last_piece(&bytes[at..], room, to)
 }
 
 /// Writes at most `PIECE` bytes in hexadecimal.
-fn write_piece<K: Sink>(bytes: &[u8], to: &mut K) -> Sent
+fn write_piece<K: Sink>(bytes: &[u8], room: &mut DigitRoom, to: &mut K) -> Sent
     requires { length bytes.now ≤ PIECE }
     ensures { Sends result (encode_lower bytes.now) (K.state to.old) (K.state to.new) }
 {
-    let mut digits = [0u8; 2 * PIECE];
-    let text = &mut digits[..2 * bytes.len()];
-    match hex::encode_to_slice(bytes, text) {
-        Ok(()) => send(text, to),
-        Err(_) => unreachable!(),
-    }
+    let text = &mut room.digits[..2 * bytes.len()];
+    hex::encode_to_slice(bytes, text).unwrap();
+    send(text, to)
+}
+
+/// Writes at most `PIECE` bytes in hexadecimal, and a line feed.
+fn write_last_piece<K: Sink>(bytes: &[u8], room: &mut DigitRoom, to: &mut K) -> Sent
+    requires { length bytes.now ≤ PIECE }
+    ensures { Sends result (encode_lower bytes.now ++ 10 ∷ []) (K.state to.old) (K.state to.new) }
+{
+    let count = 2 * bytes.len();
+    hex::encode_to_slice(bytes, &mut room.digits[..count]).unwrap();
+    room.digits[count] = b'\n';
+    send(&room.digits[..count + 1], to)
 }

@@ -2,14 +2,11 @@
 ghost use Rattle.std.specs.Prelude.{◌++◌};
 ghost use Rattle.play_outside.specs.Sink.{Sends};
 
-use play_outside::{Sent, Sink, send};
+use play_outside::{Sent, Sink, send_parts};
 
 /// Writes the bytes of a frame, and then those of its sound.
 pub fn write_raw<K: Sink>(frame: &[u8], sound: &[u8], to: &mut K) -> Sent
     ensures { Sends result (frame.now ++ sound.now) (K.state to.old) (K.state to.new) }
 {
-    match send(frame, to) {
-        Sent::All => send(sound, to),
-        Sent::Failed => Sent::Failed,
-    }
+    send_parts(&[frame, sound], to)
 }

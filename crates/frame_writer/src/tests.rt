@@ -4,17 +4,15 @@ use play_outside::{MemSink, Sent};
 use play_types::Geometry;
 use std::test::Fail;
 
-const TWO_RED_PIXELS: [u8; 8] = [0, 0, 255, 255, 0, 0, 255, 255];
-
-const SILENT: Geometry = Geometry {
-    width: 2,
-    height: 1,
-    pairs: 0,
-};
-
 #[test]
 fn writes_frames(rt: HostRuntime) -> Result<(), Fail> {
     let mut sink = MemSink::new(rt.alloc(), 0, 400, 7, Vec::new(rt.alloc()))?;
+    let silent = Geometry {
+        width: 2,
+        height: 1,
+        pairs: 0,
+    };
+    let two_red_pixels = [0, 0, 255, 255, 0, 0, 255, 255];
     let sounding = Geometry {
         width: 1,
         height: 1,
@@ -22,7 +20,7 @@ fn writes_frames(rt: HostRuntime) -> Result<(), Fail> {
     };
     let sound = [0, 128, 255, 127, 1, 0, 254, 255, 16, 0, 10, 11];
     let sent = [
-        write_hex(1, 1, SILENT, &TWO_RED_PIXELS, &[], &mut sink),
+        write_hex(1, 1, silent, &two_red_pixels, &[], &mut sink),
         write_hex(2, 30, sounding, &[1, 32, 171, 205], &sound, &mut sink),
         write_digest(9, 18446744073709551615, b"ab", b"c", &mut sink),
         write_digest(1, 2, &[], &[], &mut sink),
@@ -41,22 +39,5 @@ D 1 2 e3b0c44298fc1c149afbf4c8996fb92427ae41e4649b934ca495991b7852b855
 pixelssound"
             .as_slice()
     );
-    Ok(())
-}
-
-#[test]
-fn stops_at_a_fault(rt: HostRuntime) -> Result<(), Fail> {
-    for (fails, front) in [
-        (1, ""),
-        (4, "F 1 "),
-        (6, "F 1 1\n"),
-        (8, "F 1 1\n0000ffff0000ff"),
-    ] {
-        let mut sink = MemSink::new(rt.alloc(), 0, 400, 7, vec![in rt.alloc(); fails]?)?;
-        let sent = write_hex(1, 1, SILENT, &TWO_RED_PIXELS, &[], &mut sink);
-        assert_eq!(rt; sent, Sent::Failed);
-        assert_eq!(rt; sink.taken(), front.as_bytes());
-        assert_eq!(rt; sink.faults(), 1);
-    }
     Ok(())
 }

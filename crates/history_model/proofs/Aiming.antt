@@ -6,7 +6,7 @@ use Rattle.std.specs.Option.{option_and_then}
 use Rattle.std.specs.Prelude.{codes, ◌==◌}
 use Rattle.std.proofs.lemmas.Bool.Decides.{nat_tests}
 use Rattle.std.proofs.lemmas.Option.{none-some, same_Some}
-use Rattle.amcp_text.specs.Numbers.{whole_number}
+use Rattle.amcp_text.specs.Numbers.{whole_number, number_within}
 use Rattle.play_types.specs.Config.{ConfigView}
 use Rattle.play_types.specs.Media.{MediaNameView}
 use Rattle.play_types.specs.Place.{PlaceView}
@@ -19,19 +19,25 @@ use Rattle.play_types.specs.declared.parsed.Parsed.{Parsed}
 use Rattle.play_types.specs.declared.parsed.Parsed.TheVariants as asked
 use Rattle.play_types.specs.declared.parsed.Refusal.{Refusal}
 use Rattle.play_types.specs.declared.parsed.Refusal.TheVariants.{Channel, Illegal, Missing, Unknown}
-use Rattle.play_types.specs.declared.transition.Curve.TheVariants.{Linear}
-use Rattle.play_types.specs.Setting.{setting_of}
 use Rattle.play_types.specs.Take.{loaded, played}
-use Rattle.history_model.specs.CommandChannels.{IsConfigured, IsAimed}
-use Rattle.history_model.specs.CommandWords.{◌>>=◌, whole_within, is_word, ended, required, legal, flag_at}
-use Rattle.history_model.specs.CommandPlace.{Area, place_of, area_of, area_at, is_dash, layer_of}
-use Rattle.history_model.specs.CommandMixer.{mixer, mixer_command, property_command, reset, numbers_of, timing_of, property_of}
-use Rattle.history_model.specs.CommandProducer.{take_at}
-use Rattle.history_model.specs.Command.{parsed, meaning, name_of, least_words, staged, play, load, load_bg, clear, cleared, swap, swapped, only_place, place_command}
+use Rattle.history_model.specs.commands.Channels.{IsConfigured, IsAimed}
+use Rattle.history_model.specs.commands.Line.{Line, ◌>>=◌, ended, word_at, legal, flag_at}
+use Rattle.play_types.specs.Words.{is_word, prop_of, name_of}
+use Rattle.history_model.specs.commands.Places.{Area, place_of, area_of, area_at, is_dash, layer_of}
+use Rattle.history_model.specs.commands.Mixer.{mixer, mixer_command, property_command, reset, numbers_of, setting_for, timing_of}
+use Rattle.history_model.specs.commands.Producer.{take_at}
+use Rattle.history_model.specs.commands.Command.{parsed, enough, meaning, meaning_by_name, least_words, staged, play, load, load_bg, clear, cleared, swap, swapped, only_place, place_command}
 
+-- a play among the commands of the stage is on a configured channel
 abbrev pub IsAimedParsed : ConfigView → Parsed → Type 0
 IsAimedParsed config (asked.Stage command) = IsAimed config command
-IsAimedParsed config other = Unit {0}
+IsAimedParsed config asked.Begin = Unit {0}
+IsAimedParsed config asked.Commit = Unit {0}
+IsAimedParsed config asked.Discard = Unit {0}
+IsAimedParsed config asked.Cls = Unit {0}
+IsAimedParsed config asked.Version = Unit {0}
+IsAimedParsed config asked.Bye = Unit {0}
+IsAimedParsed config asked.Kill = Unit {0}
 
 -- what holds of each value of the next step holds of the value of both
 bound : {A B : Type 0} (P : B → Type 0) (first : Result A Refusal) (next : A → Result B Refusal) → ((value : A) → first ≡ Ok value → IfOk (next value) P) → IfOk (first >>= next) P
@@ -39,23 +45,22 @@ bound P (Ok value) next each = each value refl
 bound P (Err reason) next each = tt
 
 -- a number that lies within the ends
-number_within : (least most n : ℕ) (b : Bool) (channel : ℕ) → (nat_le least n && nat_le n most) ≡ b → (if b then Some n else None) ≡ Some channel
+kept_number : (least most n : ℕ) (b : Bool) (channel : ℕ) → (nat_le least n && nat_le n most) ≡ b → (if b then Some n else None) ≡ Some channel
     → (least ≤ channel) × (channel ≤ most)
-number_within least most n true channel is found =
+kept_number least most n true channel is found =
     let same : n ≡ channel = same_Some n channel found in
     let low : least ≤ n = grind (arith, nat_tests) in
     let high : n ≤ most = grind (arith, nat_tests) in
     (omega (arith, same, low), omega (arith, same, high))
-number_within least most n false channel is found = absurd (none-some channel found)
+kept_number least most n false channel is found = absurd (none-some channel found)
 
 within_by : (least most : ℕ) (number : Option ℕ) (channel : ℕ)
     → option_and_then (λ n. if nat_le least n && nat_le n most then Some n else None) number ≡ Some channel → (least ≤ channel) × (channel ≤ most)
 within_by least most None channel found = absurd (none-some channel found)
-within_by least most (Some n) channel found = number_within least most n (nat_le least n && nat_le n most) channel refl found
+within_by least most (Some n) channel found = kept_number least most n (nat_le least n && nat_le n most) channel refl found
 
-whole_within-is : (least most : ℕ) (word : List ℕ) (channel : ℕ) → whole_within least most word ≡ Some channel → (least ≤ channel) × (channel ≤ most)
-unfolding whole_within
-whole_within-is least most word channel found = within_by least most (whole_number word) channel found
+number_within-is : (least most : ℕ) (word : List ℕ) (channel : ℕ) → number_within least most word ≡ Some channel → (least ≤ channel) × (channel ≤ most)
+number_within-is least most word channel found = within_by least most (whole_number word) channel found
 
 ok_or-is : {A : Type 0} (found : Option A) (reason : Refusal) (value : A) → ok_or found reason ≡ Ok value → found ≡ Some value
 ok_or-is None reason value is = absurd (err-ok reason value is)
@@ -64,167 +69,173 @@ ok_or-is None reason value is = absurd (err-ok reason value is)
     err-ok reason value e = cc
 ok_or-is (Some other) reason value is = ap Some (let same : other ≡ value = cc in same)
 
--- the channel of an area is a configured one
-area_aimed : (config : ConfigView) (name : Name) (at : ℕ) (word : List ℕ) → IfOk (area_of config name at word) (λ area. IsConfigured config area.channel)
-unfolding area_of
-area_aimed config name at word =
-    bound (λ (area : Area). IsConfigured config area.channel) (ok_or (whole_within 1 (length config.channels) (before_first is_dash word)) (Channel name))
-    (λ channel. layer_of name at word >>= (λ layer. Ok (record { channel = channel; layer = layer })))
-    (λ channel found.
-    let inside = whole_within-is 1 (length config.channels) (before_first is_dash word) channel
-    (ok_or-is (whole_within 1 (length config.channels) (before_first is_dash word)) (Channel name) channel found) in
-    bound (λ (area : Area). IsConfigured config area.channel) (layer_of name at word) (λ layer. Ok (record { channel = channel; layer = layer }))
-    (λ layer has. inside))
-
-area_at_aimed : (config : ConfigView) (name : Name) (words : List (List ℕ)) (at : ℕ) → IfOk (area_at config name words at) (λ area. IsConfigured config area.channel)
-area_at_aimed config name words at =
-    bound (λ (area : Area). IsConfigured config area.channel) (required name words at) (λ word. area_of config name at word)
-    (λ word has. area_aimed config name at word)
-
 -- what is known of a value that is there
 known : {A : Type 0} (P : A → Type 0) (result : Result A Refusal) (value : A) → IfOk result P → result ≡ Ok value → P value
 known P result value all is = subst (λ r. IfOk r P) is all
 
-play_aimed : (config : ConfigView) (media : List MediaNameView) (words : List (List ℕ)) → IfOk (play config media words) (IsAimed config)
+-- the area is on a configured channel
+abbrev IsAimedArea : Line → Area → Type 0
+IsAimedArea line area = IsConfigured line.config area.channel
+
+area_of-aimed : (line : Line) (at : ℕ) (word : List ℕ) → IfOk (area_of line at word) (IsAimedArea line)
+unfolding area_of
+area_of-aimed line at word =
+    let number = number_within 1 (length line.config.channels) (before_first is_dash word) in
+    bound (IsAimedArea line) (ok_or number (Channel line.name))
+    (λ channel. layer_of line at word >>= (λ layer. Ok (record { channel = channel; layer = layer })))
+    (λ channel found.
+    let inside = number_within-is 1 (length line.config.channels) (before_first is_dash word) channel (ok_or-is number (Channel line.name) channel found) in
+    bound (IsAimedArea line) (layer_of line at word) (λ layer. Ok (record { channel = channel; layer = layer })) (λ layer has. inside))
+
+area_at-aimed : (line : Line) (at : ℕ) → IfOk (area_at line at) (IsAimedArea line)
+area_at-aimed line at =
+    bound (IsAimedArea line) (word_at line at) (λ word. area_of line at word) (λ word has. area_of-aimed line at word)
+
+play-aimed : (line : Line) → IfOk (play line) (IsAimed line.config)
 unfolding play
-play_aimed config media words =
-    bound (IsAimed config) (area_at config name.Play words 1)
-    (λ area. if length words == 2 then Ok (cmd.Play (place_of area))
-    else (take_at config media name.Play words 2 >>= (λ take. Ok (cmd.PlayTake (place_of area) (played take)))))
-    (λ area found. by_length area (known (λ (area : Area). IsConfigured config area.channel) (area_at config name.Play words 1) area (area_at_aimed config name.Play words 1) found) (length words == 2))
+play-aimed line =
+    bound (IsAimed line.config) (area_at line 1)
+    (λ area. if length line.words == 2 then Ok (cmd.Play (place_of area))
+    else (take_at line 2 >>= (λ take. Ok (cmd.PlayTake (place_of area) (played take)))))
+    (λ area found. by_length area (known (IsAimedArea line) (area_at line 1) area (area_at-aimed line 1) found) (length line.words == 2))
   where
-    by_length : (area : Area) → IsConfigured config area.channel → (b : Bool)
-        → IfOk (if b then Ok (cmd.Play (place_of area)) else (take_at config media name.Play words 2 >>= (λ take. Ok (cmd.PlayTake (place_of area) (played take))))) (IsAimed config)
+    by_length : (area : Area) → IsAimedArea line area → (b : Bool)
+        → IfOk (if b then Ok (cmd.Play (place_of area)) else (take_at line 2 >>= (λ take. Ok (cmd.PlayTake (place_of area) (played take))))) (IsAimed line.config)
     by_length area aimed true = tt
     by_length area aimed false =
-        bound (IsAimed config) (take_at config media name.Play words 2) (λ take. Ok (cmd.PlayTake (place_of area) (played take))) (λ take found. aimed)
+        bound (IsAimed line.config) (take_at line 2) (λ take. Ok (cmd.PlayTake (place_of area) (played take))) (λ take found. aimed)
 
-ended_aimed : (config : ConfigView) (name : Name) (words : List (List ℕ)) (at : ℕ) (command : Cmd) → IsAimed config command → IfOk (ended name words at command) (IsAimed config)
-ended_aimed config name words at command aimed = by_length (nat_lt at (length words))
+ended-aimed : (line : Line) (at : ℕ) (command : Cmd) → IsAimed line.config command → IfOk (ended line at command) (IsAimed line.config)
+ended-aimed line at command aimed = by_length (nat_lt at (length line.words))
   where
-    by_length : (b : Bool) → IfOk (if b then Err (Illegal name at) else Ok command) (IsAimed config)
+    by_length : (b : Bool) → IfOk (if b then Err (Illegal line.name at) else Ok command) (IsAimed line.config)
     by_length true = tt
     by_length false = aimed
 
-place_aimed : (config : ConfigView) (name : Name) (words : List (List ℕ)) (command : PlaceView → Cmd) → ((place : PlaceView) → IsAimed config (command place))
-    → IfOk (place_command config name words command) (IsAimed config)
-place_aimed config name words command aimed =
-    bound (IsAimed config) (only_place config name words) (λ place. Ok (command place)) (λ place found. aimed place)
+place_command-aimed : (line : Line) (command : PlaceView → Cmd) → ((place : PlaceView) → IsAimed line.config (command place))
+    → IfOk (place_command line command) (IsAimed line.config)
+place_command-aimed line command aimed =
+    bound (IsAimed line.config) (only_place line) (λ place. Ok (command place)) (λ place found. aimed place)
 
-load_aimed : (config : ConfigView) (media : List MediaNameView) (words : List (List ℕ)) → IfOk (load config media words) (IsAimed config)
+load-aimed : (line : Line) → IfOk (load line) (IsAimed line.config)
 unfolding load
-load_aimed config media words =
-    bound (IsAimed config) (area_at config name.Load words 1) (λ area. take_at config media name.Load words 2 >>= (λ take. Ok (cmd.Load (place_of area) (loaded take))))
-    (λ area found. bound (IsAimed config) (take_at config media name.Load words 2) (λ take. Ok (cmd.Load (place_of area) (loaded take))) (λ take has. tt))
+load-aimed line =
+    bound (IsAimed line.config) (area_at line 1) (λ area. take_at line 2 >>= (λ take. Ok (cmd.Load (place_of area) (loaded take))))
+    (λ area found. bound (IsAimed line.config) (take_at line 2) (λ take. Ok (cmd.Load (place_of area) (loaded take))) (λ take has. tt))
 
-load_bg_aimed : (config : ConfigView) (media : List MediaNameView) (words : List (List ℕ)) → IfOk (load_bg config media words) (IsAimed config)
+load_bg-aimed : (line : Line) → IfOk (load_bg line) (IsAimed line.config)
 unfolding load_bg
-load_bg_aimed config media words =
-    bound (IsAimed config) (area_at config name.LoadBg words 1) (λ area. take_at config media name.LoadBg words 2 >>= (λ take. Ok (cmd.LoadBg (place_of area) take)))
-    (λ area found. bound (IsAimed config) (take_at config media name.LoadBg words 2) (λ take. Ok (cmd.LoadBg (place_of area) take)) (λ take has. tt))
+load_bg-aimed line =
+    bound (IsAimed line.config) (area_at line 1) (λ area. take_at line 2 >>= (λ take. Ok (cmd.LoadBg (place_of area) take)))
+    (λ area found. bound (IsAimed line.config) (take_at line 2) (λ take. Ok (cmd.LoadBg (place_of area) take)) (λ take has. tt))
 
-cleared_aimed : (config : ConfigView) (channel : ℕ) (layer : Option ℕ) → IsAimed config (cleared channel layer)
-cleared_aimed config channel None = tt
-cleared_aimed config channel (Some layer) = tt
+cleared-aimed : (config : ConfigView) (channel : ℕ) (layer : Option ℕ) → IsAimed config (cleared channel layer)
+cleared-aimed config channel None = tt
+cleared-aimed config channel (Some layer) = tt
 
-clear_aimed : (config : ConfigView) (words : List (List ℕ)) → IfOk (clear config words) (IsAimed config)
+clear-aimed : (line : Line) → IfOk (clear line) (IsAimed line.config)
 unfolding clear
-clear_aimed config words =
-    bound (IsAimed config) (area_at config name.Clear words 1) (λ area. ended name.Clear words 2 (cleared area.channel area.layer))
-    (λ area found. ended_aimed config name.Clear words 2 (cleared area.channel area.layer) (cleared_aimed config area.channel area.layer))
+clear-aimed line =
+    bound (IsAimed line.config) (area_at line 1) (λ area. ended line 2 (cleared area.channel area.layer))
+    (λ area found. ended-aimed line 2 (cleared area.channel area.layer) (cleared-aimed line.config area.channel area.layer))
 
-swapped_aimed : (config : ConfigView) (one other : Area) (layer layer' : Option ℕ) (rest : Result Bool Refusal) → IfOk (swapped one other layer layer' rest) (IsAimed config)
-swapped_aimed config one other None None (Ok transforms) = tt
-swapped_aimed config one other None None (Err reason) = tt
-swapped_aimed config one other (Some layer) (Some layer') (Ok transforms) = tt
-swapped_aimed config one other (Some layer) (Some layer') (Err reason) = tt
-swapped_aimed config one other None (Some layer') rest = tt
-swapped_aimed config one other (Some layer) None rest = tt
+-- what exchanges two areas is no play
+exchange-aimed : (line : Line) (one other : Area) (layer layer' : Option ℕ)
+    → IfOk (legal line 2 (swapped one other layer layer') >>= (λ command. flag_at line 3 (codes "TRANSFORMS") >>= (λ transforms. Ok (command transforms)))) (IsAimed line.config)
+exchange-aimed line one other None None =
+    bound (IsAimed line.config) (flag_at line 3 (codes "TRANSFORMS")) (λ transforms. Ok (cmd.SwapChannels one.channel other.channel transforms)) (λ transforms has. tt)
+exchange-aimed line one other (Some layer) (Some layer') =
+    bound (IsAimed line.config) (flag_at line 3 (codes "TRANSFORMS")) (λ transforms. Ok (cmd.SwapLayers (place_of one) (place_of other) transforms)) (λ transforms has. tt)
+exchange-aimed line one other None (Some layer') = tt
+exchange-aimed line one other (Some layer) None = tt
 
-swap_aimed : (config : ConfigView) (words : List (List ℕ)) → IfOk (swap config words) (IsAimed config)
+swap-aimed : (line : Line) → IfOk (swap line) (IsAimed line.config)
 unfolding swap
-swap_aimed config words =
-    bound (IsAimed config) (area_at config name.Swap words 1)
-    (λ one. area_at config name.Swap words 2 >>= (λ other. swapped one other one.layer other.layer (flag_at (codes "TRANSFORMS") name.Swap words 3)))
-    (λ one found. bound (IsAimed config) (area_at config name.Swap words 2)
-    (λ other. swapped one other one.layer other.layer (flag_at (codes "TRANSFORMS") name.Swap words 3))
-    (λ other has. swapped_aimed config one other one.layer other.layer (flag_at (codes "TRANSFORMS") name.Swap words 3)))
+swap-aimed line =
+    bound (IsAimed line.config) (area_at line 1)
+    (λ one. area_at line 2 >>= (λ other. legal line 2 (swapped one other one.layer other.layer) >>= (λ command. flag_at line 3 (codes "TRANSFORMS") >>= (λ transforms. Ok (command transforms)))))
+    (λ one found. bound (IsAimed line.config) (area_at line 2)
+    (λ other. legal line 2 (swapped one other one.layer other.layer) >>= (λ command. flag_at line 3 (codes "TRANSFORMS") >>= (λ transforms. Ok (command transforms))))
+    (λ other has. exchange-aimed line one other one.layer other.layer))
 
-reset_aimed : (config : ConfigView) (channel : ℕ) (layer : Option ℕ) → IsAimed config (reset channel layer)
-reset_aimed config channel None = tt
-reset_aimed config channel (Some layer) = tt
+reset-aimed : (config : ConfigView) (channel : ℕ) (layer : Option ℕ) → IsAimed config (reset channel layer)
+reset-aimed config channel None = tt
+reset-aimed config channel (Some layer) = tt
 
-property_aimed : (config : ConfigView) (place : PlaceView) (property : Prop) (words : List (List ℕ)) → IfOk (property_command place property words) (IsAimed config)
-property_aimed config place property words = by_length (nat_lt 3 (length words))
+property_command-aimed : (line : Line) (place : PlaceView) (property : Prop) → IfOk (property_command line place property) (IsAimed line.config)
+property_command-aimed line place property = by_length (nat_lt 3 (length line.words))
   where
-    by_length : (b : Bool) → IfOk (if b then (numbers_of property words >>= (λ numbers. timing_of property words >>= (λ timing.
-        Ok (cmd.Set (setting_of place property numbers timing.duration Linear timing.deferred))))) else Ok (cmd.Value place property)) (IsAimed config)
+    by_length : (b : Bool) → IfOk (if b then (numbers_of line property >>= (λ numbers. timing_of line property >>= (λ timing.
+        Ok (cmd.Set (setting_for place property numbers timing))))) else Ok (cmd.Value place property)) (IsAimed line.config)
     by_length true =
-        bound (IsAimed config) (numbers_of property words) (λ numbers. timing_of property words >>= (λ timing. Ok (cmd.Set (setting_of place property numbers timing.duration Linear timing.deferred))))
-        (λ numbers found. bound (IsAimed config) (timing_of property words) (λ timing. Ok (cmd.Set (setting_of place property numbers timing.duration Linear timing.deferred))) (λ timing has. tt))
+        bound (IsAimed line.config) (numbers_of line property) (λ numbers. timing_of line property >>= (λ timing. Ok (cmd.Set (setting_for place property numbers timing))))
+        (λ numbers found. bound (IsAimed line.config) (timing_of line property) (λ timing. Ok (cmd.Set (setting_for place property numbers timing))) (λ timing has. tt))
     by_length false = tt
 
-mixer_aimed : (config : ConfigView) (words : List (List ℕ)) → IfOk (mixer config words) (IsAimed config)
+mixer-aimed : (line : Line) → IfOk (mixer line) (IsAimed line.config)
 unfolding mixer
-mixer_aimed config words =
-    bound (IsAimed config) (area_at config name.Mixer words 1) (λ area. required name.Mixer words 2 >>= (λ word. mixer_command area word words))
-    (λ area found. bound (IsAimed config) (required name.Mixer words 2) (λ word. mixer_command area word words)
+mixer-aimed line =
+    bound (IsAimed line.config) (area_at line 1) (λ area. word_at line 2 >>= (λ word. mixer_command line area word))
+    (λ area found. bound (IsAimed line.config) (word_at line 2) (λ word. mixer_command line area word)
     (λ word has. by_word area word (is_word (codes "COMMIT") word) (is_word (codes "CLEAR") word)))
   where
     by_word : (area : Area) (word : List ℕ) (commit clear : Bool) → IfOk
-        (if commit then ended name.Mixer words 3 (cmd.CommitMixer area.channel)
-        else if clear then ended name.Mixer words 3 (reset area.channel area.layer)
-        else (legal name.Mixer 2 (property_of word) >>= (λ property. property_command (place_of area) property words))) (IsAimed config)
-    by_word area word true clear = ended_aimed config name.Mixer words 3 (cmd.CommitMixer area.channel) tt
-    by_word area word false true = ended_aimed config name.Mixer words 3 (reset area.channel area.layer) (reset_aimed config area.channel area.layer)
+        (if commit then ended line 3 (cmd.CommitMixer area.channel)
+        else if clear then ended line 3 (reset area.channel area.layer)
+        else (legal line 2 (prop_of word) >>= (λ property. property_command line (place_of area) property))) (IsAimed line.config)
+    by_word area word true clear = ended-aimed line 3 (cmd.CommitMixer area.channel) tt
+    by_word area word false true = ended-aimed line 3 (reset area.channel area.layer) (reset-aimed line.config area.channel area.layer)
     by_word area word false false =
-        bound (IsAimed config) (legal name.Mixer 2 (property_of word)) (λ property. property_command (place_of area) property words)
-        (λ property found. property_aimed config (place_of area) property words)
+        bound (IsAimed line.config) (legal line 2 (prop_of word)) (λ property. property_command line (place_of area) property)
+        (λ property found. property_command-aimed line (place_of area) property)
 
-staged_aimed : (config : ConfigView) (command : Result Cmd Refusal) → IfOk command (IsAimed config) → IfOk (staged command) (IsAimedParsed config)
-staged_aimed config (Ok command) aimed = aimed
-staged_aimed config (Err reason) aimed = tt
+staged-aimed : (config : ConfigView) (command : Result Cmd Refusal) → IfOk command (IsAimed config) → IfOk (staged command) (IsAimedParsed config)
+staged-aimed config (Ok command) aimed = aimed
+staged-aimed config (Err reason) aimed = tt
 
-ended_parsed : (config : ConfigView) (name : Name) (words : List (List ℕ)) (what : Parsed) → IsAimedParsed config what → IfOk (ended name words 1 what) (IsAimedParsed config)
-ended_parsed config name words what aimed = by_length (nat_lt 1 (length words))
+ended-parsed : (line : Line) (what : Parsed) → IsAimedParsed line.config what → IfOk (ended line 1 what) (IsAimedParsed line.config)
+ended-parsed line what aimed = by_length (nat_lt 1 (length line.words))
   where
-    by_length : (b : Bool) → IfOk (if b then Err (Illegal name 1) else Ok what) (IsAimedParsed config)
+    by_length : (b : Bool) → IfOk (if b then Err (Illegal line.name 1) else Ok what) (IsAimedParsed line.config)
     by_length true = tt
     by_length false = aimed
 
-meaning_aimed : (config : ConfigView) (media : List MediaNameView) (words : List (List ℕ)) (command : Name) → IfOk (meaning config media words command) (IsAimedParsed config)
-meaning_aimed config media words name.LoadBg = staged_aimed config (load_bg config media words) (load_bg_aimed config media words)
-meaning_aimed config media words name.Load = staged_aimed config (load config media words) (load_aimed config media words)
-meaning_aimed config media words name.Play = staged_aimed config (play config media words) (play_aimed config media words)
-meaning_aimed config media words name.Pause = staged_aimed config (place_command config name.Pause words cmd.Pause) (place_aimed config name.Pause words cmd.Pause (λ place. tt))
-meaning_aimed config media words name.Resume = staged_aimed config (place_command config name.Resume words cmd.Resume) (place_aimed config name.Resume words cmd.Resume (λ place. tt))
-meaning_aimed config media words name.Stop = staged_aimed config (place_command config name.Stop words cmd.StopLayer) (place_aimed config name.Stop words cmd.StopLayer (λ place. tt))
-meaning_aimed config media words name.Clear = staged_aimed config (clear config words) (clear_aimed config words)
-meaning_aimed config media words name.Swap = staged_aimed config (swap config words) (swap_aimed config words)
-meaning_aimed config media words name.Mixer = staged_aimed config (mixer config words) (mixer_aimed config words)
-meaning_aimed config media words name.Begin = ended_parsed config name.Begin words asked.Begin tt
-meaning_aimed config media words name.Commit = ended_parsed config name.Commit words asked.Commit tt
-meaning_aimed config media words name.Discard = ended_parsed config name.Discard words asked.Discard tt
-meaning_aimed config media words name.Info = ended_parsed config name.Info words (asked.Stage cmd.Info) tt
-meaning_aimed config media words name.Cls = ended_parsed config name.Cls words asked.Cls tt
-meaning_aimed config media words name.Version =
-    bound (IsAimedParsed config) (flag_at (codes "SERVER") name.Version words 1) (λ named. Ok asked.Version) (λ named found. tt)
-meaning_aimed config media words name.Bye = ended_parsed config name.Bye words asked.Bye tt
-meaning_aimed config media words name.Kill = ended_parsed config name.Kill words asked.Kill tt
+meaning_by_name-aimed : (line : Line) (command : Name) → IfOk (meaning_by_name line command) (IsAimedParsed line.config)
+meaning_by_name-aimed line name.LoadBg = staged-aimed line.config (load_bg line) (load_bg-aimed line)
+meaning_by_name-aimed line name.Load = staged-aimed line.config (load line) (load-aimed line)
+meaning_by_name-aimed line name.Play = staged-aimed line.config (play line) (play-aimed line)
+meaning_by_name-aimed line name.Pause = staged-aimed line.config (place_command line cmd.Pause) (place_command-aimed line cmd.Pause (λ place. tt))
+meaning_by_name-aimed line name.Resume = staged-aimed line.config (place_command line cmd.Resume) (place_command-aimed line cmd.Resume (λ place. tt))
+meaning_by_name-aimed line name.Stop = staged-aimed line.config (place_command line cmd.StopLayer) (place_command-aimed line cmd.StopLayer (λ place. tt))
+meaning_by_name-aimed line name.Clear = staged-aimed line.config (clear line) (clear-aimed line)
+meaning_by_name-aimed line name.Swap = staged-aimed line.config (swap line) (swap-aimed line)
+meaning_by_name-aimed line name.Mixer = staged-aimed line.config (mixer line) (mixer-aimed line)
+meaning_by_name-aimed line name.Begin = ended-parsed line asked.Begin tt
+meaning_by_name-aimed line name.Commit = ended-parsed line asked.Commit tt
+meaning_by_name-aimed line name.Discard = ended-parsed line asked.Discard tt
+meaning_by_name-aimed line name.Info = ended-parsed line (asked.Stage cmd.Info) tt
+meaning_by_name-aimed line name.Cls = ended-parsed line asked.Cls tt
+meaning_by_name-aimed line name.Version =
+    bound (IsAimedParsed line.config) (flag_at line 1 (codes "SERVER")) (λ named. Ok asked.Version) (λ named found. tt)
+meaning_by_name-aimed line name.Bye = ended-parsed line asked.Bye tt
+meaning_by_name-aimed line name.Kill = ended-parsed line asked.Kill tt
 
-parsed_aimed : (config : ConfigView) (media : List MediaNameView) (words : List (List ℕ)) → IfOk (parsed config media words) (IsAimedParsed config)
-unfolding parsed
-parsed_aimed config media words =
-    bound (IsAimedParsed config) (ok_or (slice_get words 0) Unknown)
-    (λ word. ok_or (name_of word) Unknown >>= (λ command. if nat_lt (least_words command) (length words) then meaning config media words command else Err (Missing command)))
-    (λ word found. bound (IsAimedParsed config) (ok_or (name_of word) Unknown)
-    (λ command. if nat_lt (least_words command) (length words) then meaning config media words command else Err (Missing command))
-    (λ command has. by_length command (nat_lt (least_words command) (length words))))
+enough-aimed : (line : Line) → IfOk (enough line) (IsAimedParsed line.config)
+enough-aimed line = by_length (nat_lt (least_words line.name) (length line.words))
   where
-    by_length : (command : Name) (b : Bool) → IfOk (if b then meaning config media words command else Err (Missing command)) (IsAimedParsed config)
-    by_length command true = meaning_aimed config media words command
-    by_length command false = tt
+    by_length : (b : Bool) → IfOk (if b then meaning line else Err (Missing line.name)) (IsAimedParsed line.config)
+    by_length true = meaning_by_name-aimed line line.name
+    by_length false = tt
+
+parsed-aimed : (config : ConfigView) (media : List MediaNameView) (words : List (List ℕ)) → IfOk (parsed config media words) (IsAimedParsed config)
+unfolding parsed
+parsed-aimed config media words =
+    bound (IsAimedParsed config) (ok_or (slice_get words 0) Unknown)
+    (λ word. ok_or (name_of word) Unknown >>= (λ name. enough (record { name = name; words = words; config = config; media = media })))
+    (λ word found. bound (IsAimedParsed config) (ok_or (name_of word) Unknown)
+    (λ name. enough (record { name = name; words = words; config = config; media = media }))
+    (λ name has. enough-aimed (record { name = name; words = words; config = config; media = media })))
 
 -- a play that words ask for is on a configured channel
 pub play_is_aimed : (config : ConfigView) (media : List MediaNameView) (words : List (List ℕ)) (command : Cmd) → parsed config media words ≡ Ok (asked.Stage command) → IsAimed config command
-play_is_aimed config media words command is = known (IsAimedParsed config) (parsed config media words) (asked.Stage command) (parsed_aimed config media words) is
+play_is_aimed config media words command is = known (IsAimedParsed config) (parsed config media words) (asked.Stage command) (parsed-aimed config media words) is

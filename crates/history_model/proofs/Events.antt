@@ -1,4 +1,4 @@
--- Events that change nothing later: queries and refused events. What is the same of two histories stays the same.
+-- Events that change nothing later: queries and refused events. Histories that agree go on to agree.
 use Rattle.std.proofs.Common.{◌≡◌, ◌+◌, Bool, true, false, List, [], ◌∷◌, ◌++◌, reverse, refl, sym, ap, ap₂, ◌∙◌, if◌then◌else◌, unwrap_or, is_none, append_assoc, add_comm}
 use Rattle.std.proofs.lemmas.List.{reverse-append}
 use Rattle.std.specs.Prelude.{Option, Some, None}
@@ -12,24 +12,24 @@ use Rattle.play_types.specs.declared.event.Tag.{Tag}
 use Rattle.play_types.specs.declared.event.Event.{Event}
 use Rattle.play_types.specs.declared.event.Event.TheVariants.{Do, Batch, Tick, Stop}
 use Rattle.play_types.proofs.Histories.{ticks-append}
-use Rattle.history_model.specs.Act.{Act}
-use Rattle.history_model.specs.Live.{front_at}
-use Rattle.history_model.specs.Acts.{acts, acts_back, is_over, channels, with_event}
-use Rattle.history_model.specs.Media.{Setup, size}
-use Rattle.history_model.specs.Source.{last_fronts}
-use Rattle.history_model.specs.Scene.{scene_of}
-use Rattle.history_model.specs.Frame.{scene_pixel, frames_back}
-use Rattle.history_model.specs.Sound.{scene_sample, sounds_back}
+use Rattle.history_model.specs.stage.Act.{Act}
+use Rattle.history_model.specs.stage.Live.{foreground_at}
+use Rattle.history_model.specs.stage.Acts.{acts, acts_back, is_over, channels, with_event}
+use Rattle.history_model.specs.pictures.Media.{Setup, size}
+use Rattle.history_model.specs.pictures.Source.{last_foregrounds}
+use Rattle.history_model.specs.pictures.Scene.{scene_of}
+use Rattle.history_model.specs.pictures.Frame.{scene_pixel, frames_back}
+use Rattle.history_model.specs.pictures.Sound.{scene_sample, sounds_back}
 
--- all that later definitions look at is the same of two histories that are read backward
+-- two histories that are read backward agree in all that later definitions look at
 pub record IsSame (setup : Setup) (a b : List Event) : Type 0 where
   pub acts : acts_back a ≡ acts_back b
   pub ticks : ticks a ≡ ticks b
-  pub fronts : last_fronts a ≡ last_fronts b
+  pub foregrounds : last_foregrounds a ≡ last_foregrounds b
   pub frames : frames_back setup a ≡ frames_back setup b
   pub sounds : sounds_back setup a ≡ sounds_back setup b
 
--- it is the same after one event more
+-- they agree after one event more
 entered : (event : Event) (a b : List Event) → acts_back a ≡ acts_back b → ticks a ≡ ticks b →
     acts_back (event ∷ a) ≡ acts_back (event ∷ b)
 entered event a b p q = ap₂ (λ acts now. unwrap_or (with_event acts now event) acts) p q
@@ -38,46 +38,46 @@ shown_frames : (setup : Setup) (a b : List Event) → IsSame setup a b →
     frames_back setup (Tick ∷ a) ≡ frames_back setup (Tick ∷ b)
 shown_frames setup a b h =
     λ i. λ channel x y.
-    scene_pixel setup (h.frames i) (size setup channel) (scene_of (h.acts i) (h.ticks i) (h.fronts i) channel) x y
+    scene_pixel (record { setup = setup; frames = h.frames i }) (size setup channel) (scene_of (h.acts i) (h.ticks i) (h.foregrounds i) channel) x y
 
 shown_sounds : (setup : Setup) (a b : List Event) → IsSame setup a b →
     sounds_back setup (Tick ∷ a) ≡ sounds_back setup (Tick ∷ b)
 shown_sounds setup a b h =
     λ i. λ channel pair side.
-    scene_sample setup (h.sounds i) (scene_of (h.acts i) (h.ticks i) (h.fronts i) channel) pair side
+    scene_sample setup (h.sounds i) (scene_of (h.acts i) (h.ticks i) (h.foregrounds i) channel) pair side
 
 pub IsSame-cons : (setup : Setup) (event : Event) (a b : List Event) → IsSame setup a b →
     IsSame setup (event ∷ a) (event ∷ b)
 IsSame-cons setup (Do tag cmd) a b h = record {
   acts = entered (Do tag cmd) a b h.acts h.ticks;
   ticks = h.ticks;
-  fronts = h.fronts;
+  foregrounds = h.foregrounds;
   frames = h.frames;
   sounds = h.sounds;
 }
 IsSame-cons setup (Batch tag cmds) a b h = record {
   acts = entered (Batch tag cmds) a b h.acts h.ticks;
   ticks = h.ticks;
-  fronts = h.fronts;
+  foregrounds = h.foregrounds;
   frames = h.frames;
   sounds = h.sounds;
 }
 IsSame-cons setup Tick a b h = record {
   acts = entered Tick a b h.acts h.ticks;
   ticks = ap (λ n. 1 + n) h.ticks;
-  fronts = ap₂ (λ acts now. Some (front_at acts now)) h.acts h.ticks;
+  foregrounds = ap₂ (λ acts now. Some (foreground_at acts now)) h.acts h.ticks;
   frames = shown_frames setup a b h;
   sounds = shown_sounds setup a b h;
 }
 IsSame-cons setup (Stop tag) a b h = record {
   acts = entered (Stop tag) a b h.acts h.ticks;
   ticks = h.ticks;
-  fronts = h.fronts;
+  foregrounds = h.foregrounds;
   frames = h.frames;
   sounds = h.sounds;
 }
 
--- and after any events more
+-- and after any number of events more
 pub IsSame-append : (setup : Setup) (later a b : List Event) → IsSame setup a b →
     IsSame setup (later ++ a) (later ++ b)
 IsSame-append setup [] a b h = h
@@ -86,11 +86,11 @@ IsSame-append setup (event ∷ later) a b h = IsSame-cons setup event (later ++ 
 -- a command or a batch that leaves the acts leaves all
 pub IsSame-do : (setup : Setup) (tag : Tag) (cmd : Cmd) (back : List Event) →
     acts_back (Do tag cmd ∷ back) ≡ acts_back back → IsSame setup (Do tag cmd ∷ back) back
-IsSame-do setup tag cmd back e = record { acts = e; ticks = refl; fronts = refl; frames = refl; sounds = refl }
+IsSame-do setup tag cmd back e = record { acts = e; ticks = refl; foregrounds = refl; frames = refl; sounds = refl }
 
 pub IsSame-batch : (setup : Setup) (tag : Tag) (cmds : List Cmd) (back : List Event) →
     acts_back (Batch tag cmds ∷ back) ≡ acts_back back → IsSame setup (Batch tag cmds ∷ back) back
-IsSame-batch setup tag cmds back e = record { acts = e; ticks = refl; fronts = refl; frames = refl; sounds = refl }
+IsSame-batch setup tag cmds back e = record { acts = e; ticks = refl; foregrounds = refl; frames = refl; sounds = refl }
 
 -- a query leaves the acts, whether a channel is over a limit or not
 kept : (test : Bool) (acts : List Act) → unwrap_or (if test then None else Some acts) acts ≡ acts
@@ -106,10 +106,6 @@ pub acts_back-info : (tag : Tag) (back : List Event) → acts_back (Do tag Info 
 acts_back-info tag back =
     kept (list_any (is_over (acts_back back) (ticks back)) (channels (acts_back back))) (acts_back back)
 
--- a tick leaves the acts
-pub acts_back-tick : (back : List Event) → acts_back (Tick ∷ back) ≡ acts_back back
-acts_back-tick back = refl
-
 -- what is refused leaves the acts
 none_kept : (entered : Option (List Act)) (acts : List Act) → is_none entered ≡ true → unwrap_or entered acts ≡ acts
 none_kept None acts e = refl
@@ -119,7 +115,7 @@ pub acts_back-refused : (event : Event) (back : List Event) → is_none (with_ev
     acts_back (event ∷ back) ≡ acts_back back
 acts_back-refused event back e = none_kept (with_event (acts_back back) (ticks back) event) (acts_back back) e
 
--- a history read backward has as many ticks
+-- a history read backward has its number of ticks
 pub ticks-reverse : (history : List Event) → ticks (reverse history) ≡ ticks history
 ticks-reverse [] = refl
 ticks-reverse (event ∷ history) =

@@ -4,17 +4,17 @@ use Rattle.std.proofs.lemmas.List.{reverse-append}
 use Rattle.play_types.specs.History.{ticks}
 use Rattle.play_types.specs.declared.event.Event.{Event}
 use Rattle.play_types.specs.declared.event.Event.TheVariants.{Tick}
-use Rattle.history_model.specs.Acts.{acts, acts_back, with_event}
-use Rattle.history_model.specs.Media.{Setup, size}
-use Rattle.history_model.specs.Scene.{scene}
-use Rattle.history_model.specs.Frame.{scene_pixel, frames_back, frame_pixel, last_pixel}
-use Rattle.history_model.specs.Sound.{scene_sample, sounds_back, frame_sample, last_sample}
+use Rattle.history_model.specs.stage.Acts.{acts, acts_back, with_event}
+use Rattle.history_model.specs.pictures.Media.{Setup, size}
+use Rattle.history_model.specs.pictures.Scene.{scene}
+use Rattle.history_model.specs.pictures.Frame.{scene_pixel, frames_back, frame_pixel, last_pixel, pictures_after}
+use Rattle.history_model.specs.pictures.Sound.{scene_sample, sounds_back, frame_sample, last_sample}
 use Rattle.history_model.proofs.Events.{ticks-reverse}
 
 -- a pixel of the next tick is that of its scene over the frames of the last one, and so is a sample
 pub frame_pixel-scene : (setup : Setup) (history : List Event) (channel x y : ℕ) →
     frame_pixel setup history channel x y
-    ≡ scene_pixel setup (last_pixel setup history) (size setup channel) (scene history channel) x y
+    ≡ scene_pixel (pictures_after setup history) (size setup channel) (scene history channel) x y
 unfolding frame_pixel last_pixel scene
 frame_pixel-scene setup history channel x y = refl
 

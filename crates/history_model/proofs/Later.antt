@@ -14,26 +14,26 @@ use Rattle.play_types.specs.declared.event.Event.TheVariants.{Do, Batch, Tick, S
 use Rattle.play_types.specs.declared.answer.Status.{Status}
 use Rattle.play_types.specs.declared.answer.Answer.TheVariants.{Value, Info}
 use Rattle.pixel_math.specs.Pixel.{transparent}
-use Rattle.history_model.specs.Act.{Act}
-use Rattle.history_model.specs.Acts.{acts, acts_back, with_event, is_refused}
-use Rattle.history_model.specs.Value.{value, value_at}
-use Rattle.history_model.specs.Media.{Setup, size}
-use Rattle.history_model.specs.Source.{last_fronts}
-use Rattle.history_model.specs.Scene.{scene_of}
-use Rattle.history_model.specs.Frame.{scene_pixel, frames_back, frame_pixel}
-use Rattle.history_model.specs.Sound.{scene_sample, sounds_back, frame_sample}
-use Rattle.history_model.specs.Answer.{Answered, Frames, channel_frame, channel_numbers, numbers_below, number_count, statuses, status_of, channel_fronts, outcome_of, command_answer, answer}
+use Rattle.history_model.specs.stage.Act.{Act}
+use Rattle.history_model.specs.stage.Acts.{acts, acts_back, with_event, is_refused}
+use Rattle.history_model.specs.stage.Value.{value, value_at}
+use Rattle.history_model.specs.pictures.Media.{Setup, size}
+use Rattle.history_model.specs.pictures.Source.{last_foregrounds}
+use Rattle.history_model.specs.pictures.Scene.{scene_of}
+use Rattle.history_model.specs.pictures.Frame.{scene_pixel, frames_back, frame_pixel}
+use Rattle.history_model.specs.pictures.Sound.{scene_sample, sounds_back, frame_sample}
+use Rattle.history_model.specs.stage.Answer.{Answered, Frames, channel_frame, channel_numbers, numbers_below, number_count, statuses, status_of, channel_foregrounds, outcome_of, command_answer, answer}
 use Rattle.history_model.proofs.Events.{IsSame, IsSame-cons, IsSame-append, IsSame-do, IsSame-batch, acts_back-value, acts_back-info, acts_back-refused, ticks-reverse, reverse-middle}
 
--- all that later definitions look at is the same of two histories
+-- two histories agree in all that later definitions look at
 abbrev pub SameHistory : Setup → List Event → List Event → Type 0
 SameHistory setup g h = IsSame setup (reverse g) (reverse h)
 
--- histories with as many ticks
+-- such histories have equal numbers of ticks
 same_ticks : (setup : Setup) (g h : List Event) → SameHistory setup g h → ticks g ≡ ticks h
 same_ticks setup g h s = sym (ticks-reverse g) ∙ s.ticks ∙ ticks-reverse h
 
--- pixels, samples, acts, values and refusals that are the same
+-- their pixels, samples, acts, values and refusals are equal
 pub acts-same : (setup : Setup) (g h : List Event) → SameHistory setup g h → acts g ≡ acts h
 unfolding acts
 acts-same setup g h s = s.acts
@@ -70,10 +70,10 @@ is_refused-same setup g h s event =
 pub statuses-same : (setup : Setup) (g h : List Event) → SameHistory setup g h → statuses setup g ≡ statuses setup h
 statuses-same setup g h s =
     ap₂ {A = List Act} {B = ℕ} {C = List Status}
-    (λ past now. map (λ channel. status_of (channel_fronts past now channel)) (channel_numbers setup))
+    (λ past now. map (λ channel. status_of (channel_foregrounds past now channel)) (channel_numbers setup))
     (acts-same setup g h s) (same_ticks setup g h s)
 
--- answers that are the same
+-- their answers are equal
 command-same : (setup : Setup) (g h : List Event) → SameHistory setup g h →
     (refused : Bool) (cmd : Cmd) → command_answer setup g refused cmd ≡ command_answer setup h refused cmd
 command-same setup g h s refused (ValueOf place prop) =
@@ -147,11 +147,11 @@ pub frame_pixel-before : (setup : Setup) (history : List Event) → acts history
 unfolding frame_pixel acts
 frame_pixel-before setup history e channel x y =
     let back : List Event = reverse history in
-    ap (λ past. scene_pixel setup (frames_back setup back) (size setup channel) (scene_of past (ticks back) (last_fronts back) channel) x y) e
+    ap (λ past. scene_pixel (record { setup = setup; frames = frames_back setup back }) (size setup channel) (scene_of past (ticks back) (last_foregrounds back) channel) x y) e
 
 pub frame_sample-before : (setup : Setup) (history : List Event) → acts history ≡ [] →
     (channel pair side : ℕ) → frame_sample setup history channel pair side ≡ pos 0
 unfolding frame_sample acts
 frame_sample-before setup history e channel pair side =
     let back : List Event = reverse history in
-    ap (λ past. scene_sample setup (sounds_back setup back) (scene_of past (ticks back) (last_fronts back) channel) pair side) e
+    ap (λ past. scene_sample setup (sounds_back setup back) (scene_of past (ticks back) (last_foregrounds back) channel) pair side) e

@@ -4,12 +4,11 @@ pub mod Events
 pub mod Later
 pub mod Liveness
 pub mod Placing
-pub mod Plays
+pub mod first_plays
 pub mod Frames
 pub mod Parts
 pub mod Outputs
 pub mod Streams
 pub mod Asking
 pub mod Aiming
-pub mod PlayFrames
 pub mod Sessions

@@ -1,41 +1,41 @@
 -- Lives over time: ticks add up, and an automatic start comes at its tick however one gets there.
-use Rattle.std.proofs.Common.{◌≡◌, ℕ, zero, suc, ◌+◌, ◌-◌, ◌<◌, ◌≤◌, Bool, true, false, ◌&&◌, List, ◌∷◌, refl, sym, ap, ◌∙◌, ◌⊎◌, inl, inr, arith, add-zero, add-one, add_assoc, lt-ltb, le-ltb, if◌then◌else◌}
+use Rattle.std.proofs.Common.{◌≡◌, ℕ, zero, suc, ◌+◌, ◌-◌, ◌<◌, ◌≤◌, Bool, true, false, ◌&&◌, refl, sym, ap, ◌∙◌, ◌⊎◌, inl, inr, arith, add-zero, add-one, add_assoc, lt-ltb, le-ltb, if◌then◌else◌}
+use Rattle.std.proofs.lemmas.Bool.{cases_lt}
 use Rattle.std.specs.Prelude.{Option, Some, None, option_map}
 use Rattle.play_types.specs.Take.{TakeView}
-use Rattle.history_model.specs.Act.{Act}
-use Rattle.history_model.specs.Life.{Foreground, Outgoing, Life, shown_for, run_for, start, start_of, delay, delay_of, delay_over, after, after_delay, ready, ready_by, life, effect, ends}
-use Rattle.history_model.specs.Steps.{step, steps}
+use Rattle.history_model.specs.stage.Life.{Foreground, Outgoing, Life, shown_for, run_for, start, start_of, delay, delay_of, delay_over, after, after_delay, ready, ready_by, ends}
+use Rattle.history_model.specs.stage.Steps.{step, steps}
 
 -- a foreground, from its parts
-abbrev front_of : TakeView → ℕ → Bool → Option Outgoing → Foreground
-front_of take shown paused old = record { take = take; shown = shown; paused = paused; old = old }
+abbrev foreground_of : TakeView → ℕ → Bool → Option Outgoing → Foreground
+foreground_of take shown paused old = record { take = take; shown = shown; paused = paused; old = old }
 
 -- two runs of ticks are one run
 shown_for-parts : (take : TakeView) (shown : ℕ) (paused : Bool) (old : Option Outgoing) (j k : ℕ) →
-    shown_for k (shown_for j (front_of take shown paused old)) ≡ shown_for (j + k) (front_of take shown paused old)
+    shown_for k (shown_for j (foreground_of take shown paused old)) ≡ shown_for (j + k) (foreground_of take shown paused old)
 shown_for-parts take shown true old j k = refl
-shown_for-parts take shown false old j k = ap (λ n. front_of take n false old) (add_assoc shown j k)
+shown_for-parts take shown false old j k = ap (λ n. foreground_of take n false old) (add_assoc shown j k)
 
-fronts-add : (front : Option Foreground) (j k : ℕ) →
-    option_map (shown_for k) (option_map (shown_for j) front) ≡ option_map (shown_for (j + k)) front
-fronts-add None j k = refl
-fronts-add (Some f) j k = ap Some (shown_for-parts f.take f.shown f.paused f.old j k)
+foregrounds-add : (foreground : Option Foreground) (j k : ℕ) →
+    option_map (shown_for k) (option_map (shown_for j) foreground) ≡ option_map (shown_for (j + k)) foreground
+foregrounds-add None j k = refl
+foregrounds-add (Some f) j k = ap Some (shown_for-parts f.take f.shown f.paused f.old j k)
 
 pub run_for-add : (s : Life) (j k : ℕ) → run_for k (run_for j s) ≡ run_for (j + k) s
-run_for-add s j k = ap (λ front. record s { front = front }) (fronts-add s.front j k)
+run_for-add s j k = ap (λ foreground. record s { foreground = foreground }) (foregrounds-add s.foreground j k)
 
 -- no ticks change nothing
 shown_for-none : (take : TakeView) (shown : ℕ) (paused : Bool) (old : Option Outgoing) →
-    shown_for 0 (front_of take shown paused old) ≡ front_of take shown paused old
+    shown_for 0 (foreground_of take shown paused old) ≡ foreground_of take shown paused old
 shown_for-none take shown true old = refl
-shown_for-none take shown false old = ap (λ n. front_of take n false old) (add-zero shown)
+shown_for-none take shown false old = ap (λ n. foreground_of take n false old) (add-zero shown)
 
-fronts-none : (front : Option Foreground) → option_map (shown_for 0) front ≡ front
-fronts-none None = refl
-fronts-none (Some f) = ap Some (shown_for-none f.take f.shown f.paused f.old)
+foregrounds-none : (foreground : Option Foreground) → option_map (shown_for 0) foreground ≡ foreground
+foregrounds-none None = refl
+foregrounds-none (Some f) = ap Some (shown_for-none f.take f.shown f.paused f.old)
 
 pub run_for-none : (s : Life) → run_for 0 s ≡ s
-run_for-none s = ap (λ front. record s { front = front }) (fronts-none s.front)
+run_for-none s = ap (λ foreground. record s { foreground = foreground }) (foregrounds-none s.foreground)
 
 -- a test that cannot pass gives no delay, and one that passes gives the delay that is left
 no_delay : (test : Bool) (x y : Option ℕ) (f : ℕ → ℕ) →
@@ -54,35 +54,35 @@ under_auto true x y f e = e
 under_auto false x y f e = refl
 
 delay_over-parts : (next take : TakeView) (shown : ℕ) (paused : Bool) (old : Option Outgoing) (j : ℕ) →
-    delay_over next (Some (shown_for j (front_of take shown paused old)))
-    ≡ option_map (λ a. a - j) (delay_over next (Some (front_of take shown paused old)))
+    delay_over next (Some (shown_for j (foreground_of take shown paused old)))
+    ≡ option_map (λ a. a - j) (delay_over next (Some (foreground_of take shown paused old)))
 delay_over-parts next take shown true old j =
     no_delay (ends take.spec take.looped) _ _ _
 delay_over-parts next take shown false old j =
     less_delay (ends take.spec take.looped) _ _ _ (omega arith)
 
-delay_over-run : (next : TakeView) (front : Option Foreground) (j : ℕ) →
-    delay_over next (option_map (shown_for j) front) ≡ option_map (λ a. a - j) (delay_over next front)
+delay_over-run : (next : TakeView) (foreground : Option Foreground) (j : ℕ) →
+    delay_over next (option_map (shown_for j) foreground) ≡ option_map (λ a. a - j) (delay_over next foreground)
 delay_over-run next None j = let e : 0 ≡ 0 - j = omega arith in ap Some e
 delay_over-run next (Some f) j = delay_over-parts next f.take f.shown f.paused f.old j
 
-delay_of-run : (back : Option TakeView) (front : Option Foreground) (j : ℕ) →
-    delay_of back (option_map (shown_for j) front) ≡ option_map (λ a. a - j) (delay_of back front)
-delay_of-run None front j = refl
-delay_of-run (Some next) front j = under_auto next.auto _ _ _ (delay_over-run next front j)
+delay_of-run : (background : Option TakeView) (foreground : Option Foreground) (j : ℕ) →
+    delay_of background (option_map (shown_for j) foreground) ≡ option_map (λ a. a - j) (delay_of background foreground)
+delay_of-run None foreground j = refl
+delay_of-run (Some next) foreground j = under_auto next.auto _ _ _ (delay_over-run next foreground j)
 
 -- ticks shorten the delay
 pub delay-run_for : (s : Life) (j : ℕ) → delay (run_for j s) ≡ option_map (λ a. a - j) (delay s)
-delay-run_for s j = delay_of-run s.back s.front j
+delay-run_for s j = delay_of-run s.background s.foreground j
 
 -- what has just started has no delay
-delay-start_of : (back : Option TakeView) (front : Option Foreground) →
-    delay (start_of back (record { front = front; back = back })) ≡ None
-delay-start_of None front = refl
-delay-start_of (Some take) front = refl
+delay-start_of : (background : Option TakeView) (foreground : Option Foreground) →
+    delay (start_of background (record { foreground = foreground; background = background })) ≡ None
+delay-start_of None foreground = refl
+delay-start_of (Some take) foreground = refl
 
 pub delay-start : (s : Life) → delay (start s) ≡ None
-delay-start s = delay-start_of s.back s.front
+delay-start s = delay-start_of s.background s.foreground
 
 -- a place without a delay only runs
 pub after-none : (s : Life) (k : ℕ) → delay s ≡ None → after s k ≡ run_for k s
@@ -137,22 +137,19 @@ after_before s j k a e h (inr early) =
     let within : j + k ≤ a = omega arith in
     after-early (run_for j s) (a - j) k left early ∙ run_for-add s j k ∙ sym (after-early s a (j + k) e within)
 
-lt_or_le : (a b : ℕ) → (a < b) ⊎ (b ≤ a)
-lt_or_le a b = grind arith
-
 after_some : (s : Life) (j k a : ℕ) → delay s ≡ Some a → (a < j) ⊎ (j ≤ a) → after (after s j) k ≡ after s (j + k)
 after_some s j k a e (inl past) = after_past s j k a e past
 after_some s j k a e (inr early) =
-    ap (λ t. after t k) (after-early s a j e early) ∙ after_before s j k a e early (lt_or_le (a - j) k)
+    ap (λ t. after t k) (after-early s a j e early) ∙ after_before s j k a e early (cases_lt (a - j) k)
 
 after_by : (s : Life) (j k : ℕ) (wait : Option ℕ) → delay s ≡ wait → after (after s j) k ≡ after s (j + k)
 after_by s j k None e =
     let still : delay (run_for j s) ≡ None = delay-run_for s j ∙ ap (option_map (λ n. n - j)) e in
     ap (λ t. after t k) (after-none s j e) ∙ after-none (run_for j s) k still ∙ run_for-add s j k
     ∙ sym (after-none s (j + k) e)
-after_by s j k (Some a) e = after_some s j k a e (lt_or_le a j)
+after_by s j k (Some a) e = after_some s j k a e (cases_lt a j)
 
--- so many ticks and then so many more are all of them at once
+-- `j` ticks and then `k` ticks are all of them at once
 pub after-add : (s : Life) (j k : ℕ) → after (after s j) k ≡ after s (j + k)
 after-add s j k = after_by s j k (delay s) refl
 
@@ -176,14 +173,6 @@ steps_are_after zero s = sym (after-zero s)
 steps_are_after (suc n) s =
     ap step (steps_are_after n s) ∙ step_is_after (after s n) ∙ after-add s n 1
     ∙ ap (after s) (add-one n)
-
--- the place after the acts, later on, is the place run on
-pub life-later : (act : Act) (before : List Act) (t k : ℕ) → act.ticks ≤ t →
-    life (act ∷ before) (t + k) ≡ after (life (act ∷ before) t) k
-life-later act before t k h =
-    let same : t + k - act.ticks ≡ (t - act.ticks) + k = omega arith in
-    ap (after (effect act.cmd (life before act.ticks))) same
-    ∙ sym (after-add (effect act.cmd (life before act.ticks)) (t - act.ticks) k)
 
 -- before an automatic start is due the next tick shows the place as it stands, when it is due the tick starts it
 pub ready_before : (s : Life) (a j : ℕ) → delay s ≡ Some a → j < a → ready (after s j) ≡ after s j

@@ -3,8 +3,8 @@ use Rattle.std.proofs.Common.{◌≡◌, ℕ, zero, suc, Bool, true, false, cond
 use Rattle.std.proofs.lemmas.Bool.{false≢true}
 use Rattle.play_types.specs.declared.event.Event.{Event}
 use Rattle.play_types.specs.declared.event.Event.TheVariants as event
-use Rattle.history_model.specs.ScriptHistory.{Playout, Played, events_at, ends_at, events_after, script_events, goes_on_after, goes_on}
-use Rattle.history_model.specs.ScriptOutput.{tick_output, ticks_output, output_at, output_after, script_output}
+use Rattle.history_model.specs.scripts.History.{Playout, PlayedLine, events_at, ends_at, events_after, script_events, goes_on_after, goes_on}
+use Rattle.history_model.specs.scripts.Output.{tick_output, ticks_output, output_at, output_after, script_output}
 
 -- the run goes on after lines only where it goes on after the first of them
 first_goes_on : (b more : Bool) → cond b false more ≡ true → (b ≡ false) × (more ≡ true)
@@ -12,7 +12,7 @@ first_goes_on true more on = absurd (false≢true on)
 first_goes_on false more on = (refl, on)
 
 -- one line more: it goes on after all of them and does not end at the next
-goes_on_after-snoc : (playout : Playout) (before lines : List Played) (line : Played) → goes_on_after playout before lines ≡ true
+goes_on_after-snoc : (playout : Playout) (before lines : List PlayedLine) (line : PlayedLine) → goes_on_after playout before lines ≡ true
     → ends_at playout (before ++ lines) line line.line ≡ false → goes_on_after playout before (lines ++ line ∷ []) ≡ true
 unfolding goes_on_after
 goes_on_after-snoc playout before [] line on goes =
@@ -23,7 +23,7 @@ goes_on_after-snoc playout before (first ∷ lines) line on goes =
     ∙ goes_on_after-snoc playout (before ++ first ∷ []) lines line parts.1
     (ap (λ ls. ends_at playout ls line line.line) (append_assoc before (first ∷ []) lines) ∙ goes)
 
-pub goes_on-snoc : (playout : Playout) (lines : List Played) (line : Played) → goes_on playout lines ≡ true
+pub goes_on-snoc : (playout : Playout) (lines : List PlayedLine) (line : PlayedLine) → goes_on playout lines ≡ true
     → ends_at playout lines line line.line ≡ false → goes_on playout (lines ++ line ∷ []) ≡ true
 unfolding goes_on
 goes_on-snoc playout lines line on goes = goes_on_after-snoc playout [] lines line on goes
@@ -37,7 +37,7 @@ last_events : (b : Bool) (es : List Event) → (es ++ cond b [] []) ≡ es
 last_events true es = append-nil es
 last_events false es = append-nil es
 
-events_after-snoc : (playout : Playout) (before lines : List Played) (line : Played) → goes_on_after playout before lines ≡ true
+events_after-snoc : (playout : Playout) (before lines : List PlayedLine) (line : PlayedLine) → goes_on_after playout before lines ≡ true
     → events_after playout before (lines ++ line ∷ []) ≡ events_after playout before lines ++ events_at playout (before ++ lines) line line.line
 unfolding events_after goes_on_after
 events_after-snoc playout before [] line on =
@@ -55,7 +55,7 @@ events_after-snoc playout before (first ∷ lines) line on =
     (sym parts.0)
 
 -- the events of a line come after those of the lines before it
-pub script_events-snoc : (playout : Playout) (lines : List Played) (line : Played) → goes_on playout lines ≡ true
+pub script_events-snoc : (playout : Playout) (lines : List PlayedLine) (line : PlayedLine) → goes_on playout lines ≡ true
     → script_events playout (lines ++ line ∷ []) ≡ script_events playout lines ++ events_at playout lines line line.line
 unfolding script_events goes_on
 script_events-snoc playout lines line on = events_after-snoc playout [] lines line on
@@ -68,7 +68,7 @@ last_text : (b : Bool) (text : List ℕ) → (text ++ cond b [] []) ≡ text
 last_text true text = append-nil text
 last_text false text = append-nil text
 
-output_after-snoc : (playout : Playout) (before lines : List Played) (line : Played) → goes_on_after playout before lines ≡ true
+output_after-snoc : (playout : Playout) (before lines : List PlayedLine) (line : PlayedLine) → goes_on_after playout before lines ≡ true
     → output_after playout before (lines ++ line ∷ []) ≡ output_after playout before lines ++ output_at playout (before ++ lines) line line.line
 unfolding output_after goes_on_after
 output_after-snoc playout before [] line on =
@@ -86,7 +86,7 @@ output_after-snoc playout before (first ∷ lines) line on =
     (sym parts.0)
 
 -- what is written for a line comes after what is written for the lines before it
-pub script_output-snoc : (playout : Playout) (lines : List Played) (line : Played) → goes_on playout lines ≡ true
+pub script_output-snoc : (playout : Playout) (lines : List PlayedLine) (line : PlayedLine) → goes_on playout lines ≡ true
     → script_output playout (lines ++ line ∷ []) ≡ script_output playout lines ++ output_at playout lines line line.line
 unfolding script_output goes_on
 script_output-snoc playout lines line on = output_after-snoc playout [] lines line on
@@ -96,7 +96,7 @@ unfolding script_output output_after
 script_output-none playout = refl
 
 -- nothing is written for what follows a line at which the run ends
-output_after-ended : (playout : Playout) (before lines : List Played) (line : Played) (rest : List Played) → goes_on_after playout before lines ≡ true
+output_after-ended : (playout : Playout) (before lines : List PlayedLine) (line : PlayedLine) (rest : List PlayedLine) → goes_on_after playout before lines ≡ true
     → ends_at playout (before ++ lines) line line.line ≡ true
     → output_after playout before (lines ++ line ∷ rest) ≡ output_after playout before (lines ++ line ∷ [])
 unfolding output_after goes_on_after
@@ -111,7 +111,7 @@ output_after-ended playout before (first ∷ lines) line rest on ends =
     (output_after-ended playout (before ++ first ∷ []) lines line rest parts.1
     (ap (λ ls. ends_at playout ls line line.line) (append_assoc before (first ∷ []) lines) ∙ ends))
 
-pub script_output-ended : (playout : Playout) (lines : List Played) (line : Played) (rest : List Played) → goes_on playout lines ≡ true
+pub script_output-ended : (playout : Playout) (lines : List PlayedLine) (line : PlayedLine) (rest : List PlayedLine) → goes_on playout lines ≡ true
     → ends_at playout lines line line.line ≡ true
     → script_output playout (lines ++ line ∷ rest) ≡ script_output playout lines ++ output_at playout lines line line.line
 unfolding script_output goes_on

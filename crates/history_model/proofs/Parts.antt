@@ -3,7 +3,7 @@ use Rattle.std.proofs.Common.{◌≡◌, ℕ, ◌<◌, Bool, true, false, cond, 
 use Rattle.std.proofs.lemmas.Bool.Decides.{nat_tests}
 use Rattle.std.specs.List.{onto_first}
 use Rattle.std.specs.Str.Lines.{strip_carriage_return, lines, lines_of_parts}
-use Rattle.history_model.specs.ScriptInput.{parts, ended_parts, last_part, ended_lines, unended}
+use Rattle.history_model.specs.scripts.Input.{parts, ended_parts, last_part, ended_lines, unended}
 
 -- the byte at the end of the last part
 onto_last : List (List ℕ) → ℕ → List (List ℕ)

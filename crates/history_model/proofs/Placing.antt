@@ -2,11 +2,12 @@
 use Rattle.std.proofs.Common.{◌≡◌, ℕ, ◌+◌, ◌*◌, ◌/◌, ◌<◌, ◌≤◌, Bool, true, ◌&&◌, pos, ◌-ℤ◌, ◌*ℤ◌, ap, ap₂, ◌∙◌, arith, add-zero, mul-zero, lt-ltb, le-leb, if◌then◌else◌}
 use Rattle.std.specs.Prelude.{Some, None, int_le, int_lt}
 use Rattle.play_types.specs.declared.geometry.Geometry.{Geometry}
+use Rattle.play_types.specs.declared.setting.TheConstants.{MICROS_PER_UNIT}
 use Rattle.play_types.specs.declared.setting.Prop.TheVariants.{Fill, Clip}
 use Rattle.pixel_math.specs.Pixel.{PixelView}
 use Rattle.pixel_math.proofs.Pixels.{fade_whole}
-use Rattle.history_model.specs.Value.{default_of}
-use Rattle.history_model.specs.Placing.{floor_div, column_in, twice_middle, twice_part, filled_column, is_kept, visible_column, faded_at, placed_pixel}
+use Rattle.history_model.specs.stage.Value.{default_of}
+use Rattle.history_model.specs.pictures.Placing.{floor_div, column_in, twice_middle, twice_part, filled_column, is_kept, visible_column, faded_at, placed_pixel}
 
 -- the middle of a column lies in that column
 middle_column : (x : ℕ) → (2 * x + 1) * 1000000 / 2000000 ≡ x
@@ -44,9 +45,9 @@ visible_column-default_rows height y h =
     ap (λ (t : Bool). if t then filled_column height (pos 0) (pos 1000000) y else None) (is_kept-default height y h)
     ∙ filled_column-default height y h
 
--- by the default fill and clip a placed pixel is the raster's pixel there at the opacity, and at opacity 1 it is that pixel
+-- by the default fill and clip a placed pixel is the raster's pixel there at the opacity, and at full opacity it is that pixel
 pub placed_pixel-default : (frame : Geometry) (raster : ℕ → ℕ → PixelView) (x y : ℕ) → x < frame.width → y < frame.height →
-    placed_pixel frame (default_of Fill) (default_of Clip) (pos 1000000) raster x y ≡ raster x y
+    placed_pixel frame (record { fill = default_of Fill; clip = default_of Clip; opacity = MICROS_PER_UNIT }) raster x y ≡ raster x y
 placed_pixel-default frame raster x y h k =
     ap₂ (λ column row. faded_at column row raster 1000000)
     (visible_column-default_columns frame.width x h) (visible_column-default_rows frame.height y k)

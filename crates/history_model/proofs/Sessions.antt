@@ -1,20 +1,19 @@
 -- The steps of a session whose stream grows: what was given stays given, and after an end nothing more is given.
-use Rattle.std.proofs.Common.{◌≡◌, ℕ, suc, ◌+◌, ◌<◌, ◌≤◌, Bool, true, false, cond, ◌||◌, ◌==◌, List, [], ◌∷◌, ◌++◌, map, take, length, refl, sym, ap, ap₂, ◌∙◌, arith, inl, inr, append-nil}
-use Rattle.std.specs.Prelude.{Option, None, slice_get, filter_map, All}
+use Rattle.std.proofs.Common.{◌≡◌, ℕ, suc, ◌+◌, ◌<◌, ◌≤◌, Bool, true, false, cond, ◌==◌, List, [], ◌∷◌, ◌++◌, map, take, length, refl, ap, ap₂, ◌∙◌, arith, inl, inr}
+use Rattle.std.proofs.Math.Bool.{or-false}
+use Rattle.std.specs.Prelude.{Option, None, filter_map, All}
 use Rattle.std.specs.List.{list_any, enumerate_from, position_or_len}
 use Rattle.std.proofs.lemmas.Bool.{cases_Bool, or_parts, ne_eqb}
-use Rattle.std.proofs.lemmas.Option.{slice_get_past}
 use Rattle.std.proofs.lemmas.List.{map-append, length-map, length-take, take-append-le}
 use Rattle.std.proofs.lemmas.List.Elements.{filter_map-append}
 use Rattle.std.proofs.lemmas.List.Folds.{list_any-append, list_any_none}
 use Rattle.std.proofs.lemmas.List.FromFn.{length-enumerate_from}
-use Rattle.amcp_text.specs.Lines.{Line, lines_of, IsEnded}
+use Rattle.amcp_text.specs.Lines.{Line}
 use Rattle.amcp_text.proofs.FirstEnd.{position_or_len_some}
-use Rattle.amcp_text.proofs.LineLaws.{lines_of-append}
 use Rattle.play_types.specs.Config.{ConfigView}
 use Rattle.play_types.specs.Media.{MediaNameView}
-use Rattle.history_model.specs.SessionLine.{line_meaning, asked_by}
-use Rattle.history_model.specs.Session.{Step, is_given_up, asked_by_line, asks, step_of_line, is_end, until_end, line_steps, steps}
+use Rattle.history_model.specs.sessions.Line.{line_meaning, asked_by}
+use Rattle.history_model.specs.sessions.Session.{Step, is_given_up, asked_by_line, asks, step_of_line, is_end, until_end, line_steps}
 
 -- the numbers of two lists in a row
 pub enumerate_from-append : {X : Type 0} (n : ℕ) (xs ys : List X)
@@ -39,10 +38,6 @@ filter_map-enumerated : {X Y : Type 0} (f g : ℕ × X → Option Y) (n : ℕ) (
 filter_map-enumerated f g n [] same = refl
 filter_map-enumerated f g n (x ∷ xs) same =
     rw (same n x (omega arith) (omega arith), filter_map-enumerated f g (n + 1) xs (λ k y above below. same k y (omega arith) (omega arith))) refl
-
-or-false : (b : Bool) → (b || false) ≡ b
-or-false true = refl
-or-false false = refl
 
 -- a line below the numbers that were given up later
 is_given_up-later : (given_up later : List ℕ) (n number : ℕ) → All (λ k. n ≤ k) later → number < n
@@ -107,11 +102,11 @@ pub line_steps-append : (config : ConfigView) (media : List MediaNameView) (give
 unfolding line_steps
 line_steps-append config media given_up lines more =
     let same : 0 + length lines ≡ length lines = omega arith in
-    let front = map-enumerated (step_of_line config media given_up (lines ++ more)) (step_of_line config media given_up lines) 0 lines
+    let first = map-enumerated (step_of_line config media given_up (lines ++ more)) (step_of_line config media given_up lines) 0 lines
     (λ k line above below. step_of_line-append config media given_up lines more k line (omega arith)) in
-    rw (enumerate_from-append 0 lines more, same, map-append, front) refl
+    rw (enumerate_from-append 0 lines more, same, map-append, first) refl
 
--- the same for one line more
+-- the steps of one line more
 pub line_steps-snoc : (config : ConfigView) (media : List MediaNameView) (given_up : List ℕ) (lines : List Line) (line : Line)
     → line_steps config media given_up (lines ++ line ∷ [])
     ≡ line_steps config media given_up lines ++ step_of_line config media given_up lines (length lines, line) ∷ []
@@ -168,34 +163,8 @@ until_end-going (x ∷ xs) more h =
     let next : 1 + position_or_len is_end (xs ++ more) + 1 ≡ suc (position_or_len is_end (xs ++ more) + 1) = omega arith in
     rw (parts.0, next) (ap (λ ss. x ∷ ss) (until_end-going xs more parts.1))
 
-pub until_end-none : (all : List Step) → list_any is_end all ≡ false → until_end all ≡ all
-until_end-none all h = ap until_end (sym (append-nil all)) ∙ until_end-going all [] h ∙ append-nil all
-
 pub length-until_end : (all : List Step) → length (until_end all) ≤ length all
 length-until_end all = omega (arith, length-take (position_or_len is_end all + 1) all)
-
--- more steps are given at the end alone
-pub record IsFront (front whole : List Step) : Type 0 where
-  pub added : List Step
-  pub parts : whole ≡ front ++ added
-
-pub until_end-append : (before more : List Step) → IsFront (until_end before) (until_end (before ++ more))
-until_end-append before more = elim (cases_Bool (list_any is_end before)) [
-  | inl ends ↦ record { added = []; parts = until_end-ended before more ends ∙ sym (append-nil (until_end before)) }
-  | inr goes ↦ record {
-    added = until_end more;
-    parts = until_end-going before more goes ∙ ap (λ (ss : List Step). ss ++ until_end more) (sym (until_end-none before goes));
-  }
-]
-
--- what was given of lines stays given, whatever comes after them
-pub until_end-lines : (config : ConfigView) (media : List MediaNameView) (given_up later : List ℕ) (lines more : List Line)
-    → All (λ k. length lines ≤ k) later
-    → IsFront (until_end (line_steps config media given_up lines)) (until_end (line_steps config media (given_up ++ later) (lines ++ more)))
-until_end-lines config media given_up later lines more high =
-    let l = line_steps-longer config media given_up later lines more high in
-    let front = until_end-append (line_steps config media given_up lines) l.added in
-    record { added = front.added; parts = ap until_end l.whole ∙ front.parts }
 
 -- after an end nothing more is given, whatever lines come
 pub until_end-lines_ended : (config : ConfigView) (media : List MediaNameView) (given_up later : List ℕ) (lines more : List Line)
@@ -204,34 +173,3 @@ pub until_end-lines_ended : (config : ConfigView) (media : List MediaNameView) (
 until_end-lines_ended config media given_up later lines more high ended =
     let l = line_steps-longer config media given_up later lines more high in
     ap until_end l.whole ∙ until_end-ended (line_steps config media given_up lines) l.added ended
-
--- so a later line has no step
-pub none_after_end : (config : ConfigView) (media : List MediaNameView) (given_up later : List ℕ) (lines more : List Line) (number : ℕ)
-    → All (λ k. length lines ≤ k) later → list_any is_end (line_steps config media given_up lines) ≡ true → length lines ≤ number
-    → slice_get (until_end (line_steps config media (given_up ++ later) (lines ++ more))) number ≡ None
-none_after_end config media given_up later lines more number high ended past =
-    let all = line_steps config media given_up lines in
-    rw (until_end-lines_ended config media given_up later lines more high ended)
-    (slice_get_past (until_end all) number (omega (arith, length-until_end all, length-line_steps config media given_up lines)))
-
--- what was given of a stream that is cut at a line's end stays given
-pub steps-append : (config : ConfigView) (media : List MediaNameView) (given_up later : List ℕ) (whole rest : List ℕ)
-    → IsEnded whole → All (λ k. length (lines_of whole) ≤ k) later
-    → IsFront (steps config media given_up whole) (steps config media (given_up ++ later) (whole ++ rest))
-unfolding steps
-steps-append config media given_up later whole rest ended high =
-    let front = until_end-lines config media given_up later (lines_of whole) (lines_of rest) high in
-    record {
-      added = front.added;
-      parts = ap (λ (ls : List Line). until_end (line_steps config media (given_up ++ later) ls)) (lines_of-append whole rest ended) ∙ front.parts;
-    }
-
--- after an end nothing more is given, whatever bytes come
-pub steps-ended : (config : ConfigView) (media : List MediaNameView) (given_up later : List ℕ) (whole rest : List ℕ)
-    → IsEnded whole → All (λ k. length (lines_of whole) ≤ k) later
-    → list_any is_end (line_steps config media given_up (lines_of whole)) ≡ true
-    → steps config media (given_up ++ later) (whole ++ rest) ≡ steps config media given_up whole
-unfolding steps
-steps-ended config media given_up later whole rest cut high ended =
-    ap (λ (ls : List Line). until_end (line_steps config media (given_up ++ later) ls)) (lines_of-append whole rest cut)
-    ∙ until_end-lines_ended config media given_up later (lines_of whole) (lines_of rest) high ended

@@ -1,39 +1,12 @@
--- Trails: what does not touch a place leaves its trail, and a swap that is done twice does so too.
-use Rattle.std.proofs.Common.{◌≡◌, ℕ, Bool, true, false, ◌&&◌, ◌||◌, ◌==◌, List, [], ◌∷◌, refl, sym, ap, ap₂, ◌∙◌, eqb-true, eq-eqb, if◌then◌else◌}
+-- Trails: what does not touch a place leaves its trail.
+use Rattle.std.proofs.Common.{◌≡◌, ℕ, Bool, false, ◌==◌, List, [], ◌∷◌, refl, ap, ◌∙◌, if◌then◌else◌}
+use Rattle.std.proofs.lemmas.Bool.{or_parts}
 use Rattle.play_types.specs.Place.{PlaceView}
 use Rattle.play_types.specs.declared.command.Cmd.{Cmd}
 use Rattle.play_types.specs.declared.command.Cmd.TheVariants.{Load, LoadBg, Play, PlayTake, Pause, Resume, StopLayer, ClearLayer, ClearChannel, SwapLayers, SwapChannels, Set, CommitMixer, ResetLayer, ResetChannel, Value, Info}
-use Rattle.history_model.specs.Act.{Act}
-use Rattle.history_model.specs.Trail.{same_place, swapped_place, channel_swapped_place, content_origin, acts_on_content, acts_along, trail, tuning}
-use Rattle.history_model.specs.Touched.{touches, some_touches}
-
--- what holds of the two sides of a sum of tests that fails
-pub left_false : (a b : Bool) → (a || b) ≡ false → a ≡ false
-left_false true b e = e
-left_false false b e = refl
-
-pub right_false : (a b : Bool) → (a || b) ≡ false → b ≡ false
-right_false true b e = cc
-right_false false b e = e
-
-left_true : (a b : Bool) → (a && b) ≡ true → a ≡ true
-left_true true b e = refl
-left_true false b e = e
-
-right_true : (a b : Bool) → (a && b) ≡ true → b ≡ true
-right_true true b e = e
-right_true false b e = cc
-
--- places that pass the test are the same, and a place passes it with itself
-pub same_place-true : (a b : PlaceView) → same_place a b ≡ true → a ≡ b
-same_place-true a b e =
-    let channels : a.channel ≡ b.channel = eqb-true a.channel b.channel (left_true _ _ e) in
-    let layers : a.layer ≡ b.layer = eqb-true a.layer b.layer (right_true (a.channel == b.channel) _ e) in
-    ap₂ {A = ℕ} {B = ℕ} {C = PlaceView} (λ c l. record { channel = c; layer = l }) channels layers
-
-pub same_place-refl : (a : PlaceView) → same_place a a ≡ true
-same_place-refl a =
-    ap₂ (λ x y. x && y) (eq-eqb a.channel a.channel refl) (eq-eqb a.layer a.layer refl)
+use Rattle.history_model.specs.stage.Act.{Act}
+use Rattle.history_model.specs.stage.Trail.{same_place, swapped_place, channel_swapped_place, content_origin, acts_on_content, acts_along, trail}
+use Rattle.history_model.specs.stage.Touched.{touches, some_touches}
 
 -- an act that neither acts on the place nor moves it
 acts_along-skip : (acts_on : Cmd → PlaceView → Bool) (origin : Cmd → PlaceView → PlaceView) (act : Act) (before : List Act) (place : PlaceView) →
@@ -87,9 +60,9 @@ content_origin-other (StopLayer at) place e = refl
 content_origin-other (ClearLayer at) place e = refl
 content_origin-other (ClearChannel channel) place e = refl
 content_origin-other (SwapLayers a b transforms) place e =
-    swapped_place-other a b place (left_false _ _ e) (right_false (same_place place a) _ e)
+    let apart = or_parts (same_place place a) _ e in swapped_place-other a b place apart.0 apart.1
 content_origin-other (SwapChannels a b transforms) place e =
-    channel_swapped_place-other a b place (left_false _ _ e) (right_false (place.channel == a) _ e)
+    let apart = or_parts (place.channel == a) _ e in channel_swapped_place-other a b place apart.0 apart.1
 content_origin-other (Set setting) place e = refl
 content_origin-other (CommitMixer channel) place e = refl
 content_origin-other (ResetLayer at) place e = refl
@@ -108,96 +81,5 @@ trail-other act before place e =
 pub trail-untouched : (acts : List Act) (place : PlaceView) → some_touches acts place ≡ false → trail acts place ≡ []
 trail-untouched [] place e = refl
 trail-untouched (act ∷ before) place e =
-    trail-other act before place (left_false _ _ e)
-    ∙ trail-untouched before place (right_false (touches act.cmd place) _ e)
-
--- exchanged twice a place is back
-swapped_place-both : (a b place : PlaceView) (first second : Bool) →
-    same_place place a ≡ first → same_place place b ≡ second → swapped_place a b (swapped_place a b place) ≡ place
-swapped_place-both a b place true second is_a e =
-    let here : swapped_place a b place ≡ b = ap (λ (t : Bool). if t then b else (if same_place place b then a else place)) is_a in
-    ap (swapped_place a b) here ∙ back (same_place b a) refl
-  where
-    same : place ≡ a
-    same = same_place-true place a is_a
-
-    back : (t : Bool) → same_place b a ≡ t → swapped_place a b b ≡ place
-    back true e' =
-        ap (λ (t : Bool). if t then b else (if same_place b b then a else b)) e'
-        ∙ same_place-true b a e' ∙ sym same
-    back false e' =
-        ap (λ (t : Bool). if t then b else (if same_place b b then a else b)) e'
-        ∙ ap (λ (t : Bool). if t then a else b) (same_place-refl b) ∙ sym same
-swapped_place-both a b place false true not_a is_b =
-    let here : swapped_place a b place ≡ a =
-    ap (λ (t : Bool). if t then b else (if same_place place b then a else place)) not_a
-    ∙ ap (λ (t : Bool). if t then a else place) is_b in
-    ap (swapped_place a b) here
-    ∙ ap (λ (t : Bool). if t then b else (if same_place a b then a else a)) (same_place-refl a)
-    ∙ sym (same_place-true place b is_b)
-swapped_place-both a b place false false not_a not_b =
-    let here : swapped_place a b place ≡ place = swapped_place-other a b place not_a not_b in
-    ap (swapped_place a b) here ∙ here
-
-pub swapped_place-twice : (a b place : PlaceView) → swapped_place a b (swapped_place a b place) ≡ place
-swapped_place-twice a b place = swapped_place-both a b place (same_place place a) (same_place place b) refl refl
-
--- the same for a swap of channels
-channel_swapped_place-both : (a b : ℕ) (place : PlaceView) (first second : Bool) →
-    (place.channel == a) ≡ first → (place.channel == b) ≡ second → channel_swapped_place a b (channel_swapped_place a b place) ≡ place
-channel_swapped_place-both a b place true second is_a e =
-    let here : channel_swapped_place a b place ≡ at b =
-    ap (λ (t : Bool). if t then at b else (if place.channel == b then at a else place)) is_a in
-    ap (channel_swapped_place a b) here ∙ back (b == a) refl
-  where
-    at : ℕ → PlaceView
-    at channel = record place { channel = channel }
-
-    same : place.channel ≡ a
-    same = eqb-true place.channel a is_a
-
-    back : (t : Bool) → (b == a) ≡ t → channel_swapped_place a b (at b) ≡ place
-    back true e' =
-        ap (λ (t : Bool). if t then at b else (if b == b then at a else at b)) e'
-        ∙ ap at (eqb-true b a e' ∙ sym same)
-    back false e' =
-        ap (λ (t : Bool). if t then at b else (if b == b then at a else at b)) e'
-        ∙ ap (λ (t : Bool). if t then at a else at b) (eq-eqb b b refl) ∙ ap at (sym same)
-channel_swapped_place-both a b place false true not_a is_b =
-    let here : channel_swapped_place a b place ≡ at a =
-    ap (λ (t : Bool). if t then at b else (if place.channel == b then at a else place)) not_a
-    ∙ ap (λ (t : Bool). if t then at a else place) is_b in
-    ap (channel_swapped_place a b) here
-    ∙ ap (λ (t : Bool). if t then at b else (if a == b then at a else at a)) (eq-eqb a a refl)
-    ∙ ap at (sym (eqb-true place.channel b is_b))
-  where
-    at : ℕ → PlaceView
-    at channel = record place { channel = channel }
-channel_swapped_place-both a b place false false not_a not_b =
-    let here : channel_swapped_place a b place ≡ place = channel_swapped_place-other a b place not_a not_b in
-    ap (channel_swapped_place a b) here ∙ here
-
-pub channel_swapped_place-twice : (a b : ℕ) (place : PlaceView) → channel_swapped_place a b (channel_swapped_place a b place) ≡ place
-channel_swapped_place-twice a b place =
-    channel_swapped_place-both a b place (place.channel == a) (place.channel == b) refl refl
-
--- a swap done twice gives every trail back, and with transforms every tuning
-pub trail-swap_twice : (a b : PlaceView) (first second : Bool) (m n : ℕ) (before : List Act) (place : PlaceView) →
-    trail (record { cmd = SwapLayers a b second; ticks = n } ∷ record { cmd = SwapLayers a b first; ticks = m } ∷ before) place
-    ≡ trail before place
-trail-swap_twice a b first second m n before place = ap (trail before) (swapped_place-twice a b place)
-
-pub trail-swap_channels_twice : (a b : ℕ) (first second : Bool) (m n : ℕ) (before : List Act) (place : PlaceView) →
-    trail (record { cmd = SwapChannels a b second; ticks = n } ∷ record { cmd = SwapChannels a b first; ticks = m } ∷ before) place
-    ≡ trail before place
-trail-swap_channels_twice a b first second m n before place = ap (trail before) (channel_swapped_place-twice a b place)
-
-pub tuning-swap_twice : (a b : PlaceView) (m n : ℕ) (before : List Act) (place : PlaceView) →
-    tuning (record { cmd = SwapLayers a b true; ticks = n } ∷ record { cmd = SwapLayers a b true; ticks = m } ∷ before) place
-    ≡ tuning before place
-tuning-swap_twice a b m n before place = ap (tuning before) (swapped_place-twice a b place)
-
-pub tuning-swap_channels_twice : (a b : ℕ) (m n : ℕ) (before : List Act) (place : PlaceView) →
-    tuning (record { cmd = SwapChannels a b true; ticks = n } ∷ record { cmd = SwapChannels a b true; ticks = m } ∷ before) place
-    ≡ tuning before place
-tuning-swap_channels_twice a b m n before place = ap (tuning before) (channel_swapped_place-twice a b place)
+    let apart = or_parts (touches act.cmd place) _ e in
+    trail-other act before place apart.0 ∙ trail-untouched before place apart.1

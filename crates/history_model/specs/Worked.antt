@@ -18,12 +18,12 @@ use Rattle.play_types.specs.declared.geometry.Geometry.{Geometry}
 use Rattle.play_types.specs.declared.event.Event.{Event}
 use Rattle.play_types.specs.declared.event.Event.TheVariants.{Do, Batch, Tick}
 use Rattle.pixel_math.specs.Pixel.{PixelView, pixel_bytes}
-use Rattle.history_model.specs.Act.{Act}
-use Rattle.history_model.specs.Media.{Setup}
-use Rattle.history_model.specs.Life.{Life, Outgoing}
-use Rattle.history_model.specs.Live.{state}
-use Rattle.history_model.specs.Acts.{acts}
-use Rattle.history_model.specs.Answer.{ChannelFrame, row_pixels, channel_frame}
+use Rattle.history_model.specs.stage.Act.{Act, act_after}
+use Rattle.history_model.specs.pictures.Media.{Setup}
+use Rattle.history_model.specs.stage.Life.{Life, Outgoing}
+use Rattle.history_model.specs.stage.Live.{state}
+use Rattle.history_model.specs.stage.Acts.{acts}
+use Rattle.history_model.specs.stage.Answer.{ChannelFrame, row_pixels, channel_frame}
 
 -- layer l of channel c
 abbrev pub at : ℕ → ℕ → PlaceView
@@ -33,7 +33,7 @@ at c l = record { channel = c; layer = l }
 abbrev pub ask : Cmd → Event
 ask cmd = Do (record { worker = 1; session = 1 }) cmd
 
--- a batch of the same session
+-- a batch of session 1 of worker 1
 abbrev pub batch : List Cmd → Event
 batch cmds = Batch (record { worker = 1; session = 1 }) cmds
 
@@ -61,7 +61,7 @@ route c = plain (RouteChannel c)
 abbrev pub layer_route : ℕ → ℕ → TakeView
 layer_route c l = plain (RouteLayer (at c l))
 
--- so many frames of a clip, from the first on, with a cut
+-- the first `length` frames of a clip, with a cut
 abbrev pub clip : ℕ → ℕ → TakeView
 clip id length = record { spec = Clip id; looped = false; seek = 0; length = length; trans = cut; auto = false }
 
@@ -79,7 +79,7 @@ automatic take = record take { auto = true }
 abbrev pub plays : PlaceView → TakeView → Event
 plays place take = ask (PlayTake place take)
 
--- a setting to values in millionths, in so many ticks
+-- a setting to values in millionths, in `duration` ticks
 abbrev pub setting : PlaceView → Prop → List ℤ → ℕ → SettingView
 setting place prop values duration =
     record { place = place; prop = prop; values = values; duration = duration; curve = Linear; deferred = false }
@@ -87,7 +87,7 @@ setting place prop values duration =
 abbrev pub sets : PlaceView → Prop → List ℤ → Event
 sets place prop values = ask (Set (setting place prop values 0))
 
--- the same, deferred
+-- a deferred setting to values in millionths, at once when it is committed
 abbrev pub deferred : PlaceView → Prop → List ℤ → SettingView
 deferred place prop values = record (setting place prop values 0) { deferred = true }
 
@@ -101,7 +101,7 @@ number value = value ∷ pos 0 ∷ pos 0 ∷ pos 0 ∷ []
 abbrev pub numbers : ℤ → ℤ → ℤ → ℤ → List ℤ
 numbers a b c d = a ∷ b ∷ c ∷ d ∷ []
 
--- so many columns and one row, with so many pairs of sound
+-- `width` columns and one row, with `pairs` pairs of sound
 abbrev pub strip : ℕ → ℕ → Geometry
 strip width pairs = record { width = width; height = 1; pairs = pairs }
 
@@ -122,7 +122,7 @@ media =
     ∷ film 1 2 1 (0 ∷ 0 ∷ 0 ∷ 255 ∷ 0xe8 ∷ 3 ∷ 0x18 ∷ 0xfc ∷ 0xff ∷ 0x7f ∷ 0 ∷ 0x80 ∷ [])
     ∷ []
 
--- one channel of one row with so many columns and no sound, and three channels of one pixel and three pairs
+-- one channel of one row with `width` columns and no sound, and three channels of one pixel and three pairs
 abbrev pub one : ℕ → Setup
 one width = record { channels = strip width 0 ∷ []; clips = media }
 
@@ -141,21 +141,17 @@ abbrev pub row_text : Setup → ℕ → List Event → List ℕ
 row_text setup channel history =
     flat_map (λ pixel. flat_map hex_of (pixel_bytes pixel)) (row_pixels setup history channel 0)
 
--- a command after so many ticks
-abbrev pub act : ℕ → Cmd → Act
-act ticks cmd = record { cmd = cmd; ticks = ticks }
-
 -- a take put into the background of each of the layers below n of channel 1
 abbrev pub loads : ℕ → List Event
 loads zero = []
 loads (suc n) = ask (LoadBg (at 1 n) red) ∷ loads n
 
--- so many deferred settings of channel 1
+-- `n` deferred settings of channel 1
 abbrev pub deferred_acts : ℕ → List Act
 deferred_acts zero = []
-deferred_acts (suc n) = act 0 (Set (deferred (at 1 0) Opacity (number (pos 0)))) ∷ deferred_acts n
+deferred_acts (suc n) = act_after 0 (Set (deferred (at 1 0) Opacity (number (pos 0)))) ∷ deferred_acts n
 
--- so many ticks
+-- `n` ticks
 abbrev pub ticking : ℕ → List Event
 ticking n = replicate n Tick
 
@@ -167,23 +163,23 @@ samples_of setup channel history = (channel_frame setup history channel).samples
 abbrev pub place_after : List Event → PlaceView → Life
 place_after history place = state (acts history) (ticks history) place
 
--- a place with nothing but a foreground without an outgoing content: shown for so many ticks, and running or paused
+-- a place with nothing but a foreground without an outgoing content: shown for `shown` ticks, and running or paused
 abbrev pub running : TakeView → ℕ → Life
 running take shown =
-    record { front = Some (record { take = take; shown = shown; paused = false; old = None }); back = None }
+    record { foreground = Some (record { take = take; shown = shown; paused = false; old = None }); background = None }
 
 abbrev pub paused : TakeView → ℕ → Life
 paused take shown =
-    record { front = Some (record { take = take; shown = shown; paused = true; old = None }); back = None }
+    record { foreground = Some (record { take = take; shown = shown; paused = true; old = None }); background = None }
 
--- the same with a background
-abbrev pub with_back : Life → TakeView → Life
-with_back s take = record s { back = Some take }
+-- a place with a take in its background
+abbrev pub with_background : Life → TakeView → Life
+with_background s take = record s { background = Some take }
 
 -- a foreground that runs and takes an old content away
 abbrev pub over_old : TakeView → ℕ → Outgoing → Life
 over_old take shown old =
-    record { front = Some (record { take = take; shown = shown; paused = false; old = Some old }); back = None }
+    record { foreground = Some (record { take = take; shown = shown; paused = false; old = Some old }); background = None }
 
 abbrev pub old_of : TakeView → ℕ → Bool → Outgoing
 old_of take shown paused = record { take = take; shown = shown; paused = paused }

@@ -3,7 +3,7 @@ ghost use Rattle.std.specs.Prelude.{◌≡◌, ◌<◌, ◌≤◌};
 ghost use Rattle.pixel_math.specs.Arithmetic.{fade_byte, mix_byte, over_byte};
 ghost use Rattle.pixel_math.specs.Pixel.{scaled};
 
-/// `value` times `by` 255ths, rounded to the nearest byte.
+/// Multiplies `value` by `by` 255ths, rounded to the nearest byte.
 pub(crate) fn scaled(value: u8, by: u8) -> u8
     ensures value { result ≡ scaled value by }
     ensures below { result ≤ by }
@@ -11,7 +11,7 @@ pub(crate) fn scaled(value: u8, by: u8) -> u8
     ((u32::from(value) * u32::from(by) + 127) / 255) as u8
 }
 
-/// `upper`, of a pixel with this alpha, over `lower`.
+/// Lays the byte `upper`, of a pixel with this alpha, over `lower`.
 pub(crate) fn over_byte(upper: u8, lower: u8, alpha: u8) -> u8
     requires { upper ≤ alpha }
     ensures { result ≡ over_byte upper lower alpha }
@@ -19,7 +19,7 @@ pub(crate) fn over_byte(upper: u8, lower: u8, alpha: u8) -> u8
     upper + ((u32::from(lower) * u32::from(255 - alpha) + 127) / 255) as u8
 }
 
-/// `value` at an opacity in millionths.
+/// Fades `value` to an opacity in millionths.
 pub(crate) fn fade_byte(value: u8, opacity: u32) -> u8
     requires { opacity ≤ 1000000 }
     ensures { result ≡ fade_byte value opacity }
@@ -27,7 +27,7 @@ pub(crate) fn fade_byte(value: u8, opacity: u32) -> u8
     ((u32::from(value) * opacity + 500_000) / 1_000_000) as u8
 }
 
-/// The byte at step `j` of `d` from `old` to `new`.
+/// Mixes two bytes: the one at step `j` of `d` on the way from `old` to `new`.
 pub(crate) fn mix_byte(old: u8, new: u8, j: u32, d: u32) -> u8
     requires after { 0 < j }
     requires before { j < d }

@@ -1,4 +1,5 @@
-//! Worked values of the formulas, computed by the checker. Bytes stand in the order blue, green, red, alpha.
+//! Worked examples of the formulas. Each is a function that does nothing, and its contract is the example. Bytes stand in
+//! the order blue, green, red, alpha.
 ghost use Rattle.std.specs.Prelude.{◌≡◌, ◌<◌, [], ◌∷◌};
 ghost use Rattle.pixel_math.specs.Arithmetic.{fade, key, mix, over};
 ghost use Rattle.pixel_math.specs.Pixel.{colour_pixel, lowered, pixel_bytes, pixel_of, transparent};

@@ -1,4 +1,4 @@
-//! What holds of the formulas, each law a contract that is proved.
+//! Laws of the formulas. Each is a function that does nothing, and its contract is the law.
 ghost use Rattle.std.specs.Prelude.{◌≡◌, ℕ, ◌<◌, ◌≤◌};
 ghost use Rattle.pixel_math.specs.Arithmetic.{fade, key, mix, over};
 ghost use Rattle.pixel_math.specs.Pixel.{IsPixel, PixelView, colour_pixel, colour_value, lowered, pixel_of, scaled, transparent};

@@ -2,7 +2,7 @@
 //!
 //! A pixel has one byte each of blue, green, red and alpha, its colours multiplied by the alpha and never above it.
 //! Contracts see it as a plain record of four numbers, and each call gives exactly its formula on whole numbers.
-//! No call takes memory, and none refuses anything. [`laws`] has what holds of the formulas, [`examples`] worked values.
+//! No call takes memory, and none fails. [`laws`] has what holds of the formulas, [`examples`] worked values.
 #![tactic(auto)]
 
 mod arithmetic;

@@ -1,4 +1,4 @@
-//! What a pixel is.
+//! Pixels.
 ghost use Rattle.std.specs.Prelude.{◌≡◌};
 ghost use Rattle.pixel_math.specs.Pixel.{IsPixel, colour_pixel, lowered, pixel_bytes, pixel_of, transparent};
 
@@ -27,7 +27,7 @@ impl Model for Pixel {
 }
 
 impl Pixel {
-    /// The pixel of nothing.
+    /// Returns the pixel of nothing: all four bytes are 0.
     pub fn transparent() -> Pixel
         ensures { result ≡ transparent }
     {
@@ -39,7 +39,7 @@ impl Pixel {
         }
     }
 
-    /// These bytes, of which no colour is above the alpha.
+    /// Makes the pixel of these bytes, of which no colour is above the alpha.
     pub(crate) fn new(b: u8, g: u8, r: u8, a: u8) -> Pixel
         requires { IsPixel (pixel_of b g r a) }
         ensures { result ≡ pixel_of b g r a }
@@ -47,7 +47,7 @@ impl Pixel {
         Pixel { b, g, r, a }
     }
 
-    /// These bytes, with each colour above the alpha cut to the alpha.
+    /// Makes the pixel of these bytes, with each colour above the alpha cut to the alpha.
     pub fn lowered(b: u8, g: u8, r: u8, a: u8) -> Pixel
         ensures { result ≡ lowered b g r a }
     {
@@ -59,7 +59,7 @@ impl Pixel {
         }
     }
 
-    /// The pixel of a colour `0xAARRGGBB`, whose red, green and blue are not yet multiplied by its alpha.
+    /// Makes the pixel of a colour `0xAARRGGBB`, whose red, green and blue are not yet multiplied by its alpha.
     pub fn colour(value: u32) -> Pixel
         ensures { result ≡ colour_pixel value }
     {
@@ -72,13 +72,14 @@ impl Pixel {
         }
     }
 
-    /// Blue, green, red and alpha, the order of a frame's bytes.
+    /// Returns blue, green, red and alpha, the order of a frame's bytes.
     pub fn bytes(self) -> [u8; 4]
         ensures { result ≡ pixel_bytes self }
     {
         [self.b, self.g, self.r, self.a]
     }
 
+    /// Returns the blue, multiplied by the alpha.
     pub fn b(self) -> u8
         ensures value { result ≡ self.b }
         ensures range { IsPixel self }
@@ -86,6 +87,7 @@ impl Pixel {
         self.b
     }
 
+    /// Returns the green, multiplied by the alpha.
     pub fn g(self) -> u8
         ensures value { result ≡ self.g }
         ensures range { IsPixel self }
@@ -93,6 +95,7 @@ impl Pixel {
         self.g
     }
 
+    /// Returns the red, multiplied by the alpha.
     pub fn r(self) -> u8
         ensures value { result ≡ self.r }
         ensures range { IsPixel self }
@@ -100,6 +103,7 @@ impl Pixel {
         self.r
     }
 
+    /// Returns the alpha: 0 is transparent, 255 opaque.
     pub fn a(self) -> u8
         ensures value { result ≡ self.a }
         ensures range { IsPixel self }

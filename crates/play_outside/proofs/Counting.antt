@@ -1,11 +1,11 @@
 -- Counts of faults over several calls.
-use Rattle.std.proofs.Common.{◌≡◌, ℕ, ◌≤◌, List, ap, arith}
+use Rattle.std.proofs.Common.{◌≡◌, refl, ℕ, ◌≤◌, List, take, ap, arith}
 use Rattle.std.specs.Prelude.{Option}
-use Rattle.play_outside.specs.Faults.{Rose}
+use Rattle.play_outside.specs.Faults.{Rose, one_more}
 use Rattle.play_outside.specs.SourceState.{SourceState}
 use Rattle.play_outside.specs.Source.{Reads}
-use Rattle.play_outside.specs.SinkState.{SinkState}
-use Rattle.play_outside.specs.Sink.{Sends, Writes}
+use Rattle.play_outside.specs.SinkState.{SinkState, after_taking, after_fault}
+use Rattle.play_outside.specs.Sink.{Sends, Fails, Writes}
 use Rattle.play_outside.specs.FolderState.{FolderState, Files}
 use Rattle.play_outside.specs.Folder.{Finds, Misses}
 use Rattle.play_outside.specs.declared.source.ReadStep.{ReadStep}
@@ -36,17 +36,27 @@ Reads-count read.End buffer before after reads =
     let same : after.faults ≡ before.faults = ap (λ (s : SourceState). s.faults) reads.1 in omega arith
 Reads-count read.Failed buffer before after reads = let rose = reads.1 in omega arith
 
+-- the count of a sink rose in a failed write, after it took bytes
+Failed-rose : (before state after : SinkState) → state.faults ≡ before.faults → after ≡ after_fault state → Rose before.faults after.faults
+Failed-rose before state after same failed =
+    let count : after.faults ≡ one_more state.faults = ap (λ (s : SinkState). s.faults) failed in omega arith
+
+-- the count of a sink rose where it failed
+pub Fails-rose : (bytes : List ℕ) (before after : SinkState) → Fails bytes before after → Rose before.faults after.faults
+Fails-rose bytes before after fails =
+    Failed-rose before (after_taking before (take fails.count bytes)) after refl fails.stopped
+
 -- no write lowers the count
 pub Writes-count : (step : WriteStep) (piece : List ℕ) (before after : SinkState) → Writes step piece before after → before.faults ≤ after.faults
 Writes-count (write.Took count) piece before after writes =
     let same : after.faults ≡ before.faults = ap (λ (s : SinkState). s.faults) writes.2 in omega arith
-Writes-count write.Failed piece before after writes = let rose = writes.1 in omega arith
+Writes-count write.Failed piece before after writes = Rose-le before.faults after.faults (Failed-rose before before after refl writes)
 
 -- sending lowers no count
 pub Sends-count : (result : Sent) (bytes : List ℕ) (before after : SinkState) → Sends result bytes before after → before.faults ≤ after.faults
 Sends-count sent.All bytes before after sends =
     let same : after.faults ≡ before.faults = ap (λ (s : SinkState). s.faults) sends in omega arith
-Sends-count sent.Failed bytes before after sends = let rose = sends.rose in omega arith
+Sends-count sent.Failed bytes before after sends = Rose-le before.faults after.faults (Fails-rose bytes before after sends)
 
 -- finding a file lowers no count
 pub Finds-count : {A : Type 0} → (look : Files → Option A) (found : A) (before after : FolderState) → Finds look found before after → before.faults ≤ after.faults

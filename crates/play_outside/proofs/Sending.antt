@@ -2,37 +2,30 @@
 use Rattle.std.proofs.Common.{◌≡◌, ℕ, ◌+◌, ◌<◌, List, ◌++◌, take, length, sym, ap, ◌∙◌, subst, arith, length-append}
 use Rattle.std.proofs.Math.Seq.{take-append-add}
 use Rattle.std.proofs.lemmas.List.{take-append-le}
-use Rattle.play_outside.specs.SinkState.{SinkState, more_taken, after_taking}
+use Rattle.play_outside.specs.SinkState.{SinkState, after_taking, after_fault}
 use Rattle.play_outside.specs.Sink.{Sends, Fails}
 use Rattle.play_outside.specs.declared.sink.Sent.{Sent}
 use Rattle.play_outside.specs.declared.sink.Sent.TheVariants as sent
-use Rattle.play_outside.proofs.Taking.{more_taken-more_taken, after_taking-after_taking}
+use Rattle.play_outside.proofs.Taking.{after_taking-after_taking}
 
 -- the first part was taken and the sink failed in the second
 pub Fails-after : (a b : List ℕ) (first after : SinkState) → Fails b (after_taking first a) after → Fails (a ++ b) first after
 Fails-after a b first after fails =
-    let within : fails.front.0 < length b = fails.front.1 in record {
-      front = (
-        length a + fails.front.0,
-        omega (arith, length-append a b),
-        fails.front.2 ∙ more_taken-more_taken first.taken a (take fails.front.0 b)
-            ∙ ap (more_taken first.taken) (sym (take-append-add a b fails.front.0)),
-      );
-      rose = fails.rose;
-      mark = fails.mark;
+    let within : fails.count < length b = fails.some_left in record {
+      count = length a + fails.count;
+      some_left = omega (arith, length-append a b);
+      stopped =
+          fails.stopped ∙ ap after_fault (after_taking-after_taking first a (take fails.count b)
+          ∙ ap (after_taking first) (sym (take-append-add a b fails.count)));
     }
 
 -- the sink failed in the first part
 pub Fails-before : (a b : List ℕ) (first after : SinkState) → Fails a first after → Fails (a ++ b) first after
 Fails-before a b first after fails =
-    let within : fails.front.0 < length a = fails.front.1 in record {
-      front = (
-        fails.front.0,
-        omega (arith, length-append a b),
-        fails.front.2 ∙ ap (more_taken first.taken) (sym (take-append-le fails.front.0 a b (omega arith))),
-      );
-      rose = fails.rose;
-      mark = fails.mark;
+    let within : fails.count < length a = fails.some_left in record {
+      count = fails.count;
+      some_left = omega (arith, length-append a b);
+      stopped = fails.stopped ∙ ap (λ bytes. after_fault (after_taking first bytes)) (sym (take-append-le fails.count a b (omega arith)));
     }
 
 -- all of the first part was taken, and then the second was sent

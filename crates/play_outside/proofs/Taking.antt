@@ -16,12 +16,12 @@ more_taken-nil (Some before) = ap Some (append-nil before)
 -- two pieces in a row are taken as one
 pub after_taking-after_taking : (state : SinkState) (a b : List ℕ) → after_taking (after_taking state a) b ≡ after_taking state (a ++ b)
 after_taking-after_taking state a b =
-    ap (λ (t : Option (List ℕ)). record { taken = t; faults = state.faults; mark = state.mark }) (more_taken-more_taken state.taken a b)
+    ap (λ (t : Option (List ℕ)). record state { taken = t }) (more_taken-more_taken state.taken a b)
 
 -- taking nothing changes nothing
 pub after_taking-nil : (state : SinkState) → after_taking state [] ≡ state
 after_taking-nil state =
-    ap (λ (t : Option (List ℕ)). record { taken = t; faults = state.faults; mark = state.mark }) (more_taken-nil state.taken)
+    ap (λ (t : Option (List ℕ)). record state { taken = t }) (more_taken-nil state.taken)
 
 -- a piece that is taken after the front of a text, from where the front ends
 pub after_taking-more : (first state after : SinkState) (text : List ℕ) (at count : ℕ) → at ≤ length text

@@ -1,6 +1,10 @@
 -- Counts of faults.
 use Rattle.std.specs.Prelude.{ℕ, ◌+◌, ◌-◌, ◌^◌, ◌≤◌, min, max}
 
+-- a count after one more fault: from the greatest u64 on it stands still
+abbrev pub one_more : ℕ → ℕ
+one_more count = max count (min (count + 1) (2 ^ 64 - 1))
+
 -- a count rose: it is greater than before, or stands at the greatest u64 and has not fallen
 abbrev pub Rose : ℕ → ℕ → Type 0
-Rose before after = max before (min (before + 1) (2 ^ 64 - 1)) ≤ after
+Rose before after = one_more before ≤ after

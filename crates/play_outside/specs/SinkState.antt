@@ -1,17 +1,24 @@
--- What a sink tells of itself.
+-- What a sink says of itself.
 use Rattle.std.specs.Prelude.{ℕ, Option, Some, None, List, ◌++◌}
+use Rattle.play_outside.specs.Faults.{one_more}
 
--- the bytes that were taken, where the sink tells them, how often it has failed, and its mark
+-- the bytes that were taken, where the sink says which, how many of its writes failed, its mark, and the bytes that it had
+-- taken when a write last failed, where a write has failed and the sink says which
 pub record SinkState : Type 0 where
   pub taken : Option (List ℕ)
   pub faults : ℕ
   pub mark : ℕ
+  pub at_fault : Option (List ℕ)
 
--- what was taken, with more at its end, where it is told
+-- what was taken, with more bytes at its end
 abbrev pub more_taken : Option (List ℕ) → List ℕ → Option (List ℕ)
 more_taken None bytes = None
 more_taken (Some before) bytes = Some (before ++ bytes)
 
 -- the sink after it took more bytes, without a fault
 abbrev pub after_taking : SinkState → List ℕ → SinkState
-after_taking state bytes = record { taken = more_taken state.taken bytes; faults = state.faults; mark = state.mark }
+after_taking state bytes = record state { taken = more_taken state.taken bytes }
+
+-- the sink after one write failed, of which it took nothing
+abbrev pub after_fault : SinkState → SinkState
+after_fault state = record state { faults = one_more state.faults; at_fault = state.taken }

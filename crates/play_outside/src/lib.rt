@@ -23,5 +23,5 @@ pub use mem_media::{MemConfig, MemFile, MemMedia};
 pub use mem_sink::MemSink;
 pub use mem_source::MemSource;
 pub use plain::{PlainMedia, PlainSink, PlainSource};
-pub use sink::{Sent, Sink, WriteStep, send, send_number};
+pub use sink::{Sent, Sink, WriteStep, send, send_number, send_parts};
 pub use source::{ReadStep, Source};

@@ -1,19 +1,23 @@
 //! A sink in memory.
-ghost use Rattle.std.specs.Prelude.{◌≡◌, ◌<◌, Some, [], IfOk};
+ghost use Rattle.std.specs.Prelude.{◌≡◌, ◌<◌, ◌≤◌, Some, None, [], IfOk, IfSome, option_map, take, vec_len};
+ghost use Rattle.std.proofs.Props.{props};
 
 use super::pieces::push_all_reserved;
 use super::planned_faults::PlannedFaults;
 use super::{Sink, WriteStep};
 use std::alloc::{AllocError, Global};
 
-/// Takes bytes into room that it has from its making. It tells what it took.
+/// Takes bytes into room that it has from its making. Contracts see what it took.
 #[derive(Drop)]
 pub struct MemSink {
     taken: Vec<u8>,
     piece: usize,
     planned: PlannedFaults,
     mark: u64,
+    /// How many bytes it had taken when a write last failed.
+    at_fault: Option<usize>,
     ghost some: { 0 < piece },
+    ghost passed: { IfSome at_fault (λ count. count ≤ vec_len taken) } by { Prim.hlevel props },
 }
 
 impl MemSink {
@@ -29,7 +33,7 @@ impl MemSink {
         fails: Vec<u64>,
     ) -> Result<MemSink, AllocError>
         requires { 0 < piece }
-        ensures fresh { IfOk result (λ sink. ⟦<MemSink as Sink>⟧.state sink ≡ record { taken = Some []; faults = 0; mark = mark }) }
+        ensures fresh { IfOk result (λ sink. ⟦<MemSink as Sink>⟧.state sink ≡ record { taken = Some []; faults = 0; mark = mark; at_fault = None }) }
         ensures room { IfOk result (λ sink. room_left sink ≡ room) }
     {
         let taken = Vec::with_capacity(alloc, room)?;
@@ -38,6 +42,7 @@ impl MemSink {
             piece,
             planned: PlannedFaults::new(fails),
             mark,
+            at_fault: None,
         })
     }
 
@@ -64,12 +69,13 @@ impl MemSink {
 }
 
 impl Sink for MemSink {
-    ghost state = { λ s. record { taken = Some s.taken.items; faults = s.planned.count; mark = s.mark } };
+    ghost state = { λ s. record { taken = Some s.taken.items; faults = s.planned.count; mark = s.mark; at_fault = option_map (λ count. take count s.taken.items) s.at_fault } };
 
     fn write(&mut self, piece: &[u8]) -> WriteStep {
         let room = self.room();
         if self.planned.fails_now() || room == 0 {
             self.planned.raise();
+            self.at_fault = Some(self.taken.len());
             return WriteStep::Failed;
         }
         let count = piece.len().min(room).min(self.piece);

@@ -48,14 +48,14 @@ pub struct PlainSink {
 
 impl PlainSink {
     pub fn new(mark: u64) -> PlainSink
-        ensures { ⟦<PlainSink as Sink>⟧.state result ≡ record { taken = None; faults = 0; mark = mark } }
+        ensures { ⟦<PlainSink as Sink>⟧.state result ≡ record { taken = None; faults = 0; mark = mark; at_fault = None } }
     {
         PlainSink { mark }
     }
 }
 
 impl Sink for PlainSink {
-    ghost state = { λ s. record { taken = None; faults = 0; mark = s.mark } };
+    ghost state = { λ s. record { taken = None; faults = 0; mark = s.mark; at_fault = None } };
 
     fn write(&mut self, piece: &[u8]) -> WriteStep
         requires { 0 < length piece.now }

@@ -1,7 +1,7 @@
 //! Faults that are planned by the numbers of calls.
-ghost use Rattle.std.specs.Prelude.{◌≡◌, ◌==◌, ◌+◌, ◌-◌, ◌^◌, min};
+ghost use Rattle.std.specs.Prelude.{◌≡◌, ◌==◌};
 ghost use Rattle.std.specs.List.{list_any};
-ghost use Rattle.play_outside.specs.Faults.{Rose};
+ghost use Rattle.play_outside.specs.Faults.{one_more};
 
 /// The numbers of the calls that are to fail, counted from 1, and how many calls and faults there were.
 #[derive(Drop)]
@@ -25,7 +25,7 @@ impl PlannedFaults {
     /// Counts a call, and says whether it is to fail.
     pub(crate) fn fails_now(&mut self) -> bool
         ensures answer { result ≡ list_any (λ number. number == self.new.calls) self.old.at_calls.items }
-        ensures after { self.new ≡ record self.old { calls = min (self.old.calls + 1) (2 ^ 64 - 1) } }
+        ensures after { self.new ≡ record self.old { calls = one_more self.old.calls } }
     {
         self.calls = self.calls.saturating_add(1);
         self.at_calls.as_slice().contains(&self.calls)
@@ -33,8 +33,7 @@ impl PlannedFaults {
 
     /// Counts a fault.
     pub(crate) fn raise(&mut self)
-        ensures rose { Rose self.old.count self.new.count }
-        ensures after { self.new ≡ record self.old { count = self.new.count } }
+        ensures { self.new ≡ record self.old { count = one_more self.old.count } }
     {
         self.count = self.count.saturating_add(1);
     }

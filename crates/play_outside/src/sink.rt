@@ -1,14 +1,14 @@
 //! What is written to.
-ghost use Rattle.std.specs.Prelude.{◌<◌, length, decimal};
+ghost use Rattle.std.specs.Prelude.{◌<◌, length, decimal, flat_map};
 ghost use Rattle.play_outside.specs.SinkState.{SinkState};
 ghost use Rattle.play_outside.specs.Sink.{Writes, Sends};
 
 use itoa::Buffer;
 
-/// What a write answered.
+/// What a write did.
 #[derive(Clone, Copy, Debug, PartialEq, Eq)]
 pub enum WriteStep {
-    /// So many bytes of the piece were taken, from its front: at least one.
+    /// The sink took a prefix of the piece of this many bytes, at least one.
     Took(usize),
     /// The device failed, and took nothing.
     Failed,
@@ -17,22 +17,25 @@ pub enum WriteStep {
 /// Whether all was written.
 #[derive(Clone, Copy, Debug, PartialEq, Eq)]
 pub enum Sent {
+    /// The sink took all of the bytes.
     All,
-    /// The sink failed, and took a front of the bytes.
+    /// The sink took a prefix of the bytes; then a write failed, and nothing more was written.
     Failed,
 }
 
 /// A place to write bytes to.
 pub trait Sink: Drop {
-    /// What was taken, where it is told, how many faults there were, and the mark, which no call changes.
+    /// What was taken, now and when a write last failed, where the sink says so; how many writes failed; and the mark,
+    /// which no call changes.
     ghost state: { Self → SinkState };
 
+    /// Takes a prefix of the piece, or fails and takes nothing. A failed write raises the count of faults by one.
     fn write(&mut self, piece: &[u8]) -> WriteStep
         requires { 0 < length piece.now }
         ensures { Writes result piece.now (state self.old) (state self.new) };
 }
 
-/// Writes all bytes of the piece, unless the sink fails.
+/// Writes all bytes of the piece. After a failed write it writes nothing more.
 pub fn send<K: Sink>(piece: &[u8], to: &mut K) -> Sent
     ensures { Sends result piece.now (K.state to.old) (K.state to.new) }
 {
@@ -41,6 +44,19 @@ pub fn send<K: Sink>(piece: &[u8], to: &mut K) -> Sent
         match to.write(&piece[at..]) {
             WriteStep::Took(count) => at += count,
             WriteStep::Failed => return Sent::Failed,
+        }
+    }
+    Sent::All
+}
+
+/// Writes the parts, one after another. After a failed write it writes nothing more.
+pub fn send_parts<K: Sink>(parts: &[&[u8]], to: &mut K) -> Sent
+    ensures { Sends result (flat_map (λ part. part.now) parts.now) (K.state to.old) (K.state to.new) }
+{
+    for part in parts {
+        match send(part, to) {
+            Sent::All => {}
+            Sent::Failed => return Sent::Failed,
         }
     }
     Sent::All

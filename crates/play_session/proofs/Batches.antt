@@ -8,14 +8,16 @@ use Rattle.std.proofs.lemmas.List.Elements.{filter_map-append}
 use Rattle.std.proofs.lemmas.List.Folds.{list_any-append}
 use Rattle.amcp_text.proofs.FirstEnd.{after_first_at, position_or_len_some}
 use Rattle.play_types.specs.declared.command.Cmd.{Cmd}
+use Rattle.play_types.specs.declared.command.TheConstants.{MAX_BATCH_COMMANDS}
 use Rattle.play_types.specs.declared.reply.Reply.TheVariants as reply
 use Rattle.play_types.specs.declared.parsed.Parsed.{Parsed}
 use Rattle.play_types.specs.declared.parsed.Parsed.TheVariants.{Stage, Begin, Commit, Discard, Cls, Version, Bye, Kill}
-use Rattle.history_model.specs.SessionLine.{LineMeaning, Blank, Wrong, Asks, asked_by}
-use Rattle.history_model.specs.Session.{is_begin, is_closing, since_closing, is_open, is_query, batched, batch, batch_limit, command_name, step_commit, step_inside, step_outside, step_of_meaning}
-use Rattle.history_model.specs.Session as model
+use Rattle.history_model.specs.sessions.Line.{LineMeaning, Blank, Wrong, Asks, asked_by}
+use Rattle.history_model.specs.sessions.Session.{is_begin, is_closing, since_closing, is_open, batched, batch, step_commit, step_inside, step_outside, step_of_meaning}
+use Rattle.play_types.specs.Commands.{is_query, command_name}
+use Rattle.history_model.specs.sessions.Session as model
 use Rattle.history_model.proofs.Sessions.{position_or_len-append}
-use Rattle.play_session.specs.BatchState.{BatchState, with_command, after_outside, after_inside, after_meaning, step_for}
+use Rattle.play_session.specs.inner.BatchState.{BatchState, with_command, after_outside, after_inside, after_meaning, step_for}
 
 -- what stands after the last element that passes, in a list with one more at its end
 after_last-passes : {X : Type 0} (p : X → Bool) (xs : List X) (x : X) → p x ≡ true → after_last p (xs ++ x ∷ []) ≡ []
@@ -63,19 +65,19 @@ is_open-other asked ask other =
 -- the commands of the open batch after one ask more
 batch-other : (asked : List Parsed) (ask : Parsed) → is_closing ask ≡ false → is_open asked ≡ true
     → batch (asked ++ ask ∷ [])
-    ≡ take batch_limit (filter_map batched (after_first is_begin (since_closing asked)) ++ filter_map batched (ask ∷ []))
+    ≡ take MAX_BATCH_COMMANDS (filter_map batched (after_first is_begin (since_closing asked)) ++ filter_map batched (ask ∷ []))
 batch-other asked ask other opened =
-    ap (λ (since : List Parsed). take batch_limit (filter_map batched (after_first is_begin since))) (after_last-fails is_closing asked ask other)
-    ∙ ap (λ (since : List Parsed). take batch_limit (filter_map batched since)) (after_first-append is_begin (since_closing asked) (ask ∷ []) opened)
-    ∙ ap (take batch_limit) (filter_map-append batched (after_first is_begin (since_closing asked)) (ask ∷ []))
+    ap (λ (since : List Parsed). take MAX_BATCH_COMMANDS (filter_map batched (after_first is_begin since))) (after_last-fails is_closing asked ask other)
+    ∙ ap (λ (since : List Parsed). take MAX_BATCH_COMMANDS (filter_map batched since)) (after_first-append is_begin (since_closing asked) (ask ∷ []) opened)
+    ∙ ap (take MAX_BATCH_COMMANDS) (filter_map-append batched (after_first is_begin (since_closing asked)) (ask ∷ []))
 
 batch-same : (asked : List Parsed) (ask : Parsed) → is_closing ask ≡ false → is_open asked ≡ true → batched ask ≡ None
     → batch asked ≡ batch (asked ++ ask ∷ [])
 batch-same asked ask other opened none =
     let all = filter_map batched (after_first is_begin (since_closing asked)) in
     sym (batch-other asked ask other opened
-    ∙ ap (λ (o : Option Cmd). take batch_limit (all ++ cons_option o [])) none
-    ∙ ap (take batch_limit) (append-nil all))
+    ∙ ap (λ (o : Option Cmd). take MAX_BATCH_COMMANDS (all ++ cons_option o [])) none
+    ∙ ap (take MAX_BATCH_COMMANDS) (append-nil all))
 
 batch-command : (asked : List Parsed) (command : Cmd) → is_open asked ≡ true
     → with_command (batch asked) command ≡ batch (asked ++ Stage command ∷ [])
@@ -84,23 +86,19 @@ batch-command asked command opened = elim (cases_Bool (is_query command)) [
   | inr other ↦
       let all = filter_map batched (after_first is_begin (since_closing asked)) in
       let one : filter_map batched (Stage command ∷ []) ≡ command ∷ [] = rw other refl in
-      rw other (take-snoc batch_limit all command ∙ ap (λ (cs : List Cmd). take batch_limit (all ++ cs)) (sym one)
+      rw other (take-snoc MAX_BATCH_COMMANDS all command ∙ ap (λ (cs : List Cmd). take MAX_BATCH_COMMANDS (all ++ cs)) (sym one)
       ∙ sym (batch-other asked (Stage command) refl opened))
 ]
 
 batch-begin : (asked : List Parsed) → is_open asked ≡ false → [] ≡ batch (asked ++ Begin ∷ [])
 batch-begin asked closed =
-    sym (ap (λ (since : List Parsed). take batch_limit (filter_map batched (after_first is_begin since))) (after_last-fails is_closing asked Begin refl)
-    ∙ ap (λ (since : List Parsed). take batch_limit (filter_map batched since)) (after_first_at is_begin (since_closing asked) Begin [] closed refl))
+    sym (ap (λ (since : List Parsed). take MAX_BATCH_COMMANDS (filter_map batched (after_first is_begin since))) (after_last-fails is_closing asked Begin refl)
+    ∙ ap (λ (since : List Parsed). take MAX_BATCH_COMMANDS (filter_map batched since)) (after_first_at is_begin (since_closing asked) Begin [] closed refl))
 
 -- this is the batch after these asks
 pub record IsBatchOf (b : BatchState) (asked : List Parsed) : Type 0 where
   pub opened : b.is_open ≡ is_open asked
   pub commands : b.is_open ≡ true → b.commands ≡ batch asked
-
-or-false : (b : Bool) → b ≡ (b || false)
-or-false true = refl
-or-false false = refl
 
 -- an open batch after an ask that leaves it as it is
 kept_inside : (b : BatchState) (asked : List Parsed) (ask : Parsed) → IsBatchOf b asked → b.is_open ≡ true → is_closing ask ≡ false → batched ask ≡ None
@@ -213,7 +211,7 @@ no_memory_commit [] e = cc
 no_memory_commit (command ∷ commands) e = cc
 
 no_memory_inside : (commands : List Cmd) (ask : Parsed) → step_inside commands ask ≡ model.Local reply.NoMemory → ⊥
-no_memory_inside commands (Stage command) e = no_memory_waiting (is_query command) (nat_lt (length commands) batch_limit) command e
+no_memory_inside commands (Stage command) e = no_memory_waiting (is_query command) (nat_lt (length commands) MAX_BATCH_COMMANDS) command e
 no_memory_inside commands Begin e = cc
 no_memory_inside commands Commit e = no_memory_commit commands e
 no_memory_inside commands Discard e = cc

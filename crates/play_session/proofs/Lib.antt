@@ -2,3 +2,4 @@ pub mod Batches
 pub mod Standing
 pub mod NextLine
 pub mod Fitting
+pub mod WholeLine

@@ -1,6 +1,7 @@
 -- The step of the next line of a stream.
-use Rattle.std.proofs.Common.{◌≡◌, ℕ, ◌+◌, ◌<◌, ◌≤◌, Bool, true, false, ◌||◌, ◌==◌, ◌⊎◌, List, [], ◌∷◌, ◌++◌, length, refl, sym, ap, ◌∙◌, subst, arith, inl, inr, append-nil, eq-eqb}
-use Rattle.std.specs.Prelude.{Some, slice_get, All}
+use Rattle.std.proofs.Common.{◌≡◌, ℕ, ◌+◌, ◌<◌, ◌≤◌, true, false, ◌==◌, List, [], ◌∷◌, ◌++◌, length, refl, sym, ap, ◌∙◌, subst, arith, inl, inr, append-nil, eq-eqb}
+use Rattle.std.proofs.Math.Bool.{or-false}
+use Rattle.std.specs.Prelude.{Some, Result, Ok, Err, IfOk, slice_get, All}
 use Rattle.std.specs.List.{list_any, cons_option}
 use Rattle.std.proofs.lemmas.Bool.{cases_Bool, or_right, ne_eqb}
 use Rattle.std.proofs.lemmas.List.{length-append, take_all}
@@ -16,50 +17,45 @@ use Rattle.play_types.specs.declared.command.Cmd.{Cmd}
 use Rattle.play_types.specs.declared.parsed.Parsed.{Parsed}
 use Rattle.play_types.specs.declared.reply.Reply.{Reply}
 use Rattle.play_types.specs.declared.reply.Reply.TheVariants as reply
-use Rattle.history_model.specs.SessionLine.{line_meaning, asked_by}
-use Rattle.history_model.specs.Session.{is_given_up, is_end, asks, step_of_line, step_of_meaning, line_steps, until_end, steps}
-use Rattle.history_model.specs.Session as model
+use Rattle.history_model.specs.sessions.Line.{line_meaning, asked_by}
+use Rattle.history_model.specs.sessions.Session.{is_given_up, is_end, asks, step_of_line, step_of_meaning, line_steps, until_end, steps}
+use Rattle.history_model.specs.sessions.Session as model
 use Rattle.history_model.proofs.Sessions.{asks-append, asks-later, line_steps-later, line_steps-snoc, length-line_steps, until_end-going}
 use Rattle.play_session.specs.SessionState.{SessionState}
-use Rattle.play_session.specs.BatchState.{BatchState, after_meaning, step_for}
-use Rattle.play_session.specs.Seen.{seen, ends}
-use Rattle.play_session.specs.Session.{StandsFor, Gives, given_up_after}
+use Rattle.play_session.specs.inner.BatchState.{after_meaning, step_for}
+use Rattle.play_session.specs.inner.Following.{Follows, batch_of}
+use Rattle.play_session.specs.declared.meaning.Meaning.{Meaning}
+use Rattle.play_session.specs.Step.{viewed, ends, gives_up, is_out_of_memory}
+use Rattle.play_session.specs.inner.Meaning.{meaning_view}
+use Rattle.play_session.specs.Session.{Progress, Represents, Gives, GivesStep, after_step}
 use Rattle.play_session.specs.declared.step.Step.{Step}
 use Rattle.play_session.specs.declared.step.Step.TheVariants as step
 use Rattle.play_session.proofs.Batches.{IsBatchOf, IsBatchOf-line, step_for_line, kept_at_no_memory}
-
--- the batch of a session
-abbrev pub batch_of : SessionState → BatchState
-batch_of session = record { is_open = session.batch_open; commands = session.batch }
 
 -- a whole line was taken from the reader
 pub record TookLine (before after : SessionState) (line : Line) : Type 0 where
   pub going : before.ended ≡ false
   pub held : before.reader.held ≡ true
-  pub tells : (bytes : List ℕ) → reader.StandsFor before.reader bytes → (rest : List ℕ) → lines_of (bytes ++ rest) ≡ line ∷ lines_of rest
-  pub dropped : reader.StandsFor after.reader []
+  pub tells : (bytes : List ℕ) → reader.Represents before.reader bytes → (rest : List ℕ) → lines_of (bytes ++ rest) ≡ line ∷ lines_of rest
+  pub dropped : reader.Represents after.reader []
 
 -- the step that stands after some steps
 slice_get_after : {X : Type 0} (xs : List X) (x : X) → slice_get (xs ++ x ∷ []) (length xs) ≡ Some x
 slice_get_after [] x = refl
 slice_get_after (y ∷ ys) x = slice_get_after ys x
 
-or-false : (b : Bool) → (b || false) ≡ b
-or-false true = refl
-or-false false = refl
-
 until_end_one : (s : model.Step) → until_end (s ∷ []) ≡ s ∷ []
 until_end_one s = elim (cases_Bool (is_end s)) [ inl ends_it ↦ rw ends_it refl | inr goes ↦ rw goes refl ]
 
 -- whether a step ends the connection, in the code and in the definition
-ends-seen : (result : Step) (commands : List Cmd) (s : model.Step) → seen result commands ≡ Some s → ends result ≡ is_end s
-ends-seen (step.Local answer) commands s e = let same : model.Local answer ≡ s = cc in ap is_end same
-ends-seen (step.Ask command) commands s e = let same : model.Ask command ≡ s = cc in ap is_end same
-ends-seen step.AskBatch commands s e = let same : model.AskBatch commands ≡ s = cc in ap is_end same
-ends-seen step.Kill commands s e = let same : model.KillServer ≡ s = cc in ap is_end same
-ends-seen step.Bye commands s e = let same : model.EndConnection ≡ s = cc in ap is_end same
-ends-seen step.Skip commands s e = let same : model.Skip ≡ s = cc in ap is_end same
-ends-seen step.NeedMore commands s e = cc
+ends-viewed : (result : Step) (commands : List Cmd) (s : model.Step) → viewed result commands ≡ Some s → ends result ≡ is_end s
+ends-viewed (step.Local answer) commands s e = let same : model.Local answer ≡ s = cc in ap is_end same
+ends-viewed (step.Ask command) commands s e = let same : model.Ask command ≡ s = cc in ap is_end same
+ends-viewed step.AskBatch commands s e = let same : model.AskBatch commands ≡ s = cc in ap is_end same
+ends-viewed step.Kill commands s e = let same : model.KillServer ≡ s = cc in ap is_end same
+ends-viewed step.Bye commands s e = let same : model.EndConnection ≡ s = cc in ap is_end same
+ends-viewed step.Skip commands s e = let same : model.Skip ≡ s = cc in ap is_end same
+ends-viewed step.NeedMore commands s e = cc
 
 -- a line whose number is known to be given up, or to be none of those
 given_up-last : (given_up : List ℕ) (number : ℕ) → is_given_up (given_up ++ number ∷ []) number ≡ true
@@ -76,42 +72,50 @@ pub record LineStep (config : ConfigView) (media : List MediaNameView) (given_up
   pub is : step_of_line config media (given_up ++ later) lines (length lines, line) ≡ s
   pub asks_is : asks config media (given_up ++ later) (lines ++ line ∷ []) ≡ asked
 
+-- how far a session has come with one step more, the lines of these numbers with those that were given up
+abbrev one_further : Progress → List ℕ → Progress
+one_further progress later = record progress { given_up = progress.given_up ++ later; given = progress.given + 1 }
+
 -- the state after a line, for each step that the line may have
 module _ (config : ConfigView) (media : List MediaNameView) (before after : SessionState) (line : Line) (took : TookLine before after line) where
-  lines_with : (stream given_up : List ℕ) (given : ℕ) (s : StandsFor config media before stream given_up given)
-      → lines_of stream ≡ lines_of s.before ++ line ∷ []
-  lines_with stream given_up given s =
+  lines_with : (progress : Progress) (s : Represents config media before progress)
+      → lines_of progress.stream ≡ lines_of s.before ++ line ∷ []
+  lines_with progress s =
       ap lines_of s.parts ∙ lines_of-append s.before s.rest s.whole
       ∙ ap (λ (ls : List Line). lines_of s.before ++ ls) (ap lines_of (sym (append-nil s.rest)) ∙ took.tells s.rest s.reads [])
 
-  steps_with : (stream given_up later : List ℕ) (given : ℕ) (s : StandsFor config media before stream given_up given) (one : model.Step) (asked : List Parsed)
-      → All (λ k. length (lines_of s.before) ≤ k) later → LineStep config media given_up later (lines_of s.before) line one asked
-      → line_steps config media (given_up ++ later) (lines_of s.before ++ line ∷ []) ≡ line_steps config media given_up (lines_of s.before) ++ one ∷ []
-  steps_with stream given_up later given s one asked high l =
+  steps_with : (progress : Progress) (later : List ℕ) (s : Represents config media before progress) (one : model.Step) (asked : List Parsed)
+      → All (λ k. length (lines_of s.before) ≤ k) later → LineStep config media progress.given_up later (lines_of s.before) line one asked
+      → line_steps config media (progress.given_up ++ later) (lines_of s.before ++ line ∷ []) ≡ line_steps config media progress.given_up (lines_of s.before) ++ one ∷ []
+  steps_with progress later s one asked high l =
+      let given_up = progress.given_up in
       rw (line_steps-snoc config media (given_up ++ later) (lines_of s.before) line, line_steps-later config media given_up later (lines_of s.before) high, l.is) refl
 
   -- the step of the line is the next one of the stream
-  next_step : (stream given_up later : List ℕ) (given : ℕ) (s : StandsFor config media before stream given_up given) (one : model.Step) (asked : List Parsed)
-      → All (λ k. length (lines_of s.before) ≤ k) later → LineStep config media given_up later (lines_of s.before) line one asked
-      → slice_get (steps config media (given_up ++ later) stream) given ≡ Some one
+  next_step : (progress : Progress) (later : List ℕ) (s : Represents config media before progress) (one : model.Step) (asked : List Parsed)
+      → All (λ k. length (lines_of s.before) ≤ k) later → LineStep config media progress.given_up later (lines_of s.before) line one asked
+      → slice_get (steps config media (progress.given_up ++ later) progress.stream) progress.given ≡ Some one
   unfolding steps
-  next_step stream given_up later given s one asked high l =
+  next_step progress later s one asked high l =
+      let given_up = progress.given_up in
       let earlier = line_steps config media given_up (lines_of s.before) in
-      let all : until_end (line_steps config media (given_up ++ later) (lines_of stream)) ≡ earlier ++ one ∷ [] =
-      ap (λ (ls : List Line). until_end (line_steps config media (given_up ++ later) ls)) (lines_with stream given_up given s)
-      ∙ ap until_end (steps_with stream given_up later given s one asked high l)
+      let all : until_end (line_steps config media (given_up ++ later) (lines_of progress.stream)) ≡ earlier ++ one ∷ [] =
+      ap (λ (ls : List Line). until_end (line_steps config media (given_up ++ later) ls)) (lines_with progress s)
+      ∙ ap until_end (steps_with progress later s one asked high l)
       ∙ until_end-going earlier (one ∷ []) (sym s.ended ∙ took.going) ∙ ap (λ (ss : List model.Step). earlier ++ ss) (until_end_one one) in
-      let place : length earlier ≡ given = length-line_steps config media given_up (lines_of s.before) ∙ s.count in
+      let place : length earlier ≡ progress.given = length-line_steps config media given_up (lines_of s.before) ∙ s.count in
       rw (all, ← place) (slice_get_after earlier one)
 
-  -- the session stands for the stream with one step more given
-  stands_next : (stream given_up later : List ℕ) (given : ℕ) (s : StandsFor config media before stream given_up given) (one : model.Step) (asked : List Parsed)
-      → All (λ k. given ≤ k) later → All (λ k. k < given + 1) later → LineStep config media given_up later (lines_of s.before) line one asked
+  -- the session has come one step further
+  represents_next : (progress : Progress) (later : List ℕ) (s : Represents config media before progress) (one : model.Step) (asked : List Parsed)
+      → All (λ k. progress.given ≤ k) later → All (λ k. k < progress.given + 1) later → LineStep config media progress.given_up later (lines_of s.before) line one asked
       → IsBatchOf (batch_of after) asked → after.ended ≡ is_end one
-      → StandsFor config media after stream (given_up ++ later) (given + 1)
-  stands_next stream given_up later given s one asked high low l is ends_so =
+      → Represents config media after (one_further progress later)
+  represents_next progress later s one asked high low l is ends_so =
+      let given_up = progress.given_up in
+      let given = progress.given in
       let whole = lines_held before.reader s.rest s.reads took.held in
-      let same : lines_of (s.before ++ s.rest) ≡ lines_of s.before ++ line ∷ [] = ap lines_of (sym s.parts) ∙ lines_with stream given_up given s in
+      let same : lines_of (s.before ++ s.rest) ≡ lines_of s.before ++ line ∷ [] = ap lines_of (sym s.parts) ∙ lines_with progress s in
       let earlier = line_steps config media given_up (lines_of s.before) in
       record {
         before = s.before ++ s.rest;
@@ -123,7 +127,7 @@ module _ (config : ConfigView) (media : List MediaNameView) (before after : Sess
         reads = took.dropped;
         batch_open = rw (same, l.asks_is) is.opened;
         batch = λ e. rw (same, l.asks_is) (is.commands e);
-        ended = rw (same, steps_with stream given_up later given s one asked (subst (λ (n : ℕ). All (λ k. n ≤ k) later) (sym s.count) high) l, list_any-append is_end earlier (one ∷ []), ← s.ended, took.going, ends_so) (sym (or-false (is_end one)));
+        ended = rw (same, steps_with progress later s one asked (subst (λ (n : ℕ). All (λ k. n ≤ k) later) (sym s.count) high) l, list_any-append is_end earlier (one ∷ []), ← s.ended, took.going, ends_so) (sym (or-false (is_end one)));
       }
 
 -- the step of a line that was not given up
@@ -150,90 +154,106 @@ LineStep-given_up config media given_up lines line =
           ∙ rw last (append-nil (asks config media (given_up ++ length lines ∷ []) lines) ∙ asks-later config media given_up (length lines ∷ []) lines high);
     }
 
--- where a step was given, what a caller is told of it
-Gives-step : (config : ConfigView) (media : List MediaNameView) (result : Step) (after : SessionState) (stream given_up : List ℕ) (given : ℕ) (one : model.Step)
-    → seen result after.batch ≡ Some one
-    → slice_get (steps config media (given_up_after result given_up given) stream) given ≡ Some one
-    → StandsFor config media after stream (given_up_after result given_up given) (given + 1)
-    → Gives config media result after stream given_up given
-Gives-step config media (step.Local answer) after stream given_up given one is next stands = (next ∙ sym is, stands)
-Gives-step config media (step.Ask command) after stream given_up given one is next stands = (next ∙ sym is, stands)
-Gives-step config media step.AskBatch after stream given_up given one is next stands = (next ∙ sym is, stands)
-Gives-step config media step.Kill after stream given_up given one is next stands = (next ∙ sym is, stands)
-Gives-step config media step.Bye after stream given_up given one is next stands = (next ∙ sym is, stands)
-Gives-step config media step.Skip after stream given_up given one is next stands = (next ∙ sym is, stands)
-Gives-step config media step.NeedMore after stream given_up given one is next stands = cc
+-- where a step was given, what a caller learns of it
+Gives-step : (config : ConfigView) (media : List MediaNameView) (result : Step) (after : SessionState) (progress : Progress) (one : model.Step)
+    → viewed result after.batch ≡ Some one
+    → GivesStep config media result after progress
+    → Gives config media result after progress
+Gives-step config media (step.Local answer) after progress one is gives = gives
+Gives-step config media (step.Ask command) after progress one is gives = gives
+Gives-step config media step.AskBatch after progress one is gives = gives
+Gives-step config media step.Kill after progress one is gives = gives
+Gives-step config media step.Bye after progress one is gives = gives
+Gives-step config media step.Skip after progress one is gives = gives
+Gives-step config media step.NeedMore after progress one is gives = cc
+
+gives_step : (config : ConfigView) (media : List MediaNameView) (result : Step) (after : SessionState) (progress further : Progress)
+    → further ≡ after_step progress result
+    → slice_get (steps config media further.given_up progress.stream) progress.given ≡ viewed result after.batch
+    → Represents config media after further → GivesStep config media result after progress
+gives_step config media result after progress further same next represents =
+    subst (λ (q : Progress). (slice_get (steps config media q.given_up progress.stream) progress.given ≡ viewed result after.batch) × Represents config media after q)
+    same (next, represents)
 
 -- a line is given up exactly where the reply says so
-given_up_after-reply : (answer : Reply) (given_up : List ℕ) (given : ℕ)
-    → (answer ≡ reply.NoMemory) ⊎ (given_up_after (step.Local answer) given_up given ≡ given_up)
-given_up_after-reply (reply.Done name) given_up given = inr refl
-given_up_after-reply (reply.Value values) given_up given = inr refl
-given_up_after-reply (reply.Info list) given_up given = inr refl
-given_up_after-reply reply.Cls given_up given = inr refl
-given_up_after-reply reply.Version given_up given = inr refl
-given_up_after-reply (reply.Unknown text) given_up given = inr refl
-given_up_after-reply (reply.Refused code name) given_up given = inr refl
-given_up_after-reply reply.NoMemory given_up given = inl refl
+out_of_memory-is : (answer : Reply) → is_out_of_memory answer ≡ true → answer ≡ reply.NoMemory
+out_of_memory-is (reply.Done name) is = cc
+out_of_memory-is (reply.Value values) is = cc
+out_of_memory-is (reply.Info list) is = cc
+out_of_memory-is reply.Cls is = cc
+out_of_memory-is reply.Version is = cc
+out_of_memory-is (reply.Unknown text) is = cc
+out_of_memory-is (reply.Refused code name) is = cc
+out_of_memory-is reply.NoMemory is = refl
 
-given_up_after-step : (result : Step) (given_up : List ℕ) (given : ℕ)
-    → (result ≡ step.Local reply.NoMemory) ⊎ (given_up_after result given_up given ≡ given_up)
-given_up_after-step (step.Local answer) given_up given = elim (given_up_after-reply answer given_up given) [
-  | inl e ↦ inl (ap step.Local e)
-  | inr e ↦ inr e
-]
-given_up_after-step (step.Ask command) given_up given = inr refl
-given_up_after-step step.AskBatch given_up given = inr refl
-given_up_after-step step.Kill given_up given = inr refl
-given_up_after-step step.Bye given_up given = inr refl
-given_up_after-step step.Skip given_up given = inr refl
-given_up_after-step step.NeedMore given_up given = inr refl
+gives_up-is : (result : Step) → gives_up result ≡ true → result ≡ step.Local reply.NoMemory
+gives_up-is (step.Local answer) is = ap step.Local (out_of_memory-is answer is)
+gives_up-is (step.Ask command) is = cc
+gives_up-is step.AskBatch is = cc
+gives_up-is step.Kill is = cc
+gives_up-is step.Bye is = cc
+gives_up-is step.Skip is = cc
+gives_up-is step.NeedMore is = cc
 
 -- a line is given up, and the batch is as before
 pub Gives-given_up : (config : ConfigView) (media : List MediaNameView) (result : Step) (before after : SessionState) (line : Line)
     → TookLine before after line → result ≡ step.Local reply.NoMemory → batch_of after ≡ batch_of before → after.ended ≡ ends result
-    → (stream given_up : List ℕ) (given : ℕ) → StandsFor config media before stream given_up given
-    → Gives config media result after stream given_up given
-Gives-given_up config media result before after line took none kept ends_so stream given_up given s =
+    → (progress : Progress) → Represents config media before progress
+    → Gives config media result after progress
+Gives-given_up config media result before after line took none kept ends_so progress s =
+    let given = progress.given in
     let lines = lines_of s.before in
     let number : List ℕ = length lines ∷ [] in
-    let asked = asks config media given_up lines in
-    let l = LineStep-given_up config media given_up lines line in
+    let asked = asks config media progress.given_up lines in
+    let l = LineStep-given_up config media progress.given_up lines line in
     let high_lines = All-cons (λ k. length lines ≤ k) (length lines) [] (omega arith) (All-nil (λ k. length lines ≤ k)) in
     let high = All-cons (λ k. given ≤ k) (length lines) [] (omega (arith, s.count)) (All-nil (λ k. given ≤ k)) in
     let low = All-cons (λ k. k < given + 1) (length lines) [] (omega (arith, s.count)) (All-nil (λ k. k < given + 1)) in
     let was : IsBatchOf (batch_of before) asked = record { opened = s.batch_open; commands = s.batch } in
     let is : IsBatchOf (batch_of after) asked = rw kept was in
-    let numbers : given_up_after result given_up given ≡ given_up ++ number = rw (none, s.count) refl in
-    let told : seen result after.batch ≡ Some (model.Local reply.NoMemory) = rw none refl in
-    Gives-step config media result after stream given_up given (model.Local reply.NoMemory) told
-    (rw numbers (next_step config media before after line took stream given_up number given s (model.Local reply.NoMemory) asked high_lines l))
-    (rw numbers (stands_next config media before after line took stream given_up number given s (model.Local reply.NoMemory) asked high low l is (ends_so ∙ ap ends none)))
+    let further : after_step progress result ≡ one_further progress number = rw (none, s.count) refl in
+    let told : viewed result after.batch ≡ Some (model.Local reply.NoMemory) = rw none refl in
+    let next = next_step config media before after line took progress number s (model.Local reply.NoMemory) asked high_lines l in
+    let represents = represents_next config media before after line took progress number s (model.Local reply.NoMemory) asked high low l is (ends_so ∙ ap ends none) in
+    Gives-step config media result after progress (model.Local reply.NoMemory) told
+    (gives_step config media result after progress (one_further progress number) (sym further) (next ∙ sym told) represents)
 
 -- a line was read, and the step is that of its meaning
 pub Gives-read : (config : ConfigView) (media : List MediaNameView) (result : Step) (before after : SessionState) (line : Line)
     → TookLine before after line
-    → seen result after.batch ≡ Some (step_for (batch_of before) (line_meaning config media line))
+    → viewed result after.batch ≡ Some (step_for (batch_of before) (line_meaning config media line))
     → batch_of after ≡ after_meaning (batch_of before) (line_meaning config media line) → after.ended ≡ ends result
-    → (stream given_up : List ℕ) (given : ℕ) → StandsFor config media before stream given_up given
-    → Gives config media result after stream given_up given
-Gives-read config media result before after line took told became ends_so stream given_up given s = elim (given_up_after-step result given_up given) [
-  | inl none ↦
+    → (progress : Progress) → Represents config media before progress
+    → Gives config media result after progress
+Gives-read config media result before after line took told became ends_so progress s = elim (cases_Bool (gives_up result)) [
+  | inl gives ↦
+      let none = gives_up-is result gives in
       let meant : step_for (batch_of before) (line_meaning config media line) ≡ model.Local reply.NoMemory = cc (rw none at told) in
       let kept = became ∙ kept_at_no_memory (batch_of before) (line_meaning config media line) meant in
-      Gives-given_up config media result before after line took none kept ends_so stream given_up given s
-  | inr same ↦
+      Gives-given_up config media result before after line took none kept ends_so progress s
+  | inr keeps ↦
       let lines = lines_of s.before in
       let meaning = line_meaning config media line in
-      let before_it = asks config media given_up lines in
+      let before_it = asks config media progress.given_up lines in
       let asked = before_it ++ cons_option (asked_by meaning) [] in
       let one = step_of_meaning before_it meaning in
-      let l = LineStep-read config media given_up lines line (rw s.count s.known) in
+      let l = LineStep-read config media progress.given_up lines line (rw s.count s.known) in
       let was : IsBatchOf (batch_of before) before_it = record { opened = s.batch_open; commands = s.batch } in
       let is : IsBatchOf (batch_of after) asked = rw became (IsBatchOf-line (batch_of before) before_it meaning was) in
-      let told_one : seen result after.batch ≡ Some one = told ∙ ap (λ (m : model.Step). Some m) (step_for_line (batch_of before) before_it meaning was) in
-      let numbers : given_up_after result given_up given ≡ given_up ++ [] = same ∙ sym (append-nil given_up) in
-      Gives-step config media result after stream given_up given one told_one
-      (rw numbers (next_step config media before after line took stream given_up [] given s one asked (All-nil (λ k. length lines ≤ k)) l))
-      (rw numbers (stands_next config media before after line took stream given_up [] given s one asked (All-nil (λ k. given ≤ k)) (All-nil (λ k. k < given + 1)) l is (ends_so ∙ ends-seen result after.batch one told_one)))
+      let told_one : viewed result after.batch ≡ Some one = told ∙ ap (λ (m : model.Step). Some m) (step_for_line (batch_of before) before_it meaning was) in
+      let further : after_step progress result ≡ one_further progress [] = rw (keeps, append-nil progress.given_up) refl in
+      let next = next_step config media before after line took progress [] s one asked (All-nil (λ k. length lines ≤ k)) l in
+      let represents = represents_next config media before after line took progress [] s one asked (All-nil (λ k. progress.given ≤ k)) (All-nil (λ k. k < progress.given + 1)) l is (ends_so ∙ ends-viewed result after.batch one told_one) in
+      Gives-step config media result after progress one told_one
+      (gives_step config media result after progress (one_further progress []) (sym further) (next ∙ sym told_one) represents)
 ]
+
+-- a line was taken, and what it means was followed, or it was given up
+pub Gives-followed : {E : Type 0} (config : ConfigView) (media : List MediaNameView) (meaning : Result Meaning E) (result : Step) (before after : SessionState) (line : Line)
+    → TookLine before after line → IfOk meaning (λ m. meaning_view m ≡ line_meaning config media line) → Follows meaning result (batch_of before) (batch_of after) → after.ended ≡ ends result
+    → (progress : Progress) → Represents config media before progress
+    → Gives config media result after progress
+Gives-followed config media (Ok meaning) result before after line took meant follows ends_so =
+    Gives-read config media result before after line took (rw meant at follows.0) (rw meant at follows.1) ends_so
+Gives-followed config media (Err fault) result before after line took meant follows ends_so =
+    Gives-given_up config media result before after line took follows.0 follows.1 ends_so

@@ -1,5 +1,5 @@
 pub mod SessionState
-pub mod BatchState
-pub mod Seen
+pub mod Step
 pub mod Session
 pub mod Worked
+pub mod inner

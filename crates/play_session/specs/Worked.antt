@@ -4,7 +4,7 @@ use Prim.Native.String.{String}
 use Rattle.amcp_text.specs.Lines.{Line, Text}
 use Rattle.play_types.specs.Config.{ChannelView, ConfigView}
 use Rattle.play_types.specs.Place.{PlaceView}
-use Rattle.history_model.specs.Session.{Step, until_end, line_steps}
+use Rattle.history_model.specs.sessions.Session.{Step, until_end, line_steps}
 
 abbrev channel : ChannelView
 channel = record { width = 1; height = 1; pairs = 0; output = codes "one.raw" }

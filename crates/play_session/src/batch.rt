@@ -1,18 +1,16 @@
 //! The batch of a connection.
 ghost use Rattle.std.specs.Prelude.{◌≡◌, ◌∷◌, [], IfOk, Some, true, false};
-ghost use Rattle.history_model.specs.SessionLine.{Asks};
-ghost use Rattle.history_model.specs.Session.{command_name, is_query, step_commit, step_inside, step_outside, step_waiting};
-ghost use Rattle.play_session.specs.BatchState.{after_inside, after_meaning, after_outside, step_for, with_command};
-ghost use Rattle.play_session.specs.Seen.{meaning_seen, seen};
+ghost use Rattle.history_model.specs.sessions.Line.{Asks};
+ghost use Rattle.history_model.specs.sessions.Session.{step_commit, step_inside, step_outside, step_waiting};
+ghost use Rattle.play_session.specs.inner.BatchState.{after_inside, after_meaning, after_outside, step_for, with_command};
+ghost use Rattle.play_session.specs.Step.{viewed};
+ghost use Rattle.play_session.specs.inner.Meaning.{meaning_view};
 
 use crate::meaning::Meaning;
 use crate::step::Step;
-use play_types::{Cmd, Name, Parsed, Reply};
+use play_types::{Cmd, MAX_BATCH_COMMANDS, Name, Parsed, Reply};
 use std::alloc::{AllocError, Global};
 use std::marker::Model;
-
-/// The most commands of a batch.
-const LIMIT: usize = 256;
 
 /// A batch, open or closed. A closed one keeps its commands until the next one is opened.
 #[derive(Debug, Drop)]
@@ -23,21 +21,22 @@ pub struct Batch {
 
 impl Model for Batch {
     ghost use Rattle.std.specs.Prelude.{◌≤◌, vec_capacity, vec_len};
-    ghost use Rattle.play_session.specs.BatchState.{BatchState};
+    ghost use Rattle.play_types.specs.declared.command.TheConstants.{MAX_BATCH_COMMANDS};
+    ghost use Rattle.play_session.specs.inner.BatchState.{BatchState};
 
     ghost Value = { BatchState };
 
     ghost view = { λ b. record { is_open = b.is_open; commands = b.commands.items } };
 
-    ghost invariant = { λ b. (vec_len b.commands ≤ 256) × (256 ≤ vec_capacity b.commands) };
+    ghost invariant = { λ b. (vec_len b.commands ≤ MAX_BATCH_COMMANDS) × (MAX_BATCH_COMMANDS ≤ vec_capacity b.commands) };
 }
 
 impl Batch {
-    /// A closed batch without commands. It takes the room for 256 of them.
+    /// Makes a closed batch without commands, with room for as many as a batch may have.
     pub fn new(alloc: Global) -> Result<Batch, AllocError>
         ensures { IfOk result (λ batch. batch ≡ record { is_open = false; commands = [] }) }
     {
-        let commands = Vec::with_capacity(alloc, LIMIT)?;
+        let commands = Vec::with_capacity(alloc, MAX_BATCH_COMMANDS)?;
         Ok(Batch {
             is_open: false,
             commands,
@@ -52,16 +51,17 @@ impl Batch {
         self.commands.clear();
     }
 
+    /// Returns the commands.
     pub fn commands(&self) -> &[Cmd]
         ensures { result.now ≡ self.now.commands }
     {
         self.commands.as_slice()
     }
 
-    /// What is done for what a line means.
+    /// Returns the step of a line of this meaning.
     pub fn step(&mut self, meaning: Meaning) -> Step
-        ensures step { seen result self.new.commands ≡ Some (step_for self.old (meaning_seen meaning)) }
-        ensures batch { self.new ≡ after_meaning self.old (meaning_seen meaning) }
+        ensures step { viewed result self.new.commands ≡ Some (step_for self.old (meaning_view meaning)) }
+        ensures batch { self.new ≡ after_meaning self.old (meaning_view meaning) }
     {
         match meaning {
             Meaning::Blank => Step::Skip,
@@ -70,9 +70,9 @@ impl Batch {
         }
     }
 
-    /// What is done for what the words of a line ask for.
+    /// Returns the step of a line whose words ask for this.
     fn step_for_ask(&mut self, asked: Parsed) -> Step
-        ensures step { seen result self.new.commands ≡ Some (step_for self.old (Asks asked)) }
+        ensures step { viewed result self.new.commands ≡ Some (step_for self.old (Asks asked)) }
         ensures batch { self.new ≡ after_meaning self.old (Asks asked) }
     {
         if self.is_open {
@@ -82,9 +82,9 @@ impl Batch {
         }
     }
 
-    /// What is done where no batch is open.
+    /// Returns the step of a line whose words ask for this, where no batch is open.
     fn step_outside(&mut self, asked: Parsed) -> Step
-        ensures step { seen result self.new.commands ≡ Some (step_outside asked) }
+        ensures step { viewed result self.new.commands ≡ Some (step_outside asked) }
         ensures batch { self.new ≡ after_outside self.old asked }
     {
         match asked {
@@ -99,9 +99,9 @@ impl Batch {
         }
     }
 
-    /// What is done where a batch is open.
+    /// Returns the step of a line whose words ask for this, where a batch is open.
     fn step_inside(&mut self, asked: Parsed) -> Step
-        ensures step { seen result self.new.commands ≡ Some (step_inside self.old.commands asked) }
+        ensures step { viewed result self.new.commands ≡ Some (step_inside self.old.commands asked) }
         ensures batch { self.new ≡ after_inside self.old asked }
     {
         match asked {
@@ -128,11 +128,11 @@ impl Batch {
 
     /// Adds a command to the open batch. It is refused where it is a query, and where there is no room.
     fn add(&mut self, command: Cmd) -> Step
-        ensures step { seen result self.new.commands ≡ Some (step_waiting self.old.commands command) }
+        ensures step { viewed result self.new.commands ≡ Some (step_waiting self.old.commands command) }
         ensures batch { self.new ≡ record { is_open = self.old.is_open; commands = with_command self.old.commands command } }
     {
-        let name = name_of(&command);
-        if is_query(&command) || self.commands.len() >= LIMIT {
+        let name = command.name();
+        if command.is_query() || self.commands.len() >= MAX_BATCH_COMMANDS {
             return refused(name);
         }
         self.commands.push_reserved(command);
@@ -141,7 +141,7 @@ impl Batch {
 
     /// Closes the open batch, which is asked for where it has a command.
     fn commit(&mut self) -> Step
-        ensures step { seen result self.new.commands ≡ Some (step_commit self.old.commands) }
+        ensures step { viewed result self.new.commands ≡ Some (step_commit self.old.commands) }
         ensures batch { self.new ≡ record { is_open = false; commands = self.old.commands } }
     {
         self.is_open = false;
@@ -161,43 +161,16 @@ impl Batch {
     }
 }
 
+/// Returns the reply that a command was done.
 fn done(name: Name) -> Step
     ensures { result ≡ Step.Local (Reply.Done name) }
 {
     Step::Local(Reply::Done(name))
 }
 
+/// Returns the reply that a command is refused.
 fn refused(name: Name) -> Step
     ensures { result ≡ Step.Local (Reply.Refused 403 name) }
 {
     Step::Local(Reply::Refused(403, name))
-}
-
-/// The name that a command begins with.
-pub fn name_of(command: &Cmd) -> Name
-    ensures { result ≡ command_name command.now }
-{
-    match command {
-        Cmd::Load(..) => Name::Load,
-        Cmd::LoadBg(..) => Name::LoadBg,
-        Cmd::Play(_) | Cmd::PlayTake(..) => Name::Play,
-        Cmd::Pause(_) => Name::Pause,
-        Cmd::Resume(_) => Name::Resume,
-        Cmd::StopLayer(_) => Name::Stop,
-        Cmd::ClearLayer(_) | Cmd::ClearChannel(_) => Name::Clear,
-        Cmd::SwapLayers(..) | Cmd::SwapChannels(..) => Name::Swap,
-        Cmd::Set(_)
-        | Cmd::CommitMixer(_)
-        | Cmd::ResetLayer(_)
-        | Cmd::ResetChannel(_)
-        | Cmd::Value(..) => Name::Mixer,
-        Cmd::Info => Name::Info,
-    }
-}
-
-/// Whether a command only asks.
-fn is_query(command: &Cmd) -> bool
-    ensures { result ≡ is_query command.now }
-{
-    matches!(command, Cmd::Value(..) | Cmd::Info)
 }

@@ -1,13 +1,13 @@
 //! Worked streams. Each function does nothing, and its contract says which steps lines have. There is one channel, and
 //! no clip.
-#![tactic(auto, unfolding(history_model::specs::CommandWords::is_word, history_model::specs::CommandWords::whole_within, history_model::specs::CommandPlace::area_of, history_model::specs::Command::name_of, history_model::specs::Command::session_name, history_model::specs::Command::parsed, history_model::specs::SessionLine::line_meaning, history_model::specs::Session::asks, history_model::specs::Session::line_steps))]
+#![tactic(auto, unfolding(play_types::specs::Words::is_word, history_model::specs::commands::Places::area_of, play_types::specs::Words::name_of, play_types::specs::Words::kind_of, play_types::specs::Words::prop_of, history_model::specs::commands::Command::parsed, history_model::specs::sessions::Line::line_meaning, history_model::specs::sessions::Session::asks, history_model::specs::sessions::Session::line_steps))]
 
 ghost use Rattle.std.specs.Prelude.{◌≡◌, ◌∷◌, [], codes};
 ghost use Rattle.amcp_text.specs.Lines.{TooLong};
 ghost use Rattle.play_types.specs.declared.command.Cmd.TheVariants.{StopLayer, Info};
 ghost use Rattle.play_types.specs.declared.reply.Name.TheVariants as name;
 ghost use Rattle.play_types.specs.declared.reply.Reply.TheVariants.{Done, Refused, Unknown, NoMemory};
-ghost use Rattle.history_model.specs.Session.{Local, Ask, AskBatch, KillServer, EndConnection, Skip};
+ghost use Rattle.history_model.specs.sessions.Session.{Local, Ask, AskBatch, KillServer, EndConnection, Skip};
 ghost use Rattle.play_session.specs.Worked.{gives, gives_without, line, layer};
 
 /// What opens a batch, and what closes it.
@@ -32,7 +32,7 @@ pub fn ends()
         ≡ Local (Done name.Begin) ∷ Local (Refused 403 name.Bye) ∷ Local (Refused 403 name.Kill) ∷ [] }
 {}
 
-/// Lines that were given up for want of memory.
+/// Lines that were given up, out of memory.
 pub fn given_up()
     ensures command { gives_without (1 ∷ []) (line "BEGIN" ∷ line "STOP 1-2" ∷ line "COMMIT" ∷ [])
         ≡ Local (Done name.Begin) ∷ Local NoMemory ∷ Local (Done name.Commit) ∷ [] }

@@ -11,7 +11,6 @@ mod meaning;
 mod session;
 mod step;
 
-pub use batch::name_of;
 pub use session::Session;
 pub use step::Step;
 

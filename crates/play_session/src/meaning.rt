@@ -1,11 +1,11 @@
 //! What a line of a connection means.
 ghost use Rattle.std.specs.Prelude.{◌≡◌, ◌<◌, IfOk, Ok, length};
 ghost use Rattle.std.specs.Str.{chars};
-ghost use Rattle.amcp_text.specs.Reader.{line_seen};
+ghost use Rattle.amcp_text.specs.Reader.{line_view};
 ghost use Rattle.amcp_text.specs.Tokens.{words_of};
-ghost use Rattle.history_model.specs.SessionLine.{Wrong, line_meaning, meaning_of_words, refusal_reply};
+ghost use Rattle.history_model.specs.sessions.Line.{Wrong, line_meaning, meaning_of_words, refusal_reply};
 ghost use Rattle.play_types.specs.declared.reply.Reply.TheVariants.{Unknown};
-ghost use Rattle.play_session.specs.Seen.{meaning_seen};
+ghost use Rattle.play_session.specs.inner.Meaning.{meaning_view};
 
 use amcp_text::{LineEvent, TokenFault, WordList, tokens};
 use cmd_parse::parse;
@@ -23,8 +23,8 @@ pub enum Meaning {
     Asks(Parsed),
 }
 
-/// What a line means with this configuration and these clips.
-#[tactic(auto, unfolding(history_model::specs::SessionLine::line_meaning))]
+/// Returns what a line means with this configuration and these clips.
+#[tactic(auto, unfolding(history_model::specs::sessions::Line::line_meaning))]
 pub fn meaning_of(
     alloc: Global,
     config: &Config,
@@ -32,7 +32,7 @@ pub fn meaning_of(
     line: LineEvent<'_>,
 ) -> Result<Meaning, AllocError>
     ensures { IfOk result
-        (λ meaning. meaning_seen meaning ≡ line_meaning config.now media.now (line_seen line.entry)) }
+        (λ meaning. meaning_view meaning ≡ line_meaning config.now media.now (line_view line.entry)) }
 {
     match line {
         LineEvent::Line(text) => meaning_of_text(alloc, config, media, text),
@@ -41,14 +41,14 @@ pub fn meaning_of(
     }
 }
 
-/// What a line of text means.
+/// Returns what a line of text means.
 fn meaning_of_text(
     alloc: Global,
     config: &Config,
     media: &MediaNames,
     line: &str,
 ) -> Result<Meaning, AllocError>
-    ensures { IfOk result (λ meaning. meaning_seen meaning
+    ensures { IfOk result (λ meaning. meaning_view meaning
         ≡ meaning_of_words config.now media.now (chars line.now) (words_of (chars line.now))) }
 {
     match tokens(alloc, line) {
@@ -58,7 +58,7 @@ fn meaning_of_text(
     }
 }
 
-/// What the words of a line mean.
+/// Returns what the words of a line mean.
 fn meaning_of_words(
     alloc: Global,
     config: &Config,
@@ -66,7 +66,7 @@ fn meaning_of_words(
     line: &str,
     words: &WordList,
 ) -> Result<Meaning, AllocError>
-    ensures { IfOk result (λ meaning. meaning_seen meaning
+    ensures { IfOk result (λ meaning. meaning_view meaning
         ≡ meaning_of_words config.now media.now (chars line.now) (Ok words.now)) }
 {
     if words.is_empty() {
@@ -78,14 +78,14 @@ fn meaning_of_words(
     }
 }
 
-/// The reply to a line that is no command.
+/// Returns the meaning of a line that is no command.
 fn unknown(alloc: Global, line: &str) -> Result<Meaning, AllocError>
-    ensures { IfOk result (λ meaning. meaning_seen meaning ≡ Wrong (Unknown (chars line.now))) }
+    ensures { IfOk result (λ meaning. meaning_view meaning ≡ Wrong (Unknown (chars line.now))) }
 {
     Ok(Meaning::Wrong(reply_to(alloc, line, Refusal::Unknown)?))
 }
 
-/// The reply to a line that is refused for this reason.
+/// Returns the reply to a line that is refused for this reason.
 fn reply_to(alloc: Global, line: &str, reason: Refusal) -> Result<Reply, AllocError>
     ensures { IfOk result (λ reply. reply ≡ refusal_reply (chars line.now) reason) }
 {

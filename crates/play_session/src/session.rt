@@ -1,23 +1,26 @@
 //! The state of one connection.
-ghost use Rattle.std.specs.Prelude.{◌≡◌, ◌↔◌, ℕ, List, [], ◌++◌, take, IfOk, true, false};
+ghost use Rattle.std.specs.Prelude.{◌≡◌, ◌≢◌, ◌↔◌, ℕ, List, [], ◌∷◌, ◌++◌, take, IfOk, true, false};
+ghost use Rattle.std.specs.List.{list_any};
+ghost use Rattle.amcp_text.specs.Lines.{is_line_end};
 ghost use Rattle.amcp_text.specs.Reader.{taken_len};
 ghost use Rattle.play_types.specs.Config.{ConfigView};
 ghost use Rattle.play_types.specs.Media.{MediaNameView};
-ghost use Rattle.play_session.specs.Seen.{ends};
-ghost use Rattle.play_session.specs.Session.{StandsFor, Gives, Fits, IsAsBefore};
+ghost use Rattle.play_session.specs.Step.{ends};
+ghost use Rattle.play_session.specs.Session.{Progress, Represents, Gives, Fits, IsAsBefore, IsBetweenLines, after_bytes, at_start};
+ghost use Rattle.play_session.specs.inner.Following.{Follows, batch_of};
 
 use crate::batch::Batch;
-use crate::meaning::meaning_of;
+use crate::meaning::{Meaning, meaning_of};
 use crate::step::Step;
-use amcp_text::LineReader;
+use amcp_text::{LineEvent, LineReader};
 use play_types::{Cmd, Config, MediaNames, Reply};
 use std::alloc::{AllocError, Global};
 use std::marker::Model;
 
 /// The state of one connection: the line that is coming, and an open batch or none.
 ///
-/// It stands for the bytes that it was fed since it was made or restarted, of which it gave a number of steps, one for
-/// each line. A line that was given up for want of memory asks for nothing.
+/// It represents the bytes that it was fed since it was made or restarted, and the steps that it gave, one for each line.
+/// A line that was given up, out of memory, asks for nothing.
 #[derive(Debug, Drop)]
 pub struct Session {
     reader: LineReader,
@@ -34,11 +37,12 @@ impl Model for Session {
 }
 
 impl Session {
-    /// A session that was fed nothing. It takes the room for one line and for the 256 commands of a batch.
+    /// Makes a session that was fed nothing, with room for one line and for the commands of a batch.
     pub fn new(alloc: Global) -> Result<Session, AllocError>
-        ensures stands { IfOk result (λ session. (config : ConfigView) (media : List MediaNameView)
-            → StandsFor config media session [] [] 0) }
+        ensures represents { IfOk result (λ session. (config : ConfigView) (media : List MediaNameView)
+            → Represents config media session at_start) }
         ensures ended { IfOk result (λ session. session.ended ≡ false) }
+        ensures between { IfOk result IsBetweenLines }
     {
         let reader = LineReader::new(alloc)?;
         let batch = Batch::new(alloc)?;
@@ -51,28 +55,29 @@ impl Session {
 
     /// Drops the bytes of the unfinished line and the batch, for a new connection. It takes no memory.
     pub fn restart(&mut self)
-        ensures stands { (config : ConfigView) (media : List MediaNameView) → StandsFor config media self.new [] [] 0 }
+        ensures represents { (config : ConfigView) (media : List MediaNameView) → Represents config media self.new at_start }
         ensures ended { self.new.ended ≡ false }
+        ensures between { IsBetweenLines self.new }
     {
         self.reader.clear();
         self.batch.clear();
         self.ended = false;
     }
 
-    /// Takes the bytes up to and with the first LF, and answers how many: 0 exactly where a whole line is held or
-    /// the piece is empty. It takes no memory, and keeps the batch.
+    /// Takes the bytes up to and with the first LF, and returns how many: 0 exactly where a whole line is held or the
+    /// piece is empty. It takes no memory, and keeps the batch.
     pub fn feed(&mut self, piece: &[u8]) -> usize
         ensures count { result ≡ taken_len self.old.reader.held piece.now }
-        ensures stands { (config : ConfigView) (media : List MediaNameView) (stream given_up : List ℕ) (given : ℕ)
-            → StandsFor config media self.old stream given_up given
-            → StandsFor config media self.new (stream ++ take result piece.now) given_up given }
+        ensures represents { (config : ConfigView) (media : List MediaNameView) (progress : Progress)
+            → Represents config media self.old progress
+            → Represents config media self.new (after_bytes progress (take result piece.now)) }
         ensures same { IsAsBefore self.old self.new }
     {
         self.reader.feed(piece)
     }
 
-    /// The step for the next line. `NeedMore` is answered exactly where no whole line is held, and nothing is changed
-    /// then; `Skip` exactly where the line has no word.
+    /// Returns the step of the next line: `NeedMore` exactly where no whole line is held, and nothing is changed then;
+    /// `Skip` exactly where the line has no word.
     ///
     /// No step may be asked for after a `Kill` or a `Bye`. A line for which there is no memory is given up with
     /// `Local(NoMemory)`, which leaves the batch as it was.
@@ -80,8 +85,8 @@ impl Session {
         requires { self.old.ended ≡ false }
         ensures needs_more { (result ≡ Step.NeedMore) ↔ (self.old.reader.held ≡ false) }
         ensures unchanged { result ≡ Step.NeedMore → self.new ≡ self.old }
-        ensures gives { (stream given_up : List ℕ) (given : ℕ) → StandsFor config.now media.now self.old stream given_up given
-            → Gives config.now media.now result self.new stream given_up given }
+        ensures gives { (progress : Progress) → Represents config.now media.now self.old progress
+            → Gives config.now media.now result self.new progress }
         ensures ended { self.new.ended ≡ ends result }
         ensures fits { Fits config.now result }
         ensures given_up { result ≡ Step.Local Reply.NoMemory → IsAsBefore self.old self.new }
@@ -91,6 +96,42 @@ impl Session {
             None => return Step::NeedMore,
         };
         self.reader.next_line();
+        self.follow(meaning)
+    }
+
+    /// Takes one whole line, whose end is left out, and returns its step: as if the text and a CR LF were fed, and the
+    /// next step asked for. The bytes of an unfinished line are dropped.
+    ///
+    /// No step may be asked for after a `Kill` or a `Bye`. `Skip` comes exactly where the line has no word. A line for
+    /// which there is no memory is given up with `Local(NoMemory)`, which leaves the batch as it was.
+    pub fn take_line(
+        &mut self,
+        alloc: Global,
+        text: &[u8],
+        config: &Config,
+        media: &MediaNames,
+    ) -> Step
+        requires { self.old.ended ≡ false }
+        ensures some { result ≢ Step.NeedMore }
+        ensures gives { IsBetweenLines self.old → list_any is_line_end text.now ≡ false
+            → (progress : Progress) → Represents config.now media.now self.old progress
+            → Gives config.now media.now result self.new (after_bytes progress (text.now ++ 13 ∷ 10 ∷ [])) }
+        ensures between { IsBetweenLines self.new }
+        ensures ended { self.new.ended ≡ ends result }
+        ensures fits { Fits config.now result }
+        ensures given_up { result ≡ Step.Local Reply.NoMemory → IsAsBefore self.old self.new }
+    {
+        let meaning = meaning_of(alloc, config, media, LineEvent::of(text));
+        self.reader.clear();
+        self.follow(meaning)
+    }
+
+    /// Returns the step of a line of this meaning, or of one that is given up, out of memory.
+    fn follow(&mut self, meaning: Result<Meaning, AllocError>) -> Step
+        ensures reader { self.new.reader ≡ self.old.reader }
+        ensures follows { Follows meaning result (batch_of self.old) (batch_of self.new) }
+        ensures ended { self.new.ended ≡ ends result }
+    {
         let step = match meaning {
             Ok(meaning) => self.batch.step(meaning),
             Err(AllocError) => Step::Local(Reply::NoMemory),
@@ -99,14 +140,14 @@ impl Session {
         step
     }
 
-    /// Whether it gave a `Kill` or a `Bye`, so that no further step may be asked for.
+    /// Returns whether it gave a `Kill` or a `Bye`, so that no further step may be asked for.
     pub fn has_ended(&self) -> bool
         ensures { result ≡ self.now.ended }
     {
         self.ended
     }
 
-    /// The commands of the batch that an `AskBatch` asks for, until the next step.
+    /// Returns the commands of the batch that an `AskBatch` asks for, until the next step.
     pub fn batch(&self) -> &[Cmd]
         ensures { result.now ≡ self.now.batch }
     {

@@ -1,13 +1,13 @@
 //! What is to be done for a line of a connection.
 ghost use Rattle.std.specs.Prelude.{◌≡◌};
-ghost use Rattle.play_session.specs.Seen.{ends};
+ghost use Rattle.play_session.specs.Step.{ends};
 
 use play_types::{Cmd, Reply};
 
 /// What is to be done for a line of a connection.
 #[derive(Debug, Drop)]
 pub enum Step {
-    /// The reply is sent. `NoMemory` is the reply to a line that was given up for want of memory.
+    /// The reply is sent. `NoMemory` is the reply to a line that is given up, out of memory.
     Local(Reply),
     /// The stage is asked for this command.
     Ask(Cmd),
@@ -24,7 +24,7 @@ pub enum Step {
 }
 
 impl Step {
-    /// Whether nothing more is done for the connection: at `Kill` and at `Bye`.
+    /// Returns whether nothing more is done for the connection: at `Kill` and at `Bye`.
     pub fn is_end(&self) -> bool
         ensures { result ≡ ends self.now }
     {

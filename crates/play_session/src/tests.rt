@@ -71,7 +71,7 @@ fn two_channels(alloc: Global) -> Result<Config, Fail> {
 fn bad_clip(alloc: Global) -> Result<MediaNames, Fail> {
     let mut names = MediaNames::new(alloc);
     let bad = Text::copy(alloc, "BAD")?;
-    names.push(MediaName::new(bad, false, 0, 0, 0, 0).ok_or("bad")?)?;
+    names.push(MediaName::unreadable(bad))?;
     Ok(names)
 }
 

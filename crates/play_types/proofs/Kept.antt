@@ -3,8 +3,8 @@ use Rattle.std.proofs.Common.{◌≡◌, ℕ, ◌-◌, ◌≤◌, List, ◌++◌
 use Rattle.std.proofs.lemmas.List.{drop-replicate, drop_at, length-take-le}
 
 -- writing the first n items over m copies of one item leaves the items, and copies after them
-pub kept_is : {X : Type 0} (front xs : List X) (n m from at : ℕ) (x : X) → front ≡ take from xs → from ≡ n → at ≡ n → front ++ drop at (replicate m x) ≡ take n xs ++ replicate (m - n) x
-kept_is front xs n m from at x f g h = rw (f, g, h, drop-replicate n m x)
+pub kept_is : {X : Type 0} (prefix xs : List X) (n m used : ℕ) (x : X) → prefix ≡ take used xs → used ≡ n → prefix ++ drop used (replicate m x) ≡ take n xs ++ replicate (m - n) x
+kept_is prefix xs n m used x written e = rw (written, e, drop-replicate n m x)
 
 -- after the first n items stands what was put there
 pub rest_is : {X : Type 0} (xs back : List X) (n : ℕ) → n ≤ length xs → drop n (take n xs ++ back) ≡ back

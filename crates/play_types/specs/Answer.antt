@@ -1,6 +1,7 @@
 -- What contracts see of the answers of the stage.
 use Rattle.std.specs.Prelude.{◌≡◌, ℕ, ◌-◌, ◌≤◌, ℤ, pos, List, ◌++◌, take, drop, replicate, All}
 use Rattle.play_types.specs.Setting.{IsWide}
+use Rattle.play_types.specs.declared.place.TheConstants.{MAX_CHANNELS}
 use Rattle.play_types.specs.declared.answer.Status.{Status}
 use Rattle.play_types.specs.declared.answer.Status.TheVariants.{Empty}
 
@@ -31,9 +32,9 @@ pub record StatusListView : Type 0 where
 -- the statuses that are kept: those from the count on are Empty
 abbrev pub status_list_of : List Status → ℕ → StatusListView
 status_list_of channels count =
-    record { channels = take count channels ++ replicate (16 - count) Empty; count = count }
+    record { channels = take count channels ++ replicate (MAX_CHANNELS - count) Empty; count = count }
 
 -- at most sixteen channels, and Empty from the count on
 pub record IsStatusList (channels : List Status) (count : ℕ) : Type 0 where
-  pub few : count ≤ 16
-  pub unused : drop count channels ≡ replicate (16 - count) Empty
+  pub few : count ≤ MAX_CHANNELS
+  pub unused : drop count channels ≡ replicate (MAX_CHANNELS - count) Empty

@@ -1,6 +1,7 @@
 -- Clips, and the raw clip file.
 use Rattle.std.specs.Prelude.{◌≡◌, ℕ, ◌*◌, ◌≤◌, List, ◌++◌, length, codes}
 use Rattle.std.specs.Int.{w16, w32, to_be_bytes}
+use Rattle.play_types.specs.declared.clip.TheConstants.{MAX_FRAMES}
 use Rattle.play_types.specs.declared.geometry.Geometry.{Geometry}
 use Rattle.play_types.specs.Geometry.{IsSize, frame_bytes}
 
@@ -14,7 +15,7 @@ pub record ClipView : Type 0 where
 pub record IsClip (clip : ClipView) : Type 0 where
   pub size : IsSize clip.geometry.width clip.geometry.height clip.geometry.pairs
   pub some_frames : 1 ≤ clip.frames
-  pub frames : clip.frames ≤ 1000000
+  pub frames : clip.frames ≤ MAX_FRAMES
   pub whole : length clip.bytes ≡ clip.frames * frame_bytes clip.geometry
 
 -- the 20 bytes before the frames: RCLP, version 1, flags 0, width, height, frames, pairs, zero

@@ -1,6 +1,8 @@
 -- What contracts see of the configuration.
 use Rattle.std.specs.Prelude.{ℕ, ◌<◌, ◌≤◌, List, length, All}
 use Rattle.play_types.specs.Geometry.{IsSize}
+use Rattle.play_types.specs.declared.config.TheConstants.{MAX_RATE, MAX_CONNECTIONS, MAX_JOURNAL_COMMANDS}
+use Rattle.play_types.specs.declared.place.TheConstants.{MAX_CHANNELS}
 
 -- a channel: its size, and the characters of the name of its output
 pub record ChannelView : Type 0 where
@@ -29,13 +31,13 @@ pub record AreConfigParts (config : ConfigView) : Type 0 where
   pub listen : 0 < length config.listen
   pub media : 0 < length config.media
   pub some_rate : 1 ≤ config.rate
-  pub rate : config.rate ≤ 240
+  pub rate : config.rate ≤ MAX_RATE
   pub some_connections : 1 ≤ config.connections
-  pub connections : config.connections ≤ 64
+  pub connections : config.connections ≤ MAX_CONNECTIONS
   pub some_journal : 1 ≤ config.journal_limit
-  pub journal : config.journal_limit ≤ 16777216
+  pub journal : config.journal_limit ≤ MAX_JOURNAL_COMMANDS
   pub some_channels : 1 ≤ length config.channels
-  pub few_channels : length config.channels ≤ 16
+  pub few_channels : length config.channels ≤ MAX_CHANNELS
 
 -- a configuration in its ranges, each channel too
 pub record IsConfig (config : ConfigView) : Type 0 where

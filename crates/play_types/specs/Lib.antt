@@ -1,3 +1,4 @@
+pub mod Words
 pub mod Place
 pub mod Transition
 pub mod Columns
@@ -6,6 +7,7 @@ pub mod Playhead
 pub mod Setting
 pub mod Curve
 pub mod Answer
+pub mod Commands
 pub mod History
 pub mod Geometry
 pub mod ClipFile

@@ -1,10 +1,24 @@
 -- What contracts see of a setting.
-use Rattle.std.specs.Prelude.{◌≡◌, ℕ, ◌≤◌, ◌⊎◌, Bool, ℤ, pos, neg_ℤ, ◌≤ℤ◌, List, [], ◌∷◌, slice_index_or}
+use Rattle.std.specs.Prelude.{◌≡◌, ℕ, ◌==◌, ◌≤◌, ◌⊎◌, Bool, ℤ, pos, neg_ℤ, ◌≤ℤ◌, List, [], ◌∷◌, slice_index_or}
 use Rattle.play_types.specs.Place.{PlaceView}
 use Rattle.play_types.specs.declared.transition.Curve.{Curve}
 use Rattle.play_types.specs.declared.transition.Curve.TheVariants.{Linear}
+use Rattle.play_types.specs.declared.transition.TheConstants.{MAX_DURATION}
+use Rattle.play_types.specs.declared.setting.TheConstants.{MICROS_PER_UNIT, MAX_MICROS}
 use Rattle.play_types.specs.declared.setting.Prop.{Prop}
 use Rattle.play_types.specs.declared.setting.Prop.TheVariants.{Opacity, Fill, Clip, Volume, Keyer}
+
+-- the number of a property, by which properties are compared
+abbrev pub prop_number : Prop → ℕ
+prop_number Opacity = 0
+prop_number Fill = 1
+prop_number Clip = 2
+prop_number Volume = 3
+prop_number Keyer = 4
+
+-- whether two properties are one
+abbrev pub is_same_prop : Prop → Prop → Bool
+is_same_prop one other = prop_number one == prop_number other
 
 -- a mixer value that is to be reached in duration ticks, its numbers in millionths
 pub record SettingView : Type 0 where
@@ -25,17 +39,17 @@ IsWithin low high value = (low ≤ℤ value) × (value ≤ℤ high)
 
 -- minus 1000 to 1000, in millionths
 abbrev pub IsWide : ℤ → Type 0
-IsWide value = IsWithin (neg_ℤ (pos 1000000000)) (pos 1000000000) value
+IsWide value = IsWithin (neg_ℤ MAX_MICROS) MAX_MICROS value
 
 -- the numbers that the property uses are in its range
 abbrev pub AreValues : Prop → List ℤ → Type 0
-AreValues Opacity values = IsWithin (pos 0) (pos 1000000) (number_at values 0)
-AreValues Volume values = IsWithin (pos 0) (pos 1000000000) (number_at values 0)
+AreValues Opacity values = IsWithin (pos 0) MICROS_PER_UNIT (number_at values 0)
+AreValues Volume values = IsWithin (pos 0) MAX_MICROS (number_at values 0)
 AreValues Fill values =
     IsWide (number_at values 0) × IsWide (number_at values 1) × IsWide (number_at values 2) × IsWide (number_at values 3)
 AreValues Clip values =
     IsWide (number_at values 0) × IsWide (number_at values 1) × IsWide (number_at values 2) × IsWide (number_at values 3)
-AreValues Keyer values = (number_at values 0 ≡ pos 0) ⊎ (number_at values 0 ≡ pos 1000000)
+AreValues Keyer values = (number_at values 0 ≡ pos 0) ⊎ (number_at values 0 ≡ MICROS_PER_UNIT)
 
 -- the numbers that are kept: those that the property does not use are 0
 abbrev pub values_of : Prop → List ℤ → List ℤ
@@ -68,7 +82,7 @@ setting_of place prop values duration curve deferred =
 
 -- the numbers and the duration are in range, and what the property does not use is 0
 pub record IsSetting (setting : SettingView) : Type 0 where
-  pub short : setting.duration ≤ 1000000
+  pub short : setting.duration ≤ MAX_DURATION
   pub in_range : AreValues setting.prop setting.values
   pub values : values_of setting.prop setting.values ≡ setting.values
   pub duration : duration_of setting.prop setting.duration ≡ setting.duration

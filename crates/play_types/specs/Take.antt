@@ -1,6 +1,7 @@
 -- What contracts see of a take.
 use Rattle.std.specs.Prelude.{◌≡◌, ℕ, ◌+◌, ◌<◌, ◌≤◌, Bool, false}
 use Rattle.play_types.specs.Transition.{TransView, cut}
+use Rattle.play_types.specs.declared.clip.TheConstants.{MAX_FRAMES}
 use Rattle.play_types.specs.declared.take.Spec.{Spec}
 use Rattle.play_types.specs.declared.take.Spec.TheVariants.{Clip, Colour, RouteChannel, RouteLayer}
 
@@ -26,14 +27,14 @@ take_of (RouteLayer place) looped seek length trans auto =
 
 -- a clip is played from 1 frame on, and within the first 1,000,000 frames
 abbrev pub IsTake : Spec → ℕ → ℕ → Type 0
-IsTake (Clip id) seek length = (0 < length) × (seek + length ≤ 1000000)
+IsTake (Clip id) seek length = (0 < length) × (seek + length ≤ MAX_FRAMES)
 IsTake (Colour value) seek length = Unit {0}
 IsTake (RouteChannel channel) seek length = Unit {0}
 IsTake (RouteLayer place) seek length = Unit {0}
 
 -- the frames of a clip are in range, and of another producer none is named
 abbrev pub IsTakeValue : Spec → Bool → ℕ → ℕ → Type 0
-IsTakeValue (Clip id) looped seek length = (0 < length) × (seek + length ≤ 1000000)
+IsTakeValue (Clip id) looped seek length = (0 < length) × (seek + length ≤ MAX_FRAMES)
 IsTakeValue (Colour value) looped seek length = (looped ≡ false) × (seek ≡ 0) × (length ≡ 0)
 IsTakeValue (RouteChannel channel) looped seek length = (looped ≡ false) × (seek ≡ 0) × (length ≡ 0)
 IsTakeValue (RouteLayer place) looped seek length = (looped ≡ false) × (seek ≡ 0) × (length ≡ 0)

@@ -4,6 +4,7 @@ use Rattle.play_types.specs.declared.transition.Kind.{Kind}
 use Rattle.play_types.specs.declared.transition.Kind.TheVariants.{Cut, Mix, Push, Slide, Wipe}
 use Rattle.play_types.specs.declared.transition.Curve.{Curve}
 use Rattle.play_types.specs.declared.transition.Curve.TheVariants.{Linear}
+use Rattle.play_types.specs.declared.transition.TheConstants.{MAX_DURATION}
 
 -- a transition, its duration in ticks
 pub record TransView : Type 0 where
@@ -26,5 +27,5 @@ trans_of Wipe duration curve leftward = record { kind = Wipe; duration = duratio
 
 -- the duration is at most 1,000,000, and a cut is kept as one
 pub record IsTrans (kind : Kind) (duration : ℕ) (curve : Curve) (leftward : Bool) : Type 0 where
-  pub short : duration ≤ 1000000
+  pub short : duration ≤ MAX_DURATION
   pub kept : trans_of kind duration curve leftward ≡ record { kind = kind; duration = duration; curve = curve; leftward = leftward }

@@ -1,7 +1,10 @@
 //! Answers of the stage.
 ghost use Rattle.std.specs.Prelude.{◌≡◌, ◌≤◌, ◌↔◌, IsSome, IfSome};
+ghost use Rattle.play_types.specs.Words.{status_text};
 ghost use Rattle.play_types.specs.Answer.{AreMicros, IsMicros, IsStatusList, micros_of, status_list_of};
+ghost use Rattle.play_types.specs.declared.place.TheConstants.{MAX_CHANNELS};
 
+use crate::place::MAX_CHANNELS;
 use crate::setting::are_wide;
 use std::marker::Model;
 
@@ -35,12 +38,12 @@ impl Micros {
         if count > 4 {
             return None;
         }
-        let used = &values[..usize::from(count)];
-        if !are_wide(used) {
+        let used = usize::from(count);
+        if !are_wide(&values[..used]) {
             return None;
         }
         let mut kept = [0; 4];
-        kept[..usize::from(count)].copy_from_slice(used);
+        kept[..used].copy_from_slice(&values[..used]);
         Some(Micros {
             values: kept,
             count,
@@ -75,10 +78,23 @@ pub enum Status {
     Playing,
 }
 
+impl Status {
+    /// Returns the status in capitals, as INFO prints it.
+    pub fn as_str(self) -> &'static str
+        ensures { result.now ≡ status_text self }
+    {
+        match self {
+            Status::Empty => "EMPTY",
+            Status::Paused => "PAUSED",
+            Status::Playing => "PLAYING",
+        }
+    }
+}
+
 /// The status of each channel. Only the first `count` are meant, and the rest are `Empty`.
 #[derive(Clone, Copy, Debug, PartialEq, Eq)]
 pub struct StatusList {
-    channels: [Status; 16],
+    channels: [Status; MAX_CHANNELS],
     count: u8,
 }
 
@@ -96,15 +112,16 @@ impl Model for StatusList {
 
 impl StatusList {
     /// `None` exactly where the count is above 16. The statuses from the count on are dropped.
-    pub fn new(channels: [Status; 16], count: u8) -> Option<StatusList>
-        ensures exact { IsSome result ↔ (count ≤ 16) }
+    pub fn new(channels: [Status; MAX_CHANNELS], count: u8) -> Option<StatusList>
+        ensures exact { IsSome result ↔ (count ≤ MAX_CHANNELS) }
         ensures value { IfSome result (λ s. s ≡ status_list_of channels count) }
     {
-        if count > 16 {
+        let used = usize::from(count);
+        if used > MAX_CHANNELS {
             return None;
         }
-        let mut kept = [Status::Empty; 16];
-        kept[..usize::from(count)].copy_from_slice(&channels[..usize::from(count)]);
+        let mut kept = [Status::Empty; MAX_CHANNELS];
+        kept[..used].copy_from_slice(&channels[..used]);
         Some(StatusList {
             channels: kept,
             count,
@@ -112,7 +129,7 @@ impl StatusList {
     }
 
     /// Those from the count on are `Empty`.
-    pub fn channels(self) -> [Status; 16]
+    pub fn channels(self) -> [Status; MAX_CHANNELS]
         ensures value { result ≡ self.channels }
         ensures range { IsStatusList self.channels self.count }
     {

@@ -6,6 +6,9 @@ use crate::bytes::ByteList;
 use crate::geometry::Geometry;
 use std::marker::Model;
 
+/// The most frames of a clip.
+pub const MAX_FRAMES: u32 = 1_000_000;
+
 /// A clip: its size, its number of frames, 1 to 1,000,000, and the bytes of its frames one after another.
 ///
 /// A frame is its pixels, B, G, R and A of each, in rows from the top, and then its stereo pairs, left and right, each
@@ -36,7 +39,7 @@ impl Clip {
         ensures value { IfSome result
             (λ c. c ≡ record { geometry = geometry; frames = frames; bytes = bytes }) }
     {
-        if !geometry.is_in_range() || !(1..=1_000_000).contains(&frames) {
+        if !geometry.is_in_range() || !(1..=MAX_FRAMES).contains(&frames) {
             return None;
         }
         if bytes.as_slice().len() as u64 != u64::from(frames) * geometry.frame_bytes() {

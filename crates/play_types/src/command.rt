@@ -1,12 +1,16 @@
 //! Commands of the stage, and lists of them.
 ghost use Rattle.std.specs.Prelude.{◌≡◌, ◌==◌, ◌∷◌, ◌++◌, [], length, OnOk, OnErr, option_copied, slice_get};
+ghost use Rattle.std.specs.Slice.Iter.{iter_rest};
+ghost use Rattle.play_types.specs.Commands.{command_name, is_query};
 ghost use Rattle.play_types.specs.Take.{loaded, played};
 
 use crate::place::Place;
+use crate::reply::Name;
 use crate::setting::{Prop, Setting};
 use crate::take::Take;
 use std::alloc::{AllocError, Global};
 use std::marker::Model;
+use std::slice;
 
 /// A command of the stage. `Cmd::load` keeps a cut and no `auto`, `Cmd::play_take` no `auto`.
 #[derive(Clone, Copy, Debug, PartialEq, Eq)]
@@ -61,7 +65,56 @@ impl Cmd {
     {
         Cmd::PlayTake(place, take.without_auto())
     }
+
+    /// Returns the name that the command begins with.
+    pub fn name(&self) -> Name
+        ensures { result ≡ command_name self.now }
+    {
+        match self {
+            Cmd::Load(..) => Name::Load,
+            Cmd::LoadBg(..) => Name::LoadBg,
+            Cmd::Play(_) | Cmd::PlayTake(..) => Name::Play,
+            Cmd::Pause(_) => Name::Pause,
+            Cmd::Resume(_) => Name::Resume,
+            Cmd::StopLayer(_) => Name::Stop,
+            Cmd::ClearLayer(_) | Cmd::ClearChannel(_) => Name::Clear,
+            Cmd::SwapLayers(..) | Cmd::SwapChannels(..) => Name::Swap,
+            Cmd::Set(_)
+            | Cmd::CommitMixer(_)
+            | Cmd::ResetLayer(_)
+            | Cmd::ResetChannel(_)
+            | Cmd::Value(..) => Name::Mixer,
+            Cmd::Info => Name::Info,
+        }
+    }
+
+    /// Returns whether the command only asks, and so changes nothing.
+    pub fn is_query(&self) -> bool
+        ensures { result ≡ is_query self.now }
+    {
+        match self {
+            Cmd::Value(..) | Cmd::Info => true,
+            Cmd::Load(..)
+            | Cmd::LoadBg(..)
+            | Cmd::Play(_)
+            | Cmd::PlayTake(..)
+            | Cmd::Pause(_)
+            | Cmd::Resume(_)
+            | Cmd::StopLayer(_)
+            | Cmd::ClearLayer(_)
+            | Cmd::ClearChannel(_)
+            | Cmd::SwapLayers(..)
+            | Cmd::SwapChannels(..)
+            | Cmd::Set(_)
+            | Cmd::CommitMixer(_)
+            | Cmd::ResetLayer(_)
+            | Cmd::ResetChannel(_) => false,
+        }
+    }
 }
+
+/// The most commands of a batch.
+pub const MAX_BATCH_COMMANDS: usize = 256;
 
 /// Commands in order.
 #[derive(Debug, Drop)]
@@ -107,6 +160,13 @@ impl CmdList {
         ensures { result ≡ (length self.now == 0) }
     {
         self.cmds.is_empty()
+    }
+
+    /// Returns the commands in order.
+    pub fn iter(&self) -> slice::Iter<'_, Cmd>
+        ensures { iter_rest result ≡ self.now }
+    {
+        self.cmds.iter()
     }
 
     /// `None` exactly where `at` is not below the length.

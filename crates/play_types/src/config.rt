@@ -1,11 +1,23 @@
 //! The configuration of a server.
 ghost use Rattle.std.specs.Prelude.{◌≡◌, ◌==◌, ◌<◌, ◌≤◌, ◌↔◌, ◌∷◌, ◌++◌, [], length, All, IsSome, IfSome, OnOk, OnErr, option_copied, slice_get};
+ghost use Rattle.std.specs.Slice.Iter.{iter_rest};
 ghost use Rattle.play_types.specs.Config.{AreConfigParts, IsChannel, IsConfig};
 
 use crate::geometry::Geometry;
+use crate::place::MAX_CHANNELS;
 use crate::text::Text;
 use std::alloc::{AllocError, Global};
 use std::marker::Model;
+use std::slice;
+
+/// The most pulses of a second.
+pub const MAX_RATE: u32 = 240;
+
+/// The most connection workers.
+pub const MAX_CONNECTIONS: u32 = 64;
+
+/// The most commands that a history may be set up to hold.
+pub const MAX_JOURNAL_COMMANDS: u32 = 16_777_216;
 
 /// A channel of the server: the size of its frames, and where they go.
 #[derive(Debug, Drop)]
@@ -146,6 +158,13 @@ impl ChannelList {
         self.channels.is_empty()
     }
 
+    /// Returns the channels in order.
+    pub fn iter(&self) -> slice::Iter<'_, Channel>
+        ensures { iter_rest result ≡ self.now }
+    {
+        self.channels.iter()
+    }
+
     /// `None` exactly where `at` is not below the length.
     pub fn get(&self, at: usize) -> Option<&Channel>
         ensures { option_copied result ≡ slice_get self.now at }
@@ -191,12 +210,12 @@ impl Config {
         ensures value { IfSome result
             (λ c. c ≡ record { listen = listen; media = media; rate = rate; connections = connections; journal_limit = journal_limit; channels = channels }) }
     {
-        if listen.is_empty() || media.is_empty() || !(1..=16).contains(&channels.len()) {
+        if listen.is_empty() || media.is_empty() || !(1..=MAX_CHANNELS).contains(&channels.len()) {
             return None;
         }
-        if !(1..=240).contains(&rate)
-            || !(1..=64).contains(&connections)
-            || !(1..=16_777_216).contains(&journal_limit)
+        if !(1..=MAX_RATE).contains(&rate)
+            || !(1..=MAX_CONNECTIONS).contains(&connections)
+            || !(1..=MAX_JOURNAL_COMMANDS).contains(&journal_limit)
         {
             return None;
         }

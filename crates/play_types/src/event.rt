@@ -2,6 +2,9 @@
 
 use crate::command::{Cmd, CmdList};
 
+/// The most ticks of a history.
+pub const MAX_TICKS: u64 = 281_474_976_710_656;
+
 /// Who asked: a connection worker and a session of it. Worker 0, session 0 is the server itself.
 #[derive(Clone, Copy, Debug, PartialEq, Eq)]
 pub struct Tag {

@@ -14,7 +14,7 @@ use crate::take::Spec;
 use crate::transition::Kind;
 
 // A clip that is played from frame 2 on, 5 frames of it.
-fn playhead_of_a_clip()
+pub fn playhead_of_a_clip()
     ensures first { head (take_of (Spec.Clip 7) false 2 5 cut false) 0 ≡ 2 }
     ensures stays_on_its_last_frame { head (take_of (Spec.Clip 7) false 2 5 cut false) 9 ≡ 6 }
     ensures begins_anew_where_looped { head (take_of (Spec.Clip 7) true 2 5 cut false) 5 ≡ 2 }
@@ -23,7 +23,7 @@ fn playhead_of_a_clip()
 {}
 
 // In millionths.
-fn tween_over_four_ticks()
+pub fn tween_over_four_ticks()
     ensures before { along (pos 1000000) (pos 0) 0 4 ≡ pos 1000000 }
     ensures one { along (pos 1000000) (pos 0) 1 4 ≡ pos 750000 }
     ensures two { along (pos 1000000) (pos 0) 2 4 ≡ pos 500000 }
@@ -35,7 +35,7 @@ fn tween_over_four_ticks()
 {}
 
 // Four columns, at step 1 of 4 and at step 2 of 3.
-fn columns_of_transitions()
+pub fn columns_of_transitions()
     ensures mixed { pick Kind.Mix false 1 4 4 3 ≡ Both 3 }
     ensures wiped { pick Kind.Wipe false 1 4 4 0 ≡ New 0 }
     ensures not_yet_wiped { pick Kind.Wipe false 1 4 4 1 ≡ Old 1 }
@@ -49,7 +49,7 @@ fn columns_of_transitions()
     ensures slid_in_leftward { pick Kind.Slide true 2 3 4 2 ≡ New 0 }
 {}
 
-fn numbers_of_a_history(tag: Tag, cmd: Cmd)
+pub fn numbers_of_a_history(tag: Tag, cmd: Cmd)
     ensures ticks { ticks
         (Event.Tick ∷ Event.Do tag cmd ∷ Event.Tick ∷ Event.Batch tag (cmd ∷ cmd ∷ []) ∷ [])
         ≡ 2 }
@@ -61,7 +61,7 @@ fn numbers_of_a_history(tag: Tag, cmd: Cmd)
     ensures not_stopped { stop_at (Event.Tick ∷ Event.Do tag cmd ∷ []) ≡ None }
 {}
 
-fn histories(tag: Tag, cmd: Cmd)
+pub fn histories(tag: Tag, cmd: Cmd)
     ensures empty { IsHistory [] }
     ensures stopped { IsHistory (Event.Batch tag (cmd ∷ []) ∷ Event.Tick ∷ Event.Stop tag ∷ []) }
     ensures no_empty_batch { IsHistory (Event.Tick ∷ Event.Batch tag [] ∷ []) → ⊥ }
@@ -70,7 +70,7 @@ fn histories(tag: Tag, cmd: Cmd)
 {}
 
 // 2x1, one frame, no sound.
-fn clip_files()
+pub fn clip_files()
     ensures spelled { clip_bytes (record {
       geometry = record { width = 2; height = 1; pairs = 0 };
       frames = 1;

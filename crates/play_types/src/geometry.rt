@@ -2,6 +2,12 @@
 ghost use Rattle.std.specs.Prelude.{◌≡◌, ◌↔◌, IsTrue};
 ghost use Rattle.play_types.specs.Geometry.{IsSize, frame_bytes};
 
+/// The most columns, and the most rows, of a frame.
+pub const MAX_SIDE: u16 = 4_096;
+
+/// The most stereo pairs of sound of a frame.
+pub const MAX_PAIRS: u16 = 4_096;
+
 /// The size of a frame: columns, rows, and stereo pairs of sound.
 #[derive(Clone, Copy, Debug, PartialEq, Eq)]
 pub struct Geometry {
@@ -15,7 +21,9 @@ impl Geometry {
     pub fn is_in_range(self) -> bool
         ensures { IsTrue result ↔ IsSize self.width self.height self.pairs }
     {
-        (1..=4096).contains(&self.width) && (1..=4096).contains(&self.height) && self.pairs <= 4096
+        (1..=MAX_SIDE).contains(&self.width)
+            && (1..=MAX_SIDE).contains(&self.height)
+            && self.pairs <= MAX_PAIRS
     }
 
     /// The bytes of one frame: four a pixel, then four a pair.

@@ -1,12 +1,16 @@
 //! Laws of the definitions in `specs/`, each the contract of a function that does nothing.
-ghost use Rattle.std.specs.Prelude.{◌≡◌, ◌+◌, ◌<◌, ◌≤◌, false};
+ghost use Rattle.std.specs.Prelude.{◌≡◌, ◌+◌, ◌<◌, ◌≤◌, false, Some};
 ghost use Rattle.play_types.specs.ClipFile.{IsClip, clip_bytes};
 ghost use Rattle.play_types.specs.Columns.{IsInRaster, pick};
 ghost use Rattle.play_types.specs.Curve.{IsBetween, along};
 ghost use Rattle.play_types.specs.Playhead.{head};
+ghost use Rattle.play_types.specs.Setting.{prop_number};
 ghost use Rattle.play_types.specs.Take.{take_of};
+ghost use Rattle.play_types.specs.Words.{kind_of, kind_text, name_of, name_text, prop_of, prop_text};
 
 use crate::clip::Clip;
+use crate::reply::Name;
+use crate::setting::Prop;
 use crate::take::Spec;
 use crate::transition::{Kind, Trans};
 
@@ -48,4 +52,28 @@ pub fn clip_of_a_file(first: &Clip, second: &Clip)
     requires second_in_range { IsClip second.now }
     requires same_file { clip_bytes first.now ≡ clip_bytes second.now }
     ensures { first.now ≡ second.now }
+{}
+
+/// The name of a command that is printed reads back.
+#[tactic(auto, unfolding(crate::specs::Words::name_of, crate::specs::Words::is_word))]
+pub fn name_reads_back(name: Name)
+    ensures { name_of (name_text name) ≡ Some name }
+{}
+
+/// A property that is printed reads back.
+#[tactic(auto, unfolding(crate::specs::Words::prop_of, crate::specs::Words::is_word))]
+pub fn prop_reads_back(prop: Prop)
+    ensures { prop_of (prop_text prop) ≡ Some prop }
+{}
+
+/// A kind of transition that is printed reads back.
+#[tactic(auto, unfolding(crate::specs::Words::kind_of, crate::specs::Words::is_word))]
+pub fn kind_reads_back(kind: Kind)
+    ensures { kind_of (kind_text kind) ≡ Some kind }
+{}
+
+/// Properties with one number are one property.
+pub fn prop_by_its_number(one: Prop, other: Prop)
+    requires { prop_number one ≡ prop_number other }
+    ensures { one ≡ other }
 {}

@@ -1,11 +1,14 @@
 //! The names of the media table.
 ghost use Rattle.std.specs.Prelude.{◌≡◌, ◌==◌, ◌<◌, ◌≤◌, ◌↔◌, ◌∷◌, ◌++◌, [], length, All, IsSome, IfSome, OnOk, OnErr, option_copied, slice_get};
-ghost use Rattle.play_types.specs.Media.{AreMediaNumbers, IsMediaName, media_name_of};
+ghost use Rattle.std.specs.Slice.Iter.{iter_rest};
+ghost use Rattle.play_types.specs.Media.{AreClipNumbers, IsMediaName, clip_name, unreadable_name};
 
+use crate::clip::MAX_FRAMES;
 use crate::geometry::Geometry;
 use crate::text::Text;
 use std::alloc::{AllocError, Global};
 use std::marker::Model;
+use std::slice;
 
 /// The name of a clip, with its size and its frames. A clip that is not readable has its numbers 0.
 #[derive(Debug, Drop)]
@@ -19,56 +22,49 @@ pub struct MediaName {
 }
 
 impl Model for MediaName {
-    ghost use Rattle.play_types.specs.Media.{MediaNameView, AreKept};
+    ghost use Rattle.play_types.specs.Media.{MediaNameView, IsMediaName};
 
     ghost Value = { MediaNameView };
 
     ghost view = { λ m. record { name = m.name; readable = m.readable; width = m.width; height = m.height; frames = m.frames; pairs = m.pairs } };
 
-    ghost invariant = { λ m. AreKept m.readable m.width m.height m.frames m.pairs };
+    ghost invariant = { λ m. IsMediaName (record { name = m.name; readable = m.readable; width = m.width; height = m.height; frames = m.frames; pairs = m.pairs }) };
 }
 
 impl MediaName {
-    /// `None` exactly where the clip is readable and its width or height is not 1 to 4096, its frames are not 1 to
-    /// 1,000,000, or its pairs are above 4096. The numbers of a clip that is not readable are dropped.
-    pub fn new(
-        name: Text,
-        readable: bool,
-        width: u16,
-        height: u16,
-        frames: u32,
-        pairs: u16,
-    ) -> Option<MediaName>
-        ensures exact { IsSome result ↔ AreMediaNumbers readable width height frames pairs }
-        ensures value { IfSome result
-            (λ m. m ≡ media_name_of name readable width height frames pairs) }
+    /// The name of a readable clip, with its size and the number of its frames.
+    ///
+    /// `None` exactly where the width or the height is not 1 to 4096, the pairs are above 4096, or the frames are not 1
+    /// to 1,000,000.
+    pub fn clip(name: Text, size: Geometry, frames: u32) -> Option<MediaName>
+        ensures exact { IsSome result ↔ AreClipNumbers size frames }
+        ensures value { IfSome result (λ m. m ≡ clip_name name size frames) }
     {
-        if !readable {
-            return Some(MediaName {
-                name,
-                readable,
-                width: 0,
-                height: 0,
-                frames: 0,
-                pairs: 0,
-            });
-        }
-        let size = Geometry {
-            width,
-            height,
-            pairs,
-        };
-        if !size.is_in_range() || !(1..=1_000_000).contains(&frames) {
+        if !size.is_in_range() || !(1..=MAX_FRAMES).contains(&frames) {
             return None;
         }
         Some(MediaName {
             name,
-            readable,
-            width,
-            height,
+            readable: true,
+            width: size.width,
+            height: size.height,
             frames,
-            pairs,
+            pairs: size.pairs,
         })
+    }
+
+    /// The name of a clip that cannot be read.
+    pub fn unreadable(name: Text) -> MediaName
+        ensures { result ≡ unreadable_name name }
+    {
+        MediaName {
+            name,
+            readable: false,
+            width: 0,
+            height: 0,
+            frames: 0,
+            pairs: 0,
+        }
     }
 
     pub fn name(&self) -> &Text
@@ -77,7 +73,7 @@ impl MediaName {
         &self.name
     }
 
-    pub fn readable(&self) -> bool
+    pub fn is_readable(&self) -> bool
         ensures { result ≡ self.now.readable }
     {
         self.readable
@@ -168,6 +164,13 @@ impl MediaNames {
         ensures { result ≡ (length self.now == 0) }
     {
         self.names.is_empty()
+    }
+
+    /// Returns the names in order.
+    pub fn iter(&self) -> slice::Iter<'_, MediaName>
+        ensures { iter_rest result ≡ self.now }
+    {
+        self.names.iter()
     }
 
     /// `None` exactly where `at` is not below the length.

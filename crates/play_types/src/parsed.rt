@@ -2,6 +2,8 @@
 
 use crate::command::Cmd;
 use crate::reply::Name;
+use std::error::Error;
+use std::fmt;
 
 /// What the words of a line ask for.
 #[derive(Clone, Copy, Debug, PartialEq, Eq)]
@@ -40,3 +42,18 @@ pub enum Refusal {
     /// The clip is unreadable: 502.
     Unreadable(Name),
 }
+
+impl fmt::Display for Refusal {
+    fn fmt<W: fmt::Write>(&self, f: &mut fmt::Formatter<W>) -> fmt::Result {
+        match self {
+            Refusal::Unknown => write!(f, "no such command"),
+            Refusal::Channel(name) => write!(f, "{}: no such channel", name.as_str()),
+            Refusal::Missing(name) => write!(f, "{}: a word is missing", name.as_str()),
+            Refusal::Illegal(name, at) => write!(f, "{}: word {at} is wrong", name.as_str()),
+            Refusal::NotFound(name) => write!(f, "{}: no such clip", name.as_str()),
+            Refusal::Unreadable(name) => write!(f, "{}: the clip cannot be read", name.as_str()),
+        }
+    }
+}
+
+impl Error for Refusal {}

@@ -4,6 +4,15 @@ ghost use Rattle.play_types.specs.Place.{IsPlace};
 
 use std::marker::Model;
 
+/// The most channels of a server. Channels count from 1.
+pub const MAX_CHANNELS: usize = 16;
+
+/// The last layer of a channel. Layers count from 0.
+pub const MAX_LAYER: u16 = 9_999;
+
+/// The most layers of a channel that are live.
+pub const MAX_LIVE_LAYERS: usize = 64;
+
 /// A layer of a channel. Channels count from 1 to 16, layers from 0 to 9999.
 #[derive(Clone, Copy, Debug, PartialEq, Eq)]
 pub struct Place {
@@ -29,7 +38,7 @@ impl Place {
         ensures exact { IsSome result ↔ IsPlace channel layer }
         ensures value { IfSome result (λ p. p ≡ record { channel = channel; layer = layer }) }
     {
-        if channel >= 1 && channel <= 16 && layer <= 9999 {
+        if channel >= 1 && usize::from(channel) <= MAX_CHANNELS && layer <= MAX_LAYER {
             Some(Place { channel, layer })
         } else {
             None

@@ -1,7 +1,12 @@
 //! What a client is answered.
+ghost use Rattle.std.specs.Prelude.{◌≡◌, IsTrue};
+ghost use Rattle.std.specs.Str.{chars};
+ghost use Rattle.play_types.specs.Commands.{answer_reply};
+ghost use Rattle.play_types.specs.Words.{are_capitals, name_of, name_text};
 
-use crate::answer::{Micros, StatusList};
+use crate::answer::{Answer, Micros, StatusList};
 use crate::text::Text;
+use crate::word::is_word;
 
 /// The name that a command begins with.
 #[derive(Clone, Copy, Debug, PartialEq, Eq)]
@@ -25,6 +30,66 @@ pub enum Name {
     Kill,
 }
 
+/// The names of all commands.
+const NAMES: [Name; 17] = [
+    Name::LoadBg,
+    Name::Load,
+    Name::Play,
+    Name::Pause,
+    Name::Resume,
+    Name::Stop,
+    Name::Clear,
+    Name::Swap,
+    Name::Mixer,
+    Name::Begin,
+    Name::Commit,
+    Name::Discard,
+    Name::Info,
+    Name::Cls,
+    Name::Version,
+    Name::Bye,
+    Name::Kill,
+];
+
+impl Name {
+    /// Returns the name in capitals, as replies print it.
+    pub fn as_str(self) -> &'static str
+        ensures text { result.now ≡ name_text self }
+        ensures capitals { IsTrue (are_capitals result.now) }
+    {
+        match self {
+            Name::LoadBg => "LOADBG",
+            Name::Load => "LOAD",
+            Name::Play => "PLAY",
+            Name::Pause => "PAUSE",
+            Name::Resume => "RESUME",
+            Name::Stop => "STOP",
+            Name::Clear => "CLEAR",
+            Name::Swap => "SWAP",
+            Name::Mixer => "MIXER",
+            Name::Begin => "BEGIN",
+            Name::Commit => "COMMIT",
+            Name::Discard => "DISCARD",
+            Name::Info => "INFO",
+            Name::Cls => "CLS",
+            Name::Version => "VERSION",
+            Name::Bye => "BYE",
+            Name::Kill => "KILL",
+        }
+    }
+
+    /// Returns the command that a word names, in any case of its letters.
+    #[tactic(auto, unfolding(crate::specs::Words::name_of))]
+    pub fn read(word: &str) -> Option<Name>
+        ensures { result ≡ name_of (chars word.now) }
+    {
+        NAMES
+            .iter()
+            .copied()
+            .find(|name| is_word(word, name.as_str()))
+    }
+}
+
 /// The answer to a line of a client.
 #[derive(Debug, Drop)]
 pub enum Reply {
@@ -46,4 +111,18 @@ pub enum Reply {
     Refused(u16, Name),
     /// The line was given up for want of memory: 500.
     NoMemory,
+}
+
+impl Reply {
+    /// Returns the reply that tells a client the stage's answer to a command of this name.
+    pub fn to_answer(name: Name, answer: Answer) -> Reply
+        ensures { result ≡ answer_reply name answer }
+    {
+        match answer {
+            Answer::Done => Reply::Done(name),
+            Answer::Value(micros) => Reply::Value(micros),
+            Answer::Info(statuses) => Reply::Info(statuses),
+            Answer::Refused => Reply::Refused(403, name),
+        }
+    }
 }

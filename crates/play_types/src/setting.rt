@@ -1,10 +1,23 @@
 //! Mixer values of a place.
 ghost use Rattle.std.specs.Prelude.{◌≡◌, ◌≤◌, ◌↔◌, IsTrue, IsSome, IfSome, All};
+ghost use Rattle.std.specs.Str.{chars};
+ghost use Rattle.play_types.specs.Words.{are_capitals, prop_of, prop_text};
 ghost use Rattle.play_types.specs.Setting.{AreValues, IsSetting, IsWide, setting_of};
+ghost use Rattle.play_types.specs.declared.transition.TheConstants.{MAX_DURATION};
 
 use crate::place::Place;
-use crate::transition::Curve;
+use crate::transition::{Curve, MAX_DURATION};
+use crate::word::is_word;
 use std::marker::Model;
+
+/// The millionths of 1, in which mixer values are written.
+pub const MICROS_PER_UNIT: i64 = 1_000_000;
+
+/// The greatest mixer value, in millionths.
+pub const MAX_MICROS: i64 = 1_000_000_000;
+
+/// The most settings of a channel that wait for a MIXER COMMIT.
+pub const MAX_WAITING_SETTINGS: usize = 1_024;
 
 /// A mixer value.
 #[derive(Clone, Copy, Debug, PartialEq, Eq)]
@@ -19,6 +32,42 @@ pub enum Prop {
     Volume,
     /// 0 or 1.
     Keyer,
+}
+
+/// All properties.
+const PROPS: [Prop; 5] = [
+    Prop::Opacity,
+    Prop::Fill,
+    Prop::Clip,
+    Prop::Volume,
+    Prop::Keyer,
+];
+
+impl Prop {
+    /// Returns the property in capitals, as MIXER names it.
+    pub fn as_str(self) -> &'static str
+        ensures text { result.now ≡ prop_text self }
+        ensures capitals { IsTrue (are_capitals result.now) }
+    {
+        match self {
+            Prop::Opacity => "OPACITY",
+            Prop::Fill => "FILL",
+            Prop::Clip => "CLIP",
+            Prop::Volume => "VOLUME",
+            Prop::Keyer => "KEYER",
+        }
+    }
+
+    /// Returns the property that a word names, in any case of its letters.
+    #[tactic(auto, unfolding(crate::specs::Words::prop_of))]
+    pub fn read(word: &str) -> Option<Prop>
+        ensures { result ≡ prop_of (chars word.now) }
+    {
+        PROPS
+            .iter()
+            .copied()
+            .find(|prop| is_word(word, prop.as_str()))
+    }
 }
 
 /// A mixer value that is to be reached, from where it is, in `duration` ticks.
@@ -57,11 +106,11 @@ impl Setting {
         curve: Curve,
         deferred: bool,
     ) -> Option<Setting>
-        ensures exact { IsSome result ↔ ((duration ≤ 1000000) × AreValues prop values) }
+        ensures exact { IsSome result ↔ ((duration ≤ MAX_DURATION) × AreValues prop values) }
         ensures value { IfSome result
             (λ s. s ≡ setting_of place prop values duration curve deferred) }
     {
-        if duration > 1_000_000 || !are_values(prop, values) {
+        if duration > MAX_DURATION || !are_values(prop, values) {
             return None;
         }
         let (values, duration, curve) = match prop {
@@ -102,7 +151,7 @@ impl Setting {
     /// In ticks, 0 to 1,000,000.
     pub fn duration(self) -> u32
         ensures value { result ≡ self.duration }
-        ensures range { self.duration ≤ 1000000 }
+        ensures range { self.duration ≤ MAX_DURATION }
     {
         self.duration
     }
@@ -126,7 +175,7 @@ pub(crate) fn are_wide(values: &[i64]) -> bool
 {
     values
         .iter()
-        .all(|value| (-1_000_000_000..=1_000_000_000).contains(value))
+        .all(|value| (-MAX_MICROS..=MAX_MICROS).contains(value))
 }
 
 /// Whether the values that the property uses are in its range.
@@ -134,9 +183,9 @@ fn are_values(prop: Prop, values: [i64; 4]) -> bool
     ensures { IsTrue result ↔ AreValues prop values }
 {
     match prop {
-        Prop::Opacity => (0..=1_000_000).contains(&values[0]),
-        Prop::Volume => (0..=1_000_000_000).contains(&values[0]),
+        Prop::Opacity => (0..=MICROS_PER_UNIT).contains(&values[0]),
+        Prop::Volume => (0..=MAX_MICROS).contains(&values[0]),
         Prop::Fill | Prop::Clip => are_wide(&values),
-        Prop::Keyer => values[0] == 0 || values[0] == 1_000_000,
+        Prop::Keyer => values[0] == 0 || values[0] == MICROS_PER_UNIT,
     }
 }

@@ -1,8 +1,9 @@
 //! What a layer is asked to play.
 ghost use Rattle.std.specs.Prelude.{◌≡◌, ◌↔◌, false, IsSome, IfSome};
-ghost use Rattle.play_types.specs.Take.{IsTake, take_of};
+ghost use Rattle.play_types.specs.Take.{IsTake, IsTakeValue, take_of};
 ghost use Rattle.play_types.specs.Transition.{cut};
 
+use crate::clip::MAX_FRAMES;
 use crate::place::Place;
 use crate::transition::Trans;
 use std::marker::Model;
@@ -62,7 +63,7 @@ impl Take {
     {
         match spec {
             Spec::Clip(_) => {
-                if length == 0 || seek > 1_000_000 || length > 1_000_000 - seek {
+                if length == 0 || seek > MAX_FRAMES || length > MAX_FRAMES - seek {
                     return None;
                 }
                 Some(Take {
@@ -119,14 +120,16 @@ impl Take {
 
     /// In frames.
     pub fn seek(self) -> u32
-        ensures { result ≡ self.seek }
+        ensures value { result ≡ self.seek }
+        ensures range { IsTakeValue self.spec self.looped self.seek self.length }
     {
         self.seek
     }
 
     /// In frames.
     pub fn length(self) -> u32
-        ensures { result ≡ self.length }
+        ensures value { result ≡ self.length }
+        ensures range { IsTakeValue self.spec self.looped self.seek self.length }
     {
         self.length
     }

@@ -225,10 +225,10 @@ fn lists(rt: HostRuntime) -> Result<(), Fail> {
     assert!(rt; cmds.get(2).is_none());
     let mut names = MediaNames::new(alloc);
     let name = Text::copy(alloc, "ÄPFEL")?;
-    names.push(MediaName::new(name, true, 1, 4096, 1_000_000, 0).ok_or("name")?)?;
+    names.push(MediaName::clip(name, size(1, 4096, 0), 1_000_000).ok_or("name")?)?;
     let name = Text::copy(alloc, "BIRNEN")?;
-    names.push(MediaName::new(name, false, 9, 9, 9, 9).ok_or("unreadable")?)?;
-    assert!(rt; MediaName::new(Text::copy(alloc, "C")?, true, 1, 1, 1_000_001, 0).is_none());
+    names.push(MediaName::unreadable(name))?;
+    assert!(rt; MediaName::clip(Text::copy(alloc, "C")?, size(1, 1, 0), 1_000_001).is_none());
     let first = names.get(0).ok_or("first")?;
     assert!(rt; first.name().is_same("ÄPFEL"));
     assert!(rt; !first.name().is_same("ÄPFE"));

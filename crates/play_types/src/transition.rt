@@ -1,8 +1,15 @@
 //! How a picture gives way to the next one.
-ghost use Rattle.std.specs.Prelude.{◌≡◌, ◌≤◌, ◌↔◌, IsSome, IfSome};
+ghost use Rattle.std.specs.Prelude.{◌≡◌, ◌≤◌, ◌↔◌, IsTrue, IsSome, IfSome};
+ghost use Rattle.std.specs.Str.{chars};
+ghost use Rattle.play_types.specs.Words.{are_capitals, kind_of, kind_text};
 ghost use Rattle.play_types.specs.Transition.{trans_of, cut};
+ghost use Rattle.play_types.specs.declared.transition.TheConstants.{MAX_DURATION};
 
+use crate::word::is_word;
 use std::marker::Model;
+
+/// The longest transition or tween, in ticks.
+pub const MAX_DURATION: u32 = 1_000_000;
 
 /// The kind of a transition.
 #[derive(Clone, Copy, Debug, PartialEq, Eq)]
@@ -17,6 +24,36 @@ pub enum Kind {
     Slide,
     /// An edge uncovers the new picture.
     Wipe,
+}
+
+/// All kinds of transition.
+const KINDS: [Kind; 5] = [Kind::Cut, Kind::Mix, Kind::Push, Kind::Slide, Kind::Wipe];
+
+impl Kind {
+    /// Returns the kind in capitals, as options name it.
+    pub fn as_str(self) -> &'static str
+        ensures text { result.now ≡ kind_text self }
+        ensures capitals { IsTrue (are_capitals result.now) }
+    {
+        match self {
+            Kind::Cut => "CUT",
+            Kind::Mix => "MIX",
+            Kind::Push => "PUSH",
+            Kind::Slide => "SLIDE",
+            Kind::Wipe => "WIPE",
+        }
+    }
+
+    /// Returns the kind that a word names, in any case of its letters.
+    #[tactic(auto, unfolding(crate::specs::Words::kind_of))]
+    pub fn read(word: &str) -> Option<Kind>
+        ensures { result ≡ kind_of (chars word.now) }
+    {
+        KINDS
+            .iter()
+            .copied()
+            .find(|kind| is_word(word, kind.as_str()))
+    }
 }
 
 /// How a value goes from one end of a tween to the other.
@@ -50,10 +87,10 @@ impl Model for Trans {
 impl Trans {
     /// `None` exactly where the duration is above 1,000,000. A cut is kept with duration 0, linear and not leftward.
     pub fn new(kind: Kind, duration: u32, curve: Curve, leftward: bool) -> Option<Trans>
-        ensures exact { IsSome result ↔ (duration ≤ 1000000) }
+        ensures exact { IsSome result ↔ (duration ≤ MAX_DURATION) }
         ensures value { IfSome result (λ t. t ≡ trans_of kind duration curve leftward) }
     {
-        if duration > 1_000_000 {
+        if duration > MAX_DURATION {
             return None;
         }
         match kind {
@@ -88,7 +125,7 @@ impl Trans {
     /// In ticks, 0 to 1,000,000.
     pub fn duration(self) -> u32
         ensures value { result ≡ self.duration }
-        ensures range { self.duration ≤ 1000000 }
+        ensures range { self.duration ≤ MAX_DURATION }
     {
         self.duration
     }

@@ -2,7 +2,7 @@
 ghost use Rattle.std.specs.Prelude.{◌≡◌, None};
 ghost use Rattle.std.specs.IoError.{error_kind};
 ghost use Rattle.play_outside.specs.Folder.{Misses};
-ghost use Rattle.playrun.specs.Faults.{fault_of};
+ghost use Rattle.playrun.specs.inner.Faults.{fault_of};
 
 use play_outside::{FileFault, MediaDir};
 use std::alloc::Global;

@@ -17,14 +17,14 @@ pub struct StdSink<W> {
 
 impl<W: Write + Drop> StdSink<W> {
     pub fn new(output: W) -> StdSink<W>
-        ensures { ⟦<StdSink<W> as Sink>⟧.state result ≡ record { taken = None; faults = 0; mark = 0 } }
+        ensures { ⟦<StdSink<W> as Sink>⟧.state result ≡ record { taken = None; faults = 0; mark = 0; at_fault = None } }
     {
         StdSink { output, faults: 0 }
     }
 }
 
 impl<W: Write + Drop> Sink for StdSink<W> {
-    ghost state = { λ s. record { taken = None; faults = s.faults; mark = 0 } };
+    ghost state = { λ s. record { taken = None; faults = s.faults; mark = 0; at_fault = None } };
 
     fn write(&mut self, piece: &[u8]) -> WriteStep
         requires { 0 < length piece.now }

@@ -8,7 +8,7 @@ use Rattle.std.proofs.lemmas.Bool.{cases_Bool, eqb-true, ne_eqb}
 use Rattle.std.proofs.lemmas.Grind.{flat_map-append}
 use Rattle.std.proofs.lemmas.Str.{encodes-chars, encodes-append}
 use Rattle.std.proofs.lemmas.List.{take_more, take_all, get_or-drop, take-append-drop}
-use Rattle.history_model.specs.ReplyText.{escaped, quoted}
+use Rattle.history_model.specs.text.Replies.{escaped, quoted}
 
 -- beyond ASCII nothing is escaped
 plain-high : (c : ℕ) → 128 ≤ c → escaped c ≡ c ∷ []
@@ -97,13 +97,22 @@ plain_more from to bytes order within plain before =
     (ap (λ (text : List ℕ). (flat_map escaped (take from bytes) ++ between from to bytes) ++ text) (append-nil (escaped (get_or bytes to 0)) ∙ plain)
     ∙ append_assoc (flat_map escaped (take from bytes)) (between from to bytes) (get_or bytes to 0 ∷ []))
 
--- all bytes: those before a place with their escapes, those that have no escape, and the rest with their escapes
-pub plain-parts : (from to : ℕ) (bytes : List ℕ) → IsPlain from to bytes
-    → flat_map escaped bytes ≡ (flat_map escaped (take from bytes) ++ between from to bytes) ++ flat_map escaped (drop to bytes)
-plain-parts from to bytes plain =
-    rw (← plain) (ap (flat_map escaped) (sym (take-append-drop to bytes)) ∙ flat_map-append escaped (take to bytes) (drop to bytes))
+-- the bytes up to the one at a place, those from another place on without escapes, and that one with its escape
+pub escape-more : (from at : ℕ) (bytes : List ℕ) → at < length bytes → IsPlain from at bytes
+    → flat_map escaped (take (at + 1) bytes) ≡ flat_map escaped (take from bytes) ++ (between from at bytes ++ escaped (get_or bytes at 0))
+escape-more from at bytes within plain =
+    rw (take_more bytes at 0 within, flat_map-append, plain, append-nil (escaped (get_or bytes at 0)))
+    (append_assoc (flat_map escaped (take from bytes)) (between from at bytes) (escaped (get_or bytes at 0)))
 
--- the same where all bytes after that place have no escape
+-- all bytes: those parts, and the rest with their escapes
+pub escape-parts : (from at : ℕ) (bytes : List ℕ) → at < length bytes → IsPlain from at bytes
+    → flat_map escaped bytes
+    ≡ (flat_map escaped (take from bytes) ++ (between from at bytes ++ escaped (get_or bytes at 0))) ++ flat_map escaped (drop (at + 1) bytes)
+escape-parts from at bytes within plain =
+    rw (← escape-more from at bytes within plain)
+    (ap (flat_map escaped) (sym (take-append-drop (at + 1) bytes)) ∙ flat_map-append escaped (take (at + 1) bytes) (drop (at + 1) bytes))
+
+-- all bytes, where those after a place have no escape
 pub plain-whole : (from : ℕ) (bytes : List ℕ) → IsPlain from (length bytes) bytes
     → flat_map escaped bytes ≡ flat_map escaped (take from bytes) ++ between from (length bytes) bytes
 plain-whole from bytes plain = rw (take_all (length bytes) bytes (omega arith)) at plain

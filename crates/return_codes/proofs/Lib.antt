@@ -1,4 +1,3 @@
-mod Pieces
 mod Escapes
 mod Lines
 mod Values

@@ -7,13 +7,12 @@
 
 mod line;
 mod media;
-mod name;
 mod quote;
 mod reply;
 mod status;
 mod value;
 
-pub use reply::send_reply;
+pub use reply::{send_reply, send_reply_lines};
 
 #[cfg(test)]
 mod tests;

@@ -1,24 +1,24 @@
 //! The names of the media table.
 ghost use Rattle.std.specs.Prelude.{◌++◌, map, codes};
 ghost use Rattle.std.specs.List.{flat_map};
-ghost use Rattle.history_model.specs.ReplyText.{numbers_text, media_line, ended};
+ghost use Rattle.history_model.specs.text.Replies.{numbers_text, media_line};
 ghost use Rattle.play_outside.specs.Sink.{Sends};
+ghost use Rattle.return_codes.specs.inner.Style.{styled};
 
-use crate::line::send_line;
+use crate::line::LineStyle;
 use crate::quote::send_quoted;
 use itoa::Buffer;
-use play_outside::{Sent, Sink, send};
+use play_outside::{Sent, Sink};
 use play_types::{MediaName, MediaNames};
 
 /// Writes a line for each name.
-pub(crate) fn send_names<K: Sink>(media: &MediaNames, to: &mut K) -> Sent
-    ensures { Sends result (flat_map ended (map media_line media.now)) (K.state to.old) (K.state to.new) }
+pub(crate) fn send_names<K: Sink>(media: &MediaNames, style: &LineStyle, to: &mut K) -> Sent
+    ensures { Sends result
+        (flat_map (styled style.now) (map media_line media.now))
+        (K.state to.old) (K.state to.new) }
 {
-    for at in 0..media.len() {
-        let Some(clip) = media.get(at) else {
-            unreachable!()
-        };
-        match send_clip(clip, to) {
+    for clip in media.iter() {
+        match send_name(clip, style, to) {
             Sent::All => {}
             Sent::Failed => return Sent::Failed,
         }
@@ -27,38 +27,38 @@ pub(crate) fn send_names<K: Sink>(media: &MediaNames, to: &mut K) -> Sent
 }
 
 /// Writes the line of a name.
-fn send_clip<K: Sink>(clip: &MediaName, to: &mut K) -> Sent
-    ensures { Sends result (ended (media_line clip.now)) (K.state to.old) (K.state to.new) }
+fn send_name<K: Sink>(clip: &MediaName, style: &LineStyle, to: &mut K) -> Sent
+    ensures { Sends result (styled style.now (media_line clip.now)) (K.state to.old) (K.state to.new) }
 {
+    match style.begin(to) {
+        Sent::All => {}
+        Sent::Failed => return Sent::Failed,
+    }
     match send_quoted(clip.name().as_str(), to) {
         Sent::All => {}
         Sent::Failed => return Sent::Failed,
     }
-    if clip.readable() {
-        send_numbers(clip, to)
+    if clip.is_readable() {
+        send_numbers(clip, style, to)
     } else {
-        send_line(&[b" ", b"UNREADABLE"], to)
+        style.end(&[b" UNREADABLE"], to)
     }
 }
 
-/// Writes the numbers of a readable clip and the line's end.
-fn send_numbers<K: Sink>(clip: &MediaName, to: &mut K) -> Sent
-    ensures { Sends result (ended (codes " " ++ numbers_text clip.now)) (K.state to.old) (K.state to.new) }
+/// Writes the numbers of a readable clip, after its name.
+fn send_numbers<K: Sink>(clip: &MediaName, style: &LineStyle, to: &mut K) -> Sent
+    ensures { Sends result (codes " " ++ numbers_text clip.now ++ style.now.after.now) (K.state to.old) (K.state to.new) }
 {
-    let mut width = Buffer::new();
-    let mut height = Buffer::new();
-    let mut frames = Buffer::new();
-    let mut pairs = Buffer::new();
-    send_line(
+    style.end(
         &[
             b" ",
-            width.format(clip.width()).as_bytes(),
+            Buffer::new().format(clip.width()).as_bytes(),
             b"x",
-            height.format(clip.height()).as_bytes(),
+            Buffer::new().format(clip.height()).as_bytes(),
             b" ",
-            frames.format(clip.frames()).as_bytes(),
+            Buffer::new().format(clip.frames()).as_bytes(),
             b" ",
-            pairs.format(clip.pairs()).as_bytes(),
+            Buffer::new().format(clip.pairs()).as_bytes(),
         ],
         to,
     )

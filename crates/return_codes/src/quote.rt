@@ -1,10 +1,10 @@
 //! Names in quotation marks.
-ghost use Rattle.std.specs.Prelude.{◌≡◌, ◌∷◌, [], encode_utf8_all, chars, IfNone, IfSome};
+ghost use Rattle.std.specs.Prelude.{◌≡◌, ◌∷◌, ◌++◌, [], codes, encode_utf8_all, chars, IfNone, IfSome};
 ghost use Rattle.std.specs.List.{flat_map};
-ghost use Rattle.history_model.specs.ReplyText.{escaped, quoted};
+ghost use Rattle.history_model.specs.text.Replies.{escaped, quoted};
 ghost use Rattle.play_outside.specs.Sink.{Sends};
 
-use play_outside::{Sent, Sink, send};
+use play_outside::{Sent, Sink, send, send_parts};
 
 /// Writes a name in quotation marks, with its escapes.
 pub(crate) fn send_quoted<K: Sink>(name: &str, to: &mut K) -> Sent
@@ -26,12 +26,8 @@ fn send_escaped<K: Sink>(name: &[u8], to: &mut K) -> Sent
 {
     let mut sent = 0;
     for (at, byte) in name.iter().enumerate() {
-        if let Some(escape) = escape_of(*byte) {
-            match send(&name[sent..at], to) {
-                Sent::All => {}
-                Sent::Failed => return Sent::Failed,
-            }
-            match send(escape, to) {
+        if let Some(letter) = escape_of(*byte) {
+            match send_parts(&[&name[sent..at], b"\\", &[letter]], to) {
                 Sent::All => sent = at + 1,
                 Sent::Failed => return Sent::Failed,
             }
@@ -40,15 +36,14 @@ fn send_escaped<K: Sink>(name: &[u8], to: &mut K) -> Sent
     send(&name[sent..], to)
 }
 
-/// The escape of a quotation mark, a backslash or a new line.
-fn escape_of(byte: u8) -> Option<&'static [u8]>
+/// Returns what stands for a quotation mark, a backslash or a new line after a backslash.
+fn escape_of(byte: u8) -> Option<u8>
     ensures none { IfNone result (escaped byte ≡ byte ∷ []) }
-    ensures some { IfSome result (λ escape. escape.now ≡ escaped byte) }
+    ensures some { IfSome result (λ letter. escaped byte ≡ codes "\\" ++ letter ∷ []) }
 {
     match byte {
-        b'"' => Some(b"\\\""),
-        b'\\' => Some(b"\\\\"),
-        b'\n' => Some(b"\\n"),
+        b'"' | b'\\' => Some(byte),
+        b'\n' => Some(b'n'),
         _ => None,
     }
 }

@@ -1,18 +1,18 @@
 //! Replies by hand.
 ghost use Rattle.std.specs.Prelude.{IsTrue};
-ghost use Rattle.history_model.specs.ReplyText.{IsReplyTo};
+ghost use Rattle.history_model.specs.text.Replies.{IsReplyTo};
 
-use crate::send_reply;
+use super::*;
 use play_outside::{MemSink, Sent};
 use play_types::{
-    Channel, ChannelList, Config, MediaName, MediaNames, Micros, Name, Reply, Status, StatusList,
-    Text,
+    Channel, ChannelList, Config, Geometry, MediaName, MediaNames, Micros, Name, Reply, Status,
+    StatusList, Text,
 };
 use std::alloc::Global;
 use std::process::Abort;
 use std::test::Fail;
 
-/// Whether a server of this configuration may send the reply.
+/// Returns whether a server of this configuration may send the reply.
 fn is_reply_to(config: &Config, reply: &Reply) -> bool
     ensures { IsTrue result → IsReplyTo config.now reply.now }
 {
@@ -39,13 +39,18 @@ fn two_channels(alloc: Global) -> Result<Config, Fail> {
 fn two_names(alloc: Global) -> Result<MediaNames, Fail> {
     let mut names = MediaNames::new(alloc);
     let unreadable = Text::copy(alloc, "BAD")?;
-    names.push(MediaName::new(unreadable, false, 0, 0, 0, 0).ok_or("a name")?)?;
+    names.push(MediaName::unreadable(unreadable))?;
+    let size = Geometry {
+        width: 320,
+        height: 180,
+        pairs: 4096,
+    };
     let readable = Text::copy(alloc, "\u{c9} \"B\\C\nD")?;
-    names.push(MediaName::new(readable, true, 320, 180, 1_000_000, 4096).ok_or("a name")?)?;
+    names.push(MediaName::clip(readable, size, 1_000_000).ok_or("a name")?)?;
     Ok(names)
 }
 
-/// Sends a reply and compares what was taken.
+/// Sends a reply to a sink that takes three bytes at a time, and compares what it took.
 fn check(rt: &impl Abort, alloc: Global, reply: &Reply, expected: &str) -> Result<(), Fail> {
     let config = two_channels(alloc)?;
     let media = two_names(alloc)?;
@@ -57,128 +62,47 @@ fn check(rt: &impl Abort, alloc: Global, reply: &Reply, expected: &str) -> Resul
 }
 
 #[test]
-fn names_are_in_capitals(rt: HostRuntime) -> Result<(), Fail> {
-    for (name, expected) in [
-        (Name::LoadBg, "202 LOADBG OK\r\n"),
-        (Name::Load, "202 LOAD OK\r\n"),
-        (Name::Play, "202 PLAY OK\r\n"),
-        (Name::Pause, "202 PAUSE OK\r\n"),
-        (Name::Resume, "202 RESUME OK\r\n"),
-        (Name::Stop, "202 STOP OK\r\n"),
-        (Name::Clear, "202 CLEAR OK\r\n"),
-        (Name::Swap, "202 SWAP OK\r\n"),
-        (Name::Mixer, "202 MIXER OK\r\n"),
-        (Name::Begin, "202 BEGIN OK\r\n"),
-        (Name::Commit, "202 COMMIT OK\r\n"),
-        (Name::Discard, "202 DISCARD OK\r\n"),
-        (Name::Info, "202 INFO OK\r\n"),
-        (Name::Cls, "202 CLS OK\r\n"),
-        (Name::Version, "202 VERSION OK\r\n"),
-        (Name::Bye, "202 BYE OK\r\n"),
-        (Name::Kill, "202 KILL OK\r\n"),
-    ] {
-        check(&rt, rt.alloc(), &Reply::Done(name), expected)?;
-    }
-    Ok(())
-}
-
-#[test]
-fn refusals_have_their_words(rt: HostRuntime) -> Result<(), Fail> {
-    for (code, name, expected) in [
-        (401, Name::Play, "401 PLAY ERROR\r\n"),
-        (402, Name::Swap, "402 SWAP ERROR\r\n"),
-        (403, Name::Commit, "403 COMMIT ERROR\r\n"),
-        (404, Name::LoadBg, "404 LOADBG ERROR\r\n"),
-        (501, Name::Mixer, "501 MIXER FAILED\r\n"),
-        (502, Name::Load, "502 LOAD FAILED\r\n"),
-        (503, Name::Clear, "503 CLEAR FAILED\r\n"),
-    ] {
-        check(&rt, rt.alloc(), &Reply::Refused(code, name), expected)?;
-    }
-    Ok(())
-}
-
-#[test]
-fn values_are_parted_by_spaces(rt: HostRuntime) -> Result<(), Fail> {
-    for (values, count, expected) in [
-        ([500_000, 0, 0, 0], 1, "201 MIXER OK\r\n0.5\r\n"),
+fn replies_are_written(rt: HostRuntime) -> Result<(), Fail> {
+    let alloc = rt.alloc();
+    let mut statuses = [Status::Empty; 16];
+    statuses[0] = Status::Playing;
+    let values = Micros::new([-250_000, 500_000, 1_000_001, 2_000_000], 4).ok_or("values")?;
+    for (reply, expected) in [
+        (Reply::Done(Name::LoadBg), "202 LOADBG OK\r\n"),
         (
-            [-250_000, 500_000, 1_000_001, 2_000_000],
-            4,
+            Reply::Value(values),
             "201 MIXER OK\r\n-0.25 0.5 1.000001 2\r\n",
         ),
-        ([1_000_000, 0, 0, 0], 1, "201 MIXER OK\r\n1\r\n"),
-    ] {
-        let values = Micros::new(values, count).ok_or("values")?;
-        check(&rt, rt.alloc(), &Reply::Value(values), expected)?;
-    }
-    Ok(())
-}
-
-#[test]
-fn lists_are_written(rt: HostRuntime) -> Result<(), Fail> {
-    let mut channels = [Status::Empty; 16];
-    channels[0] = Status::Playing;
-    channels[1] = Status::Paused;
-    for (count, channels, expected) in [
         (
-            2,
-            channels,
-            "200 INFO OK\r\n1 1280x720 PLAYING\r\n2 1x4096 PAUSED\r\n\r\n",
+            Reply::Info(StatusList::new(statuses, 2).ok_or("statuses")?),
+            "200 INFO OK\r\n1 1280x720 PLAYING\r\n2 1x4096 EMPTY\r\n\r\n",
         ),
         (
-            2,
-            [Status::Empty; 16],
-            "200 INFO OK\r\n1 1280x720 EMPTY\r\n2 1x4096 EMPTY\r\n\r\n",
+            Reply::Cls,
+            "200 CLS OK\r\n\"BAD\" UNREADABLE\r\n\"\u{c9} \\\"B\\\\C\\nD\" 320x180 1000000 4096\r\n\r\n",
         ),
-    ] {
-        let statuses = StatusList::new(channels, count).ok_or("statuses")?;
-        check(&rt, rt.alloc(), &Reply::Info(statuses), expected)?;
-    }
-    let expected =
-        "200 CLS OK\r\n\"BAD\" UNREADABLE\r\n\"\u{c9} \\\"B\\\\C\\nD\" 320x180 1000000 4096\r\n\r\n";
-    check(&rt, rt.alloc(), &Reply::Cls, expected)
-}
-
-#[test]
-fn unknown_lines_are_repeated(rt: HostRuntime) -> Result<(), Fail> {
-    for (line, expected) in [
+        (Reply::Version, "201 VERSION OK\r\n2.0 PLAYD\r\n"),
         (
-            "PLAY 1-0 \"R\u{c9}D",
+            Reply::Unknown(Text::copy(alloc, "PLAY 1-0 \"R\u{c9}D")?),
             "400 ERROR\r\nPLAY 1-0 \"R\u{c9}D\r\n",
         ),
-        ("", "400 ERROR\r\n\r\n"),
+        (Reply::Refused(404, Name::Play), "404 PLAY ERROR\r\n"),
+        (Reply::Refused(501, Name::Mixer), "501 MIXER FAILED\r\n"),
+        (Reply::NoMemory, "500 FAILED\r\n"),
     ] {
-        let line = Text::copy(rt.alloc(), line)?;
-        check(&rt, rt.alloc(), &Reply::Unknown(line), expected)?;
+        check(&rt, alloc, &reply, expected)?;
     }
-    check(&rt, rt.alloc(), &Reply::NoMemory, "500 FAILED\r\n")?;
-    check(
-        &rt,
-        rt.alloc(),
-        &Reply::Version,
-        "201 VERSION OK\r\n2.0 PLAYD\r\n",
-    )
-}
-
-#[test]
-fn stops_at_a_fault(rt: HostRuntime) -> Result<(), Fail> {
-    let alloc = rt.alloc();
+    let mut sink = MemSink::new(alloc, 1, 200, 200, Vec::new(alloc))?;
     let config = two_channels(alloc)?;
-    let media = two_names(alloc)?;
-    for (fails, front) in [
-        (1, ""),
-        (2, "200 CLS OK"),
-        (6, "200 CLS OK\r\n\"BAD\""),
-        (11, "200 CLS OK\r\n\"BAD\" UNREADABLE\r\n\"\u{c9} "),
-    ] {
-        let mut sink = MemSink::new(alloc, 1, 200, 50, vec![in alloc; fails]?)?;
-        assert_eq!(rt;
-            send_reply(&Reply::Cls, &config, &media, &mut sink),
-            Sent::Failed
-        );
-        assert_eq!(rt; sink.taken(), front.as_bytes());
-        assert_eq!(rt; sink.faults(), 1);
-    }
+    let media = MediaNames::new(alloc);
+    let tag: [&[u8]; 2] = [b"7.", b"1 "];
+    assert_eq!(rt;
+        send_reply_lines(&Reply::Version, &config, &media, &tag, b"\n", &mut sink),
+        Sent::All
+    );
+    assert_eq!(rt;
+        sink.taken(),
+        b"7.1 201 VERSION OK\n7.1 2.0 PLAYD\n".as_slice()
+    );
     Ok(())
 }

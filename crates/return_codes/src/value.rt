@@ -1,64 +1,37 @@
 //! Mixer values.
-ghost use Rattle.std.specs.Prelude.{◌++◌, All, codes};
-ghost use Rattle.std.specs.List.{flat_map, join_by};
-ghost use Rattle.play_types.specs.Setting.{IsWide};
-ghost use Rattle.amcp_text.specs.Micros.{printed_micro};
-ghost use Rattle.history_model.specs.ReplyText.{values_line, ended};
+ghost use Rattle.std.specs.Prelude.{codes, ◌∷◌, []};
+ghost use Rattle.std.specs.List.{flat_map};
+ghost use Rattle.history_model.specs.text.Replies.{values_line};
 ghost use Rattle.play_outside.specs.Sink.{Sends};
+ghost use Rattle.return_codes.specs.inner.Style.{styled};
 
-use crate::line::send_line;
-use fixed_params::print_micro;
-use play_outside::{Sent, Sink, send};
+use crate::line::LineStyle;
+use fixed_params::MicroText;
+use play_outside::{Sent, Sink};
 use play_types::Micros;
 
-/// Writes the line of mixer values.
-pub(crate) fn send_values<K: Sink>(micros: Micros, to: &mut K) -> Sent
-    ensures { Sends result (ended (values_line micros)) (K.state to.old) (K.state to.new) }
-{
-    let values = micros.values();
-    match send_joined(&values[..usize::from(micros.count())], to) {
-        Sent::All => send_line(&[], to),
-        Sent::Failed => Sent::Failed,
-    }
-}
-
-/// Writes values in printed form, parted by one space.
-fn send_joined<K: Sink>(values: &[i64], to: &mut K) -> Sent
-    requires { All IsWide values.now }
-    ensures { Sends result (join_by printed_micro (codes " ") values.now) (K.state to.old) (K.state to.new) }
-{
-    let Some((first, others)) = values.split_first() else {
-        return Sent::All;
-    };
-    match print_micro(*first, to) {
-        Sent::All => send_others(others, to),
-        Sent::Failed => Sent::Failed,
-    }
-}
-
-/// Writes values in printed form, a space before each.
-fn send_others<K: Sink>(values: &[i64], to: &mut K) -> Sent
-    requires { All IsWide values.now }
+/// Writes mixer values in printed form, parted by one space.
+pub(crate) fn send_values<K: Sink>(micros: Micros, style: &LineStyle, to: &mut K) -> Sent
     ensures { Sends result
-        (flat_map (λ value. codes " " ++ printed_micro value) values.now)
+        (flat_map (styled style.now) (codes "201 MIXER OK" ∷ values_line micros ∷ []))
         (K.state to.old) (K.state to.new) }
 {
-    for value in values {
-        match send_other(*value, to) {
-            Sent::All => {}
-            Sent::Failed => return Sent::Failed,
-        }
-    }
-    Sent::All
-}
-
-/// Writes a space and a value in printed form.
-fn send_other<K: Sink>(value: i64, to: &mut K) -> Sent
-    requires { IsWide value }
-    ensures { Sends result (codes " " ++ printed_micro value) (K.state to.old) (K.state to.new) }
-{
-    match send(b" ", to) {
-        Sent::All => print_micro(value, to),
-        Sent::Failed => Sent::Failed,
-    }
+    let [a, b, c, d] = micros.values();
+    let (a, b, c, d) = (
+        MicroText::of(a),
+        MicroText::of(b),
+        MicroText::of(c),
+        MicroText::of(d),
+    );
+    let parts: [&[u8]; 7] = [
+        a.as_bytes(),
+        b" ",
+        b.as_bytes(),
+        b" ",
+        c.as_bytes(),
+        b" ",
+        d.as_bytes(),
+    ];
+    let used = (2 * usize::from(micros.count())).saturating_sub(1);
+    style.send_two_lines(b"201 MIXER OK", &parts[..used], to)
 }

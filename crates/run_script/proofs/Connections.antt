@@ -15,12 +15,12 @@ use Rattle.amcp_text.specs.Lines.{lines_of, IsEnded}
 use Rattle.play_types.specs.declared.event.Tag.{Tag}
 use Rattle.play_types.specs.Config.{ConfigView}
 use Rattle.play_types.specs.Media.{MediaNameView}
-use Rattle.history_model.specs.ScriptHistory.{Playout, Played, same_tag, text_by, texts_of, said_step}
+use Rattle.history_model.specs.scripts.History.{Playout, PlayedLine, same_tag, text_by, texts_of}
 use Rattle.history_model.proofs.Streams.{texts_of-other, stream_of-other, given_up_of-other, stream_of-none, given_up_of-none}
-use Rattle.play_session.specs.Session.{StandsFor}
+use Rattle.play_session.specs.Session.{IsBetweenLines, Represents, at_start}
 use Rattle.play_session.specs.declared.step.Step.{Step}
 use Rattle.run_script.specs.declared.clients.Client.{Client}
-use Rattle.run_script.specs.Clients.{IsServed, Serves, IsClient, client_of, AreClients, IsPlaceOf, played_as, seen_step, Hears, Speaks}
+use Rattle.run_script.specs.inner.Clients.{IsServed, ServesConnection, IsClient, client_of, AreClients, IsPlaceOf, NextText, played_text, ClientsTakeLine, ClientTakesLine}
 use Rattle.run_script.proofs.Speaking.{same_number, same_tag-refl}
 
 and_parts : (a b : Bool) → (a && b) ≡ true → (a ≡ true) × (b ≡ true)
@@ -36,8 +36,8 @@ same_tag-is one other is =
     ap₂ (λ (w s : ℕ). record { worker = w; session = s }) (number_is one.worker other.worker parts.0) (number_is one.session other.session parts.1)
 
 -- a line of another connection changes nothing for this one
-serves_other : (playout : Playout) (client : Client) (played : List Played) (line : Played) → text_by client.tag line.line ≡ None → Serves playout client played
-    → Serves playout client (played ++ line ∷ [])
+serves_other : (playout : Playout) (client : Client) (played : List PlayedLine) (line : PlayedLine) → text_by client.tag line.line ≡ None → ServesConnection playout client played
+    → ServesConnection playout client (played ++ line ∷ [])
 serves_other playout client played line other serves =
     let texts = texts_of-other client.tag played line other in
     let stream = stream_of-other client.tag played line other in
@@ -50,10 +50,10 @@ serves_other playout client played line other serves =
   where
     by_over : (over : Bool) → IsServed playout over client played → IsServed playout over client (played ++ line ∷ [])
     by_over false served =
-        (served.0, rw (texts_of-other client.tag played line other, stream_of-other client.tag played line other, given_up_of-other client.tag played line other) served.1)
+        (served.0, rw (texts_of-other client.tag played line other, stream_of-other client.tag played line other, given_up_of-other client.tag played line other) served.1, served.2)
     by_over true served = rw (stream_of-other client.tag played line other, given_up_of-other client.tag played line other) served
 
-client_other : (playout : Playout) (tag : Tag) (found : Option Client) (played : List Played) (line : Played) → text_by tag line.line ≡ None
+client_other : (playout : Playout) (tag : Tag) (found : Option Client) (played : List PlayedLine) (line : PlayedLine) → text_by tag line.line ≡ None
     → ((client : Client) → found ≡ Some client → client.tag ≡ tag) → IsClient playout tag found played → IsClient playout tag found (played ++ line ∷ [])
 client_other playout tag None played line other tags is = texts_of-other tag played line other ∙ is
 client_other playout tag (Some client) played line other tags is =
@@ -85,8 +85,8 @@ tag_at tag at clients client place is =
     same_tag-is tag client.tag (ap (λ (one : Client). same_tag tag one.tag) (sym is) ∙ found.1)
 
 -- the connection at its place is served
-pub served_at : (playout : Playout) (tag : Tag) (at : ℕ) (clients : List Client) (client : Client) (played : List Played) → IsPlaceOf tag at clients → get_or clients at client ≡ client
-    → AreClients playout clients played → Serves playout client played
+pub served_at : (playout : Playout) (tag : Tag) (at : ℕ) (clients : List Client) (client : Client) (played : List PlayedLine) → IsPlaceOf tag at clients → get_or clients at client ≡ client
+    → AreClients playout clients played → ServesConnection playout client played
 served_at playout tag at clients client played place there are =
     let p = λ (one : Client). same_tag tag one.tag in
     let first = position-Some p clients at client place in
@@ -95,39 +95,38 @@ served_at playout tag at clients client played place there are =
     find_at p clients ∙ ap (slice_get clients) at_is ∙ slice_get-get_or clients at client first.0 ∙ ap Some there in
     subst (λ o. IsClient playout tag o played) found (are tag)
 
-module _ (playout : Playout) (tag : Tag) (text : List ℕ) (found : Option Step) (clients : List Client) (at : ℕ) (old new : Client) (played : List Played)
-    (place : IsPlaceOf tag at clients) (there : get_or clients at old ≡ old) (are : AreClients playout clients played)
-    (kept_tag : new.tag ≡ old.tag) (speaks : Speaks playout text found old new played) where
-  own : tag ≡ old.tag
-  own = tag_at tag at clients old place there
+module _ (next : NextText) (found : Option Step) (clients : List Client) (at : ℕ) (old new : Client)
+    (place : IsPlaceOf next.tag at clients) (there : get_or clients at old ≡ old) (are : AreClients next.playout clients next.played)
+    (kept_tag : new.tag ≡ old.tag) (takes : ClientTakesLine next found new) where
+  own : next.tag ≡ old.tag
+  own = tag_at next.tag at clients old place there
 
-  heard_tag : (other : Tag) (b : Bool) → same_tag other tag ≡ b → IsClient playout other (client_of other (set clients at new)) (played ++ played_as tag text found ∷ [])
+  heard_tag : (other : Tag) (b : Bool) → same_tag other next.tag ≡ b → IsClient next.playout other (client_of other (set clients at new)) (next.played ++ played_text next found ∷ [])
   heard_tag other true is =
-      let same = same_tag-is other tag is in
-      let first = position-Some (λ (one : Client). same_tag tag one.tag) clients at old place in
-      let at_is : at ≡ position_or_len (λ (one : Client). same_tag tag one.tag) clients = grind (arith, common_steps) in
-      let here : find (λ (one : Client). same_tag tag one.tag) (set clients at new) ≡ Some new =
-      find-set (λ (one : Client). same_tag tag one.tag) clients at new at_is first.0
-      (ap (same_tag tag) (kept_tag ∙ sym own) ∙ same_tag-refl tag) in
-      subst (λ t. IsClient playout t (client_of t (set clients at new)) (played ++ played_as tag text found ∷ [])) (sym same)
-      (subst (λ o. IsClient playout tag o (played ++ played_as tag text found ∷ [])) (sym here)
-      (subst (λ t. Serves playout new (played ++ played_as t text found ∷ [])) (sym own) speaks.serves))
+      let same = same_tag-is other next.tag is in
+      let first = position-Some (λ (one : Client). same_tag next.tag one.tag) clients at old place in
+      let at_is : at ≡ position_or_len (λ (one : Client). same_tag next.tag one.tag) clients = grind (arith, common_steps) in
+      let here : find (λ (one : Client). same_tag next.tag one.tag) (set clients at new) ≡ Some new =
+      find-set (λ (one : Client). same_tag next.tag one.tag) clients at new at_is first.0
+      (ap (same_tag next.tag) (kept_tag ∙ sym own) ∙ same_tag-refl next.tag) in
+      subst (λ t. IsClient next.playout t (client_of t (set clients at new)) (next.played ++ played_text next found ∷ [])) (sym same)
+      (subst (λ o. IsClient next.playout next.tag o (next.played ++ played_text next found ∷ [])) (sym here) takes.serves)
   heard_tag other false is =
       let before : same_tag other (get_or clients at old).tag ≡ false = ap (λ (one : Client). same_tag other one.tag) there ∙ ap (same_tag other) (sym own) ∙ is in
       let after : same_tag other new.tag ≡ false = ap (same_tag other) (kept_tag ∙ sym own) ∙ is in
       let same = find_past (λ (one : Client). same_tag other one.tag) clients at new old before after in
-      subst (λ o. IsClient playout other o (played ++ played_as tag text found ∷ [])) (sym same)
-      (client_other playout other (client_of other clients) played (played_as tag text found)
-      (ap (λ (b : Bool). cond b (Some text) None) is)
+      subst (λ o. IsClient next.playout other o (next.played ++ played_text next found ∷ [])) (sym same)
+      (client_other next.playout other (client_of other clients) next.played (played_text next found)
+      (ap (λ (b : Bool). cond b (Some next.text) None) is)
       (λ client got. sym (same_tag-is other client.tag (find_passes (λ (one : Client). same_tag other one.tag) clients client got)))
       (are other))
 
-  -- a line of one connection was heard, and the others are as before
-  pub heard : Hears playout tag text found (set clients at new) played
+  -- a line of one connection was taken, and the others are as before
+  pub heard : ClientsTakeLine next found (set clients at new)
   heard = record {
-    commands = speaks.commands;
-    given = subst (λ t. said_step playout played (played_as t text found) t ≡ seen_step found speaks.commands) (sym own) speaks.given;
-    serves = λ other. heard_tag other (same_tag other tag) refl;
+    commands = takes.commands;
+    given = takes.given;
+    serves = λ other. heard_tag other (same_tag other next.tag) refl;
   }
 
 -- where no connection of this tag is found, its place would be after all
@@ -147,19 +146,19 @@ none_found tag clients none =
     find_at p clients ∙ slice_get_past clients (position_or_len p clients) (past_all tag clients none)
 
 -- the new connection of a tag that has said nothing
-serves_new : (playout : Playout) (client : Client) (played : List Played) → texts_of client.tag played ≡ []
-    → ((config : ConfigView) (media : List MediaNameView) → StandsFor config media client.session [] [] 0) → client.session.ended ≡ false
-    → Serves playout client played
-serves_new playout client played none stands going = record {
+serves_new : (playout : Playout) (client : Client) (played : List PlayedLine) → texts_of client.tag played ≡ []
+    → ((config : ConfigView) (media : List MediaNameView) → Represents config media client.session at_start) → IsBetweenLines client.session → client.session.ended ≡ false
+    → ServesConnection playout client played
+serves_new playout client played none stands between going = record {
   whole = inl (stream_of-none client.tag played none);
   count = ap (λ (s : List ℕ). length (lines_of s)) (stream_of-none client.tag played none) ∙ sym (ap length none);
   served = subst (λ b. IsServed playout b client played) (sym going)
-      (going, rw (stream_of-none client.tag played none, given_up_of-none client.tag played none, none) (stands playout.config playout.names));
+      (going, rw (stream_of-none client.tag played none, given_up_of-none client.tag played none, none) (stands playout.config playout.names), between);
 }
 
-module _ (playout : Playout) (clients : List Client) (new : Client) (played : List Played)
+module _ (playout : Playout) (clients : List Client) (new : Client) (played : List PlayedLine)
     (none : position (λ (one : Client). same_tag new.tag one.tag) clients ≡ None) (are : AreClients playout clients played)
-    (stands : (config : ConfigView) (media : List MediaNameView) → StandsFor config media new.session [] [] 0) (going : new.session.ended ≡ false) where
+    (stands : (config : ConfigView) (media : List MediaNameView) → Represents config media new.session at_start) (between : IsBetweenLines new.session) (going : new.session.ended ≡ false) where
   added_tag : (other : Tag) (b : Bool) → same_tag other new.tag ≡ b → IsClient playout other (client_of other (clients ++ new ∷ [])) played
   added_tag other true is =
       let same = same_tag-is other new.tag is in
@@ -170,7 +169,7 @@ module _ (playout : Playout) (clients : List Client) (new : Client) (played : Li
       ∙ ap (λ (o : Option Client). option_or o (find (λ (one : Client). same_tag new.tag one.tag) (new ∷ []))) nothing
       ∙ ap (λ (b : Bool). cond b (Some new) None) (same_tag-refl new.tag) in
       subst (λ t. IsClient playout t (client_of t (clients ++ new ∷ [])) played) (sym same)
-      (subst (λ o. IsClient playout new.tag o played) (sym here) (serves_new playout new played said stands going))
+      (subst (λ o. IsClient playout new.tag o played) (sym here) (serves_new playout new played said stands between going))
   added_tag other false is =
       let here : client_of other (clients ++ new ∷ []) ≡ client_of other clients =
       find_snoc (λ (one : Client). same_tag other one.tag) clients new
@@ -206,7 +205,7 @@ unfolding texts_of
 no_clients playout = λ tag. refl
 
 -- a line of no connection changes nothing for any
-pub clients_other : (playout : Playout) (clients : List Client) (played : List Played) (line : Played) → ((tag : Tag) → text_by tag line.line ≡ None)
+pub clients_other : (playout : Playout) (clients : List Client) (played : List PlayedLine) (line : PlayedLine) → ((tag : Tag) → text_by tag line.line ≡ None)
     → AreClients playout clients played → AreClients playout clients (played ++ line ∷ [])
 clients_other playout clients played line none are = λ tag.
     client_other playout tag (client_of tag clients) played line (none tag)

@@ -1,112 +1,116 @@
--- What a line makes of the stage and of the output.
-use Rattle.std.proofs.Common.{◌≡◌, ℕ, true, false, List, [], ◌∷◌, ◌++◌, refl, sym, ap, ◌∙◌, subst, replicate, append-nil}
-use Rattle.std.specs.Prelude.{Option, Result, Ok, Err}
-use Rattle.play_types.specs.declared.command.Cmd.{Cmd}
+-- What a line makes of the player and of the output.
+use Rattle.std.proofs.Common.{◌≡◌, ℕ, true, false, List, ◌++◌, refl, sym, ap, ◌∙◌, subst, replicate, append-nil}
+use Rattle.std.specs.Prelude.{Option, Result, Ok, Err, IfOk}
 use Rattle.play_types.specs.declared.event.Tag.{Tag}
 use Rattle.play_types.specs.declared.event.Event.TheVariants as event
 use Rattle.play_outside.specs.SinkState.{SinkState, after_taking}
 use Rattle.play_outside.specs.Sink.{Fails}
 use Rattle.play_outside.proofs.Taking.{after_taking-nil}
-use Rattle.history_model.specs.Script.{ScriptLine, Comment, Said, NoForm}
-use Rattle.history_model.specs.Script as script
-use Rattle.history_model.specs.ScriptHistory.{Playout, Played, said_step, is_kill, step_events, script_events, goes_on}
-use Rattle.history_model.specs.ScriptOutput.{ticks_output, reply_output, step_reply}
+use Rattle.history_model.specs.scripts.Line.{ScriptLine, Comment, Said, Rejected}
+use Rattle.history_model.specs.scripts.Line as script
+use Rattle.history_model.specs.scripts.History.{Playout, PlayedLine, is_kill, step_events, script_events, goes_on}
+use Rattle.history_model.specs.scripts.Output.{ticks_output, reply_output, step_reply}
 use Rattle.history_model.proofs.Outputs.{script_events-snoc}
 use Rattle.play_session.specs.declared.step.Step.{Step as Found}
 use Rattle.run_script.specs.declared.ending.Halt.{Halt}
 use Rattle.run_script.specs.declared.ending.Halt.TheVariants as halt
-use Rattle.run_script.specs.declared.stage.Stage.{Stage}
-use Rattle.run_script.specs.Clients.{AreClients, gave_up, played_as, seen_step}
-use Rattle.run_script.specs.Stage.{Shows, StandsFor, HasShown, Follows, Takes}
+use Rattle.run_script.specs.declared.player.Player.{Player}
+use Rattle.run_script.specs.inner.Clients.{AreClients, NextText, ClientsTakeLine, gave_up, played_text, step_view}
+use Rattle.run_script.specs.inner.Player.{RepresentsEvents, Represents, WritesText, FollowsStep, PlaysLine}
 use Rattle.run_script.proofs.Connections.{clients_other}
 
-differ-said : (tag : Tag) (text : List ℕ) → Said tag text ≡ NoForm → ⊥
+differ-said : (tag : Tag) (text : List ℕ) → Said tag text ≡ Rejected → ⊥
 differ-said tag text e = cc
 
-differ-ticks : (count : ℕ) → script.Ticks count ≡ NoForm → ⊥
+differ-ticks : (count : ℕ) → script.Ticks count ≡ Rejected → ⊥
 differ-ticks count e = cc
 
-differ-comment : Comment ≡ NoForm → ⊥
+differ-comment : Comment ≡ Rejected → ⊥
 differ-comment e = cc
 
-differ-stop : script.Stop ≡ NoForm → ⊥
+differ-stop : script.Stop ≡ Rejected → ⊥
 differ-stop e = cc
 
 -- the step of a line was followed
-pub heard_followed : (playout : Playout) (result : Result (Unit {0}) Halt) (tag : Tag) (text : List ℕ) (found : Option Found) (played : List Played) (new : Stage) (before after : SinkState)
-    → goes_on playout played ≡ true → (commands : List Cmd) → said_step playout played (played_as tag text found) tag ≡ seen_step found commands
-    → AreClients playout new.clients.list.items (played ++ played_as tag text found ∷ [])
-    → Follows playout result tag (seen_step found commands) (script_events playout played) new before after
-    → Takes playout result (Said tag text) played new before after
-heard_followed playout (Ok done) tag text found played new before after on commands given serves follows = (
-  gave_up found,
-  differ-said tag text,
-  ap is_kill given ∙ follows.0,
-  record {
-    shows = subst (Shows playout new) (ap (λ s. script_events playout played ++ step_events tag s) (sym given) ∙ sym (script_events-snoc playout played (played_as tag text found) on)) follows.1;
-    clients = serves;
-  },
-  follows.2 ∙ ap (λ s. after_taking before (reply_output playout tag (step_reply playout (script_events playout played) tag s))) (sym given),
-)
-heard_followed playout (Err halt.Write) tag text found played new before after on commands given serves follows = (
-  gave_up found,
-  differ-said tag text,
-  subst (λ s. Fails (reply_output playout tag (step_reply playout (script_events playout played) tag s)) before after) (sym given) follows,
-)
-heard_followed playout (Err halt.Memory) tag text found played new before after on commands given serves follows = follows
-heard_followed playout (Err halt.Stop) tag text found played new before after on commands given serves follows = (
-  gave_up found,
-  differ-said tag text,
-  ap is_kill given ∙ follows.0,
-  follows.1 ∙ ap (λ s. after_taking before (reply_output playout tag (step_reply playout (script_events playout played) tag s))) (sym given),
-)
-heard_followed playout (Err halt.NoForm) tag text found played new before after on commands given serves follows = absurd follows
+pub step_followed : (next : NextText) (found : Option Found) (result : Result (Unit {0}) Halt) (player : Player) (before after : SinkState)
+    → goes_on next.playout next.played ≡ true → (takes : ClientsTakeLine next found player.clients.list.items)
+    → FollowsStep (record { playout = next.playout; events = script_events next.playout next.played; tag = next.tag; step = step_view found takes.commands }) result player before after
+    → PlaysLine (record { playout = next.playout; before = next.played; line = Said next.tag next.text }) result player before after
+step_followed next found (Ok done) player before after on takes follows = record {
+  given_up = gave_up found;
+  accepted = differ-said next.tag next.text;
+  goes_on = ap is_kill takes.given ∙ follows.0;
+  represents = record {
+    shows = subst (RepresentsEvents next.playout player)
+        (ap (λ s. script_events next.playout next.played ++ step_events next.tag s) (sym takes.given) ∙ sym (script_events-snoc next.playout next.played (played_text next found) on)) follows.1;
+    clients = takes.serves;
+  };
+  written = follows.2 ∙ ap (λ s. after_taking before (reply_output next.playout next.tag (step_reply next.playout (script_events next.playout next.played) next.tag s))) (sym takes.given);
+}
+step_followed next found (Err halt.Write) player before after on takes follows = record {
+  given_up = gave_up found;
+  accepted = differ-said next.tag next.text;
+  fails = subst (λ s. Fails (reply_output next.playout next.tag (step_reply next.playout (script_events next.playout next.played) next.tag s)) before after) (sym takes.given) follows;
+}
+step_followed next found (Err halt.Stop) player before after on takes follows = record {
+  given_up = gave_up found;
+  accepted = differ-said next.tag next.text;
+  ends = ap is_kill takes.given ∙ follows.0;
+  written = follows.1 ∙ ap (λ s. after_taking before (reply_output next.playout next.tag (step_reply next.playout (script_events next.playout next.played) next.tag s))) (sym takes.given);
+}
+step_followed next found (Err halt.Memory) player before after on takes follows = absurd follows
+step_followed next found (Err halt.Rejected) player before after on takes follows = absurd follows
 
--- so many ticks are what their line says
-pub ticks_taken : (playout : Playout) (result : Result (Unit {0}) Halt) (count : ℕ) (line : ScriptLine) (played : List Played) (old new : Stage) (before after : SinkState)
-    → goes_on playout played ≡ true → script.Ticks count ≡ line → StandsFor playout old played
-    → HasShown playout result (ticks_output playout (script_events playout played) count) (script_events playout played ++ replicate count event.Tick) old new before after
-    → Takes playout result line played new before after
-ticks_taken playout result count line played old new before after on is stands shown =
-    subst (λ l. Takes playout result l played new before after) is (by_result result shown)
+-- `count` ticks are what their line says
+pub ticks_played : (playout : Playout) (played : List PlayedLine) (count : ℕ) (line : ScriptLine) (result : Result (Unit {0}) Halt) (old new : Player) (before after : SinkState)
+    → goes_on playout played ≡ true → script.Ticks count ≡ line → Represents playout old played → new.clients ≡ old.clients
+    → WritesText result (ticks_output playout (script_events playout played) count) before after
+    → IfOk result (λ done. RepresentsEvents playout new (script_events playout played ++ replicate count event.Tick))
+    → PlaysLine (record { playout = playout; before = played; line = line }) result new before after
+ticks_played playout played count line result old new before after on is represents clients writes shows =
+    subst (λ l. PlaysLine (record { playout = playout; before = played; line = l }) result new before after) is (by_result result writes shows)
   where
-    last : Played
+    last : PlayedLine
     last = record { line = script.Ticks count; given_up = false }
 
-    by_result : (result : Result (Unit {0}) Halt) → HasShown playout result (ticks_output playout (script_events playout played) count) (script_events playout played ++ replicate count event.Tick) old new before after
-        → Takes playout result (script.Ticks count) played new before after
-    by_result (Ok done) shown = (
-      false,
-      differ-ticks count,
-      refl,
-      record {
-        shows = subst (Shows playout new) (sym (script_events-snoc playout played (record { line = script.Ticks count; given_up = false }) on)) shown.shows;
+    by_result : (result : Result (Unit {0}) Halt) → WritesText result (ticks_output playout (script_events playout played) count) before after
+        → IfOk result (λ done. RepresentsEvents playout new (script_events playout played ++ replicate count event.Tick))
+        → PlaysLine (record { playout = playout; before = played; line = script.Ticks count }) result new before after
+    by_result (Ok done) written shows = record {
+      given_up = false;
+      accepted = differ-ticks count;
+      goes_on = refl;
+      represents = record {
+        shows = subst (RepresentsEvents playout new) (sym (script_events-snoc playout played (record { line = script.Ticks count; given_up = false }) on)) shows;
         clients = clients_other playout new.clients.list.items played (record { line = script.Ticks count; given_up = false }) (λ tag. refl)
-            (subst (λ k. AreClients playout k.list.items played) (sym shown.clients) stands.clients);
-      },
-      shown.written,
-    )
-    by_result (Err halt.Write) shown = (false, differ-ticks count, shown.written)
-    by_result (Err halt.Memory) shown = absurd shown.written
-    by_result (Err halt.Stop) shown = absurd shown.written
-    by_result (Err halt.NoForm) shown = absurd shown.written
+            (subst (λ k. AreClients playout k.list.items played) (sym clients) represents.clients);
+      };
+      written = written;
+    }
+    by_result (Err halt.Write) fails shows = record { given_up = false; accepted = differ-ticks count; fails = fails }
+    by_result (Err halt.Memory) none shows = absurd none
+    by_result (Err halt.Stop) none shows = absurd none
+    by_result (Err halt.Rejected) none shows = absurd none
 
 -- a comment says nothing
-pub nothing_taken : (playout : Playout) (done : Unit {0}) (line : ScriptLine) (played : List Played) (stage : Stage) (state : SinkState)
-    → goes_on playout played ≡ true → Comment ≡ line → StandsFor playout stage played → Takes playout (Ok done) line played stage state state
-nothing_taken playout done line played stage state on is stands =
-    subst (λ l. Takes playout (Ok done) l played stage state state) is (
-      false,
-      differ-comment,
-      refl,
-      record {
-        shows = subst (Shows playout stage) (sym (append-nil (script_events playout played)) ∙ sym (script_events-snoc playout played (record { line = Comment; given_up = false }) on)) stands.shows;
-        clients = clients_other playout stage.clients.list.items played (record { line = Comment; given_up = false }) (λ tag. refl) stands.clients;
-      },
-      sym (after_taking-nil state),
-    )
+pub comment_played : (playout : Playout) (played : List PlayedLine) (line : ScriptLine) (done : Unit {0}) (player : Player) (state : SinkState)
+    → goes_on playout played ≡ true → Comment ≡ line → Represents playout player played
+    → PlaysLine (record { playout = playout; before = played; line = line }) (Ok done) player state state
+comment_played playout played line done player state on is represents =
+    subst (λ l. PlaysLine (record { playout = playout; before = played; line = l }) (Ok done) player state state) is (record {
+      given_up = false;
+      accepted = differ-comment;
+      goes_on = refl;
+      represents = record {
+        shows = subst (RepresentsEvents playout player) (sym (append-nil (script_events playout played)) ∙ sym (script_events-snoc playout played (record { line = Comment; given_up = false }) on)) represents.shows;
+        clients = clients_other playout player.clients.list.items played (record { line = Comment; given_up = false }) (λ tag. refl) represents.clients;
+      };
+      written = sym (after_taking-nil state);
+    })
 
 -- the server's own stop ends the run
-pub stop_taken : (playout : Playout) (line : ScriptLine) (played : List Played) (stage : Stage) (state : SinkState) → script.Stop ≡ line → Takes playout (Err halt.Stop) line played stage state state
-stop_taken playout line played stage state is =
-    subst (λ l. Takes playout (Err halt.Stop) l played stage state state) is (false, differ-stop, refl, sym (after_taking-nil state))
+pub stop_played : (playout : Playout) (played : List PlayedLine) (line : ScriptLine) (player : Player) (state : SinkState) → script.Stop ≡ line
+    → PlaysLine (record { playout = playout; before = played; line = line }) (Err halt.Stop) player state state
+stop_played playout played line player state is =
+    subst (λ l. PlaysLine (record { playout = playout; before = played; line = l }) (Err halt.Stop) player state state) is
+    (record { given_up = false; accepted = differ-stop; ends = refl; written = sym (after_taking-nil state) })

@@ -7,9 +7,10 @@ use Rattle.std.specs.Str.Lines.{strip_carriage_return}
 use Rattle.std.proofs.lemmas.Bool.{or_parts, or_from}
 use Rattle.amcp_text.specs.Lines.{is_line_end}
 use Rattle.play_types.specs.declared.event.Tag.{Tag}
-use Rattle.history_model.specs.Numbers.{number_within}
-use Rattle.history_model.specs.Parts.{parts_at}
-use Rattle.history_model.specs.Script.{ScriptLine, Comment, Said, NoForm, longest_line, addressed_parts, tag_of, said_by, said_line, ticks_line, after_t, after_x, short_meaning, meaning}
+use Rattle.amcp_text.specs.Numbers.{number_within}
+use Rattle.history_model.specs.text.Parts.{parts_at}
+use Rattle.history_model.specs.declared.limits.TheConstants.{MAX_SCRIPT_LINE_BYTES, MAX_TICKS_PER_LINE}
+use Rattle.history_model.specs.scripts.Line.{ScriptLine, Comment, Said, Rejected, addressed_parts, tag_of, said_by, said_line, ticks_line, after_t, after_x, short_meaning, meaning}
 
 -- there is no line end in the text
 abbrev pub IsOneLine : List ℕ → Type 0
@@ -75,8 +76,8 @@ t_one_line : (more : List ℕ) → HasOneLine (after_t more)
 t_one_line [] = tt
 t_one_line (c ∷ digits) = by_blank (c == 32)
   where
-    by_blank : (b : Bool) → HasOneLine (if b then ticks_line (number_within 1 100000 digits) else NoForm)
-    by_blank true = ticks_one_line (number_within 1 100000 digits)
+    by_blank : (b : Bool) → HasOneLine (if b then ticks_line (number_within 1 MAX_TICKS_PER_LINE digits) else Rejected)
+    by_blank true = ticks_one_line (number_within 1 MAX_TICKS_PER_LINE digits)
     by_blank false = tt
 
 x_one_line : (more : List ℕ) → HasOneLine (after_x more)
@@ -95,9 +96,9 @@ short_one_line (c ∷ more) none = by_first (c == 35) (c == 84) (c == 88)
     by_first false false false = addressed_one_line (c ∷ more) none
 
 meaning_one_line : (line : List ℕ) → IsOneLine line → HasOneLine (meaning line)
-meaning_one_line line none = by_length (nat_lt longest_line (length line))
+meaning_one_line line none = by_length (nat_lt MAX_SCRIPT_LINE_BYTES (length line))
   where
-    by_length : (b : Bool) → HasOneLine (if b then NoForm else short_meaning line)
+    by_length : (b : Bool) → HasOneLine (if b then Rejected else short_meaning line)
     by_length true = tt
     by_length false = short_one_line line none
 

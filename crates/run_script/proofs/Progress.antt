@@ -1,5 +1,5 @@
 -- An input that is read piece by piece.
-use Rattle.std.proofs.Common.{◌≡◌, ℕ, ◌+◌, ◌*◌, ◌<◌, ◌≤◌, false, true, List, [], ◌++◌, length, refl, sym, ap, ◌∙◌, subst, arith, length-append}
+use Rattle.std.proofs.Common.{◌≡◌, ℕ, ◌+◌, ◌*◌, ◌≤◌, false, true, List, [], ◌++◌, length, refl, sym, ap, ◌∙◌, subst, arith, length-append}
 use Rattle.std.specs.Prelude.{Ok, Err}
 use Rattle.std.proofs.lemmas.Bool.{false≢true}
 use Rattle.play_outside.specs.Faults.{Rose}
@@ -7,123 +7,115 @@ use Rattle.play_outside.specs.SourceState.{SourceState}
 use Rattle.play_outside.specs.Source.{Consumes, Gives, IsAtEnd}
 use Rattle.play_outside.specs.SinkState.{SinkState}
 use Rattle.play_outside.proofs.Reading.{Consumes-then, Consumes-nil}
-use Rattle.history_model.specs.ScriptHistory.{Playout}
+use Rattle.history_model.specs.declared.limits.TheConstants.{MAX_INPUT_BYTES}
+use Rattle.history_model.specs.scripts.History.{Playout}
 use Rattle.run_script.specs.declared.ending.Ending.{Ending}
 use Rattle.run_script.specs.declared.ending.Ending.TheVariants.{Finished, Stopped, BadLine, TooLong, ReadFault, WriteFault, Memory}
 use Rattle.run_script.specs.declared.script.Script.{Script}
-use Rattle.run_script.specs.Script.{HasTaken}
-use Rattle.run_script.specs.Run.{limit, Ends, FaultsOf, Runs, Continues}
+use Rattle.run_script.specs.Script.{Run}
+use Rattle.run_script.specs.Run.{Streams, EndsAs, FaultsOf, RunsScript}
+use Rattle.run_script.specs.inner.Taken.{HasTaken, ReadsOn}
+use Rattle.run_script.proofs.Growth.{reading_of}
 use Rattle.run_script.proofs.Endings.{none_done, taken_done}
 
--- what was read so far was taken, and so many bytes more are allowed
-pub record HasRead (playout : Playout) (turn left : ℕ) (script : Script) (source source' : SourceState) (first state : SinkState) : Type 0 where
+-- the run on a playout that begins with an output
+abbrev pub run_from : Playout → SinkState → Run
+run_from playout first = record { playout = playout; first = first }
+
+-- what was read so far was taken, and `left` bytes more are allowed
+pub record HasRead (playout : Playout) (script : Script) (left : ℕ) (before now : Streams) : Type 0 where
   pub read : List ℕ
-  pub consumed : Consumes read source source'
-  pub taken : HasTaken playout script read first state
-  pub allowed : left + length read ≡ limit
-  pub turns : turn ≤ length read
-  pub ticks : script.stage.ticks ≤ 100000 * length read
+  pub consumed : Consumes read before.input now.input
+  pub taken : HasTaken (run_from playout before.out) script read now.out
+  pub allowed : left + length read ≡ MAX_INPUT_BYTES
+  pub ticks : script.player.ticks ≤ 100000 * length read
   pub lines : script.lines ≤ length read
 
 -- nothing was read yet
-pub none_read : (playout : Playout) (script : Script) (source : SourceState) (first : SinkState) → HasTaken playout script [] first first → script.stage.ticks ≡ 0 → script.lines ≡ 0 → HasRead playout 0 limit script source source first first
-none_read playout script source first taken ticks lines = record {
+pub none_read : (playout : Playout) (script : Script) (before : Streams) → HasTaken (run_from playout before.out) script [] before.out → script.player.ticks ≡ 0 → script.lines ≡ 0
+    → HasRead playout script MAX_INPUT_BYTES before before
+none_read playout script before taken ticks lines = record {
   read = [];
-  consumed = Consumes-nil source;
+  consumed = Consumes-nil before.input;
   taken = taken;
   allowed = refl;
-  turns = omega arith;
   ticks = omega arith;
   lines = omega arith;
 }
 
--- the run ends for want of memory before anything was read
-pub nothing_read : (playout : Playout) (source : SourceState) (first : SinkState) → Runs playout Memory source source first first
-nothing_read playout source first = record {
-  read = [];
-  ended = false;
-  gives = (Consumes-nil source).gives;
+-- the run is out of memory before anything was read
+pub nothing_read : (playout : Playout) (before : Streams) → RunsScript playout Memory before before
+nothing_read playout before = record {
+  reading = reading_of [] false;
+  gives = (Consumes-nil before.input).gives;
   faults = refl;
   at_end = λ e. absurd (false≢true e);
-  ends = ([], record { rest = []; parts = refl; whole = λ e. absurd (false≢true e) }, none_done playout first);
+  ends = (reading_of [] false, record { rest = []; parts = refl; at_end = λ e. absurd (false≢true e) }, none_done (run_from playout before.out));
 }
 
--- one more piece was read and taken
-pub piece_read : (playout : Playout) (turn left rest : ℕ) (script script' : Script) (piece : List ℕ) (source source' source'' : SourceState) (first state state' : SinkState)
-    → (before : HasRead playout turn left script source source' first state)
-    → 0 < length piece → Consumes piece source' source''
-    → script'.stage.ticks ≤ script.stage.ticks + 100000 * length piece → script'.lines ≤ script.lines + length piece
-    → Continues playout (Ok rest) left script' before.read piece first state'
-    → HasRead playout (turn + 1) rest script' source source'' first state'
-piece_read playout turn left rest script script' piece source source' source'' first state state' before some consumed ticks lines goes =
-    let both = length-append before.read piece in
-    let allowed = before.allowed in
-    let turns = before.turns in
-    let ticks_before = before.ticks in
-    let lines_before = before.lines in
-    let step : rest + length piece ≡ left = goes.0 in
-    record {
-      read = before.read ++ piece;
-      consumed = Consumes-then before.read piece source source' source'' before.consumed consumed;
-      taken = goes.1;
-      allowed = omega arith;
-      turns = omega arith;
-      ticks = omega arith;
-      lines = omega arith;
-    }
+module _ (playout : Playout) (script : Script) (left : ℕ) (before now : Streams) (so_far : HasRead playout script left before now) where
+  -- one more piece was read and taken
+  pub piece_read : (script' : Script) (rest : ℕ) (piece : List ℕ) (input : SourceState) (out : SinkState) → Consumes piece now.input input
+      → script'.player.ticks ≤ script.player.ticks + 100000 * length piece → script'.lines ≤ script.lines + length piece
+      → ReadsOn (run_from playout before.out) (Ok rest) script' (so_far.read ++ piece) out
+      → HasRead playout script' rest before (record { input = input; out = out })
+  piece_read script' rest piece input out consumed ticks lines reads =
+      let both = length-append so_far.read piece in
+      let ticks_before = so_far.ticks in
+      let lines_before = so_far.lines in
+      record {
+        read = so_far.read ++ piece;
+        consumed = Consumes-then so_far.read piece before.input now.input input so_far.consumed consumed;
+        taken = reads.1;
+        allowed = reads.0;
+        ticks = omega arith;
+        lines = omega arith;
+      }
 
--- the run ends in a piece that was read
-pub piece_ends : (playout : Playout) (turn left : ℕ) (script script' : Script) (piece : List ℕ) (ending : Ending) (source source' source'' : SourceState) (first state state' : SinkState)
-    → (before : HasRead playout turn left script source source' first state)
-    → Consumes piece source' source''
-    → Continues playout (Err ending) left script' before.read piece first state'
-    → Runs playout ending source source'' first state'
-piece_ends playout turn left script script' piece ending source source' source'' first state state' before consumed ends =
-    let all = Consumes-then before.read piece source source' source'' before.consumed consumed in
-    record {
-      read = before.read ++ piece;
-      ended = false;
-      gives = all.gives;
-      faults = subst (λ n. FaultsOf ending source.faults n) (sym all.faults) (ends.1 source.faults);
-      at_end = λ e. absurd (false≢true e);
-      ends = ends.0;
-    }
+  -- the run ends in a piece that was read
+  pub piece_ends : (script' : Script) (ending : Ending) (piece : List ℕ) (input : SourceState) (out : SinkState) → Consumes piece now.input input
+      → ReadsOn (run_from playout before.out) (Err ending) script' (so_far.read ++ piece) out
+      → RunsScript playout ending before (record { input = input; out = out })
+  piece_ends script' ending piece input out consumed reads =
+      let all = Consumes-then so_far.read piece before.input now.input input so_far.consumed consumed in
+      record {
+        reading = reading_of (so_far.read ++ piece) false;
+        gives = all.gives;
+        faults = subst (λ n. FaultsOf ending before.input.faults n) (sym all.faults) (reads.1 before.input.faults);
+        at_end = λ e. absurd (false≢true e);
+        ends = reads.0;
+      }
 
--- the end of the input is no fault of it
-faults_at_end : (playout : Playout) (ending : Ending) (read : List ℕ) (first state : SinkState) (faults : ℕ) → Ends playout ending read true first state → FaultsOf ending faults faults
-faults_at_end playout Finished read first state faults ends = refl
-faults_at_end playout Stopped read first state faults ends = refl
-faults_at_end playout (BadLine number) read first state faults ends = refl
-faults_at_end playout TooLong read first state faults ends = refl
-faults_at_end playout ReadFault read first state faults ends = absurd (false≢true (sym ends.0))
-faults_at_end playout WriteFault read first state faults ends = refl
-faults_at_end playout Memory read first state faults ends = refl
+  -- the end of the input is no fault of it
+  faults_at_end : (ending : Ending) (out : SinkState) (faults : ℕ) → EndsAs (run_from playout before.out) ending (reading_of so_far.read true) out → FaultsOf ending faults faults
+  faults_at_end Finished out faults ends = refl
+  faults_at_end Stopped out faults ends = refl
+  faults_at_end (BadLine number) out faults ends = refl
+  faults_at_end TooLong out faults ends = refl
+  faults_at_end ReadFault out faults ends = absurd (false≢true (sym ends.0))
+  faults_at_end WriteFault out faults ends = refl
+  faults_at_end Memory out faults ends = refl
 
--- the input ended
-pub input_ended : (playout : Playout) (turn left : ℕ) (script : Script) (ending : Ending) (source source' source'' : SourceState) (first state state' : SinkState)
-    → (before : HasRead playout turn left script source source' first state) → IsAtEnd source' → source'' ≡ source' → Ends playout ending before.read true first state'
-    → Runs playout ending source source'' first state'
-input_ended playout turn left script ending source source' source'' first state state' before at_end same ends = record {
-  read = before.read;
-  ended = true;
-  gives = subst (λ (s : SourceState). Gives before.read source.left s.left) (sym same) before.consumed.gives;
-  faults = subst (λ n. FaultsOf ending source.faults n) (sym (ap (λ (s : SourceState). s.faults) same ∙ before.consumed.faults))
-      (faults_at_end playout ending before.read first state' source.faults ends);
-  at_end = λ e. subst IsAtEnd (sym same) at_end;
-  ends = ends;
-}
+  -- the input ended
+  pub input_ended : (ending : Ending) (input : SourceState) (out : SinkState) → IsAtEnd now.input → input ≡ now.input → EndsAs (run_from playout before.out) ending (reading_of so_far.read true) out
+      → RunsScript playout ending before (record { input = input; out = out })
+  input_ended ending input out at_end same ends = record {
+    reading = reading_of so_far.read true;
+    gives = subst (λ (s : SourceState). Gives so_far.read before.input.left s.left) (sym same) so_far.consumed.gives;
+    faults = subst (λ n. FaultsOf ending before.input.faults n) (sym (ap (λ (s : SourceState). s.faults) same ∙ so_far.consumed.faults))
+        (faults_at_end ending out before.input.faults ends);
+    at_end = λ e. subst IsAtEnd (sym same) at_end;
+    ends = ends;
+  }
 
--- a read of the input failed
-pub read_failed : (playout : Playout) (turn left : ℕ) (script : Script) (source source' source'' : SourceState) (first state : SinkState)
-    → (before : HasRead playout turn left script source source' first state) → source''.left ≡ source'.left → Rose source'.faults source''.faults
-    → Runs playout ReadFault source source'' first state
-read_failed playout turn left script source source' source'' first state before same rose =
-    let allowed = before.allowed in
-    record {
-      read = before.read;
-      ended = false;
-      gives = subst (λ l. Gives before.read source.left l) (sym same) before.consumed.gives;
-      faults = subst (λ n. Rose n source''.faults) before.consumed.faults rose;
-      at_end = λ e. absurd (false≢true e);
-      ends = (refl, omega (arith, allowed), taken_done playout script before.read first state before.taken);
-    }
+  -- a read of the input failed
+  pub read_failed : (input : SourceState) → input.left ≡ now.input.left → Rose now.input.faults input.faults → RunsScript playout ReadFault before (record { input = input; out = now.out })
+  read_failed input same rose =
+      let allowed = so_far.allowed in
+      record {
+        reading = reading_of so_far.read false;
+        gives = subst (λ l. Gives so_far.read before.input.left l) (sym same) so_far.consumed.gives;
+        faults = subst (λ n. Rose n input.faults) so_far.consumed.faults rose;
+        at_end = λ e. absurd (false≢true e);
+        ends = (refl, omega (arith, allowed), taken_done (run_from playout before.out) script so_far.read now.out so_far.taken);
+      }

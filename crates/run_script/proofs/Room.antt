@@ -7,7 +7,7 @@ use Rattle.std.proofs.lemmas.Bool.Decides.{nat_tests}
 use Rattle.std.proofs.lemmas.Option.{slice_get-get_or}
 use Rattle.std.proofs.Common.{inl, inr}
 use Rattle.play_types.specs.Config.{ChannelView}
-use Rattle.run_script.specs.Stage.{HasRoom}
+use Rattle.run_script.specs.inner.Player.{HasRoom}
 
 max_room : (room more : ℕ) → (room ≤ ord_max nat_cmp room more) × (more ≤ ord_max nat_cmp room more)
 max_room room more = (grind (arith, nat_tests), grind (arith, nat_tests))

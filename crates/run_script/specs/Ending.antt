@@ -1,41 +1,44 @@
--- How a run ends, and what it says then.
-use Rattle.std.specs.Prelude.{ℕ, ◌+◌, List, [], ◌∷◌, ◌++◌, codes, decimal}
+-- How a run ends: its fault, its exit status and the line that it writes then.
+use Rattle.std.specs.Prelude.{ℕ, ◌+◌, Option, Some, None, List, []}
+use Rattle.server_setup.specs.Fault as table
+use Rattle.server_setup.specs.declared.fault.RunFault.{RunFault}
+use Rattle.server_setup.specs.declared.fault.RunFault.TheVariants as faults
 use Rattle.run_script.specs.declared.ending.Halt.{Halt}
 use Rattle.run_script.specs.declared.ending.Halt.TheVariants as halt
 use Rattle.run_script.specs.declared.ending.Ending.{Ending}
 use Rattle.run_script.specs.declared.ending.Ending.TheVariants.{Finished, Stopped, BadLine, TooLong, ReadFault, WriteFault, Memory}
 
--- how a run ends that stops after so many lines
+-- how a run ends that stops after `lines` lines
 abbrev pub ending_of : Halt → ℕ → Ending
 ending_of halt.Stop lines = Stopped
-ending_of halt.NoForm lines = BadLine (lines + 1)
+ending_of halt.Rejected lines = BadLine (lines + 1)
 ending_of halt.Write lines = WriteFault
 ending_of halt.Memory lines = Memory
 
--- the exit status
+-- the fault with which a run ends, none where it ends well
+abbrev pub fault_of : Ending → Option RunFault
+fault_of Finished = None
+fault_of Stopped = None
+fault_of (BadLine number) = Some (faults.BadLine number)
+fault_of TooLong = Some faults.InputTooLong
+fault_of ReadFault = Some faults.Device
+fault_of WriteFault = Some faults.Device
+fault_of Memory = Some faults.OutOfMemory
+
+-- the exit status of a program that ends with this fault, or well
+abbrev pub exit_status : Option RunFault → ℕ
+exit_status None = 0
+exit_status (Some fault) = table.status_of fault
+
+-- the line that a program writes at its end, none where it ends well
+abbrev pub last_line : Option RunFault → List ℕ
+last_line None = []
+last_line (Some fault) = table.fault_line fault
+
+-- the exit status of a run
 abbrev pub status_of : Ending → ℕ
-status_of Finished = 0
-status_of Stopped = 0
-status_of (BadLine number) = 2
-status_of TooLong = 2
-status_of ReadFault = 4
-status_of WriteFault = 4
-status_of Memory = 5
+status_of ending = exit_status (fault_of ending)
 
--- the line for a script line that says nothing that a script may say, by its number from 1
-unfoldable pub bad_line : ℕ → List ℕ
-bad_line number = codes "E line " ++ decimal number ++ 10 ∷ []
-
--- the line that says what went wrong
+-- the line that says what went wrong in a run
 abbrev pub fault_line : Ending → List ℕ
-fault_line Finished = []
-fault_line Stopped = []
-fault_line (BadLine number) = bad_line number
-fault_line TooLong = codes "E input too long\n"
-fault_line ReadFault = codes "E device\n"
-fault_line WriteFault = codes "E device\n"
-fault_line Memory = codes "E memory\n"
-
--- the line for words that have no form
-abbrev pub usage_line : List ℕ
-usage_line = codes "E usage\n"
+fault_line ending = last_line (fault_of ending)

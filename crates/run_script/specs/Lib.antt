@@ -1,11 +1,6 @@
+pub mod CommandLine
 pub mod Ending
-pub mod Line
-pub mod Clients
-pub mod Words
-pub mod Picture
-pub mod Form
-pub mod Setup
-pub mod Stage
 pub mod Script
 pub mod Run
 pub mod Program
+pub mod inner

@@ -1,5 +1,5 @@
 -- What the program promises of a run.
-use Rattle.std.specs.Prelude.{◌≡◌, ◌≢◌, ℕ, ◌<◌, ◌≤◌, ◌⊎◌, Bool, true, false, Option, Some, None, Ok, Err, List, [], ◌∷◌, ◌++◌, length, IfSome}
+use Rattle.std.specs.Prelude.{◌≡◌, ◌≢◌, ◌↔◌, ℕ, ◌<◌, ◌≤◌, ◌⊎◌, Bool, true, false, Option, Some, None, Ok, Err, List, [], ◌∷◌, ◌++◌, length, IfSome, MatchOption}
 use Rattle.std.specs.List.{list_all}
 use Rattle.std.specs.Str.Lines.{lines}
 use Rattle.play_outside.specs.Faults.{Rose}
@@ -7,131 +7,185 @@ use Rattle.play_outside.specs.FolderState.{FolderState, Files}
 use Rattle.play_outside.specs.SourceState.{SourceState}
 use Rattle.play_outside.specs.SinkState.{SinkState, after_taking}
 use Rattle.play_outside.specs.Sink.{Fails}
-use Rattle.history_model.specs.Script.{ScriptLine, NoForm, until_stop}
-use Rattle.history_model.specs.ScriptHistory.{Playout, Played, ends_at, goes_on}
-use Rattle.history_model.specs.ScriptInput.{ended_lines}
-use Rattle.history_model.specs.ScriptOutput.{script_output}
+use Rattle.history_model.specs.declared.limits.TheConstants.{MAX_INPUT_BYTES}
+use Rattle.history_model.specs.scripts.Line.{ScriptLine, Comment, Ticks, Said, Stop, Rejected, until_stop}
+use Rattle.history_model.specs.scripts.History.{Playout, PlayedLine, ends_at, goes_on}
+use Rattle.history_model.specs.scripts.Input.{ended_lines}
+use Rattle.history_model.specs.scripts.Output.{plain_config, script_output}
+use Rattle.play_types.specs.declared.geometry.Geometry.{Geometry}
+use Rattle.play_scene.specs.Picture.{clips_of}
 use Rattle.run_script.specs.declared.ending.Ending.{Ending}
-use Rattle.run_script.specs.Ending.{status_of, fault_line, usage_line}
-use Rattle.run_script.specs.declared.setup.Show.{Show}
-use Rattle.run_script.specs.declared.setup.SetupFault.{SetupFault}
-use Rattle.run_script.specs.Form.{Form, Plain, Configured}
-use Rattle.run_script.specs.Picture.{clips_of}
-use Rattle.run_script.specs.Script.{meanings, said_by}
-use Rattle.run_script.specs.Setup.{SetsUp, fault_of_files}
-use Rattle.run_script.specs.Setup as setup
-use Rattle.run_script.specs.Run.{limit, Runs}
-use Rattle.run_script.specs.Words.{plain_playout}
+use Rattle.run_script.specs.Ending.{status_of, fault_line}
+use Rattle.server_setup.specs.declared.setup.ServerSetup.{ServerSetup}
+use Rattle.server_setup.specs.declared.fault.RunFault.{RunFault}
+use Rattle.server_setup.specs.declared.fault.RunFault.TheVariants.{Usage}
+use Rattle.run_script.specs.CommandLine.{CommandLine, Plain, Configured, command_line_of}
+use Rattle.run_script.specs.Script.{meanings, played_meanings}
+use Rattle.server_setup.specs.Setup.{SetsUp, fault_of_files}
+use Rattle.server_setup.specs.Fault as table
+use Rattle.run_script.specs.Run.{Streams, RunsScript}
 
--- the exit statuses that come
-abbrev pub IsStatus : ℕ → Type 0
-IsStatus status = status ≤ 5
+-- all that `run_main` reads and writes: the folder of configurations and clips, the input and the output
+pub record Outside : Type 0 where
+  pub media : FolderState
+  pub input : SourceState
+  pub out : SinkState
 
--- the text was written, or a write of it failed after a front of it
-abbrev pub Says : List ℕ → SinkState → SinkState → Type 0
-Says text before after = (after ≡ after_taking before text) ⊎ Fails text before after
+-- its input and its output
+abbrev pub streams_of : Outside → Streams
+streams_of outside = record { input = outside.input; out = outside.out }
 
--- words of no form: nothing is read, and the output says so
-abbrev pub IsUsage : SourceState → SourceState → SinkState → SinkState → Type 0
-IsUsage source source' sink sink' = (source' ≡ source) × Says usage_line sink sink'
+-- the line was written, or a write failed after a part of it
+abbrev pub WritesFaultLine : List ℕ → SinkState → SinkState → Type 0
+WritesFaultLine line before after = (after ≡ after_taking before line) ⊎ Fails line before after
 
--- a run that ended, and then said what went wrong
-pub record IsRun (playout : Playout) (status : ℕ) (source source' : SourceState) (sink sink' : SinkState) : Type 0 where
+-- words that are no command line: nothing is read, and the output says so
+abbrev pub SaysUsage : Outside → Outside → Type 0
+SaysUsage before after =
+    (after.media ≡ before.media) × (after.input ≡ before.input) × WritesFaultLine (table.fault_line Usage) before.out after.out
+
+-- a script was run, and then the output says what went wrong, if something did
+pub record EndsRun (playout : Playout) (status : ℕ) (before after : Streams) : Type 0 where
   pub ending : Ending
   pub outcome : status ≡ status_of ending
-  pub said_after : SinkState
-  pub run : Runs playout ending source source' sink said_after
-  pub said : Says (fault_line ending) said_after sink'
+  -- the output before the line of the fault
+  pub between : SinkState
+  pub run : RunsScript playout ending before (record { input = after.input; out = between })
+  pub said : WritesFaultLine (fault_line ending) between after.out
 
--- whether a line says something that a script may say
-abbrev pub is_formed : ScriptLine → Bool
-is_formed NoForm = false
-is_formed line = true
+-- what a script is played on where the words name a size alone: one channel, without clips, whose frames are written in
+-- hexadecimal
+abbrev pub plain_playout : Geometry → Playout
+plain_playout size = record { config = plain_config size.width size.height; names = []; clips = []; digests = false }
+
+-- what a script is played on that was set up
+abbrev pub playout_of : ServerSetup → Bool → Playout
+playout_of setup digests =
+    record { config = setup.config; names = setup.names; clips = clips_of setup.media; digests = digests }
+
+-- nothing was set up from the configuration of this path: nothing of the input is read, and the output says why
+pub record IsRefused (path : List ℕ) (status : ℕ) (before after : Outside) : Type 0 where
+  pub fault : RunFault
+  pub outcome : status ≡ table.status_of fault
+  pub refused : SetsUp path (Err fault) before.media after.media
+  pub unread : after.input ≡ before.input
+  pub said : WritesFaultLine (table.fault_line fault) before.out after.out
+
+-- a script was run on the configuration of this path and the clips of its folder
+pub record IsConfigured (path : List ℕ) (digests : Bool) (status : ℕ) (before after : Outside) : Type 0 where
+  pub setup : ServerSetup
+  pub set_up : SetsUp path (Ok setup) before.media after.media
+  pub run : EndsRun (playout_of setup digests) status (streams_of before) (streams_of after)
+
+-- what a command line does
+abbrev pub RunsCommandLine : CommandLine → ℕ → Outside → Outside → Type 0
+RunsCommandLine (Plain size) status before after =
+    (after.media ≡ before.media) × EndsRun (plain_playout size) status (streams_of before) (streams_of after)
+RunsCommandLine (Configured path digests) status before after =
+    IsRefused path status before after ⊎ IsConfigured path digests status before after
 
 -- the run ended at a line, which is the server's own stop or a kill, and the input was read at least to that line's end
-pub record EndsAtLine (playout : Playout) (played : List Played) (read rest : List ℕ) : Type 0 where
-  pub before : List Played
-  pub last : Played
-  pub later : List Played
+pub record EndsAtLine (playout : Playout) (played : List PlayedLine) (read rest : List ℕ) : Type 0 where
+  pub before : List PlayedLine
+  pub last : PlayedLine
+  pub later : List PlayedLine
   pub parts : played ≡ before ++ last ∷ later
-  pub formed : goes_on playout before ≡ true
-  pub some_form : last.line ≢ NoForm
+  pub runs_on : goes_on playout before ≡ true
+  pub accepted : last.line ≢ Rejected
   pub ends : ends_at playout before last last.line ≡ true
   pub whole : (rest ≡ []) ⊎ (length before < length (ended_lines read))
 
--- the output of the lines of an input was written, and nothing else, where the sessions gave up some of the lines for want of
--- memory; the input was read to its end, or to a line at which the run ends
-pub record PlaysAll (playout : Playout) (input : List ℕ) (after : Option (List ℕ)) (sink sink' : SinkState) : Type 0 where
+-- the output of the lines of an input was written, and nothing else, where the sessions gave up some of the lines out of memory;
+-- the input was read to its end, or to a line at which the run ends
+pub record PlaysInput (playout : Playout) (input : List ℕ) (before after : Streams) : Type 0 where
   pub read : List ℕ
   pub rest : List ℕ
   pub parts : input ≡ read ++ rest
-  pub left : after ≡ Some rest
-  pub played : List Played
-  pub said : said_by played ≡ meanings (lines input)
+  pub left : after.input.left ≡ Some rest
+  pub played : List PlayedLine
+  pub said : played_meanings played ≡ meanings (lines input)
   pub ended : ((goes_on playout played ≡ true) × (rest ≡ [])) ⊎ EndsAtLine playout played read rest
-  pub written : sink' ≡ after_taking sink (script_output playout played)
+  pub written : after.out ≡ after_taking before.out (script_output playout played)
 
--- where the input tells what it had, it was played to its end or to a line at which the run ends
-abbrev pub IsPlayed : Playout → SourceState → SourceState → SinkState → SinkState → Type 0
-IsPlayed playout source source' sink sink' =
-    IfSome source.left (λ input. PlaysAll playout input source'.left sink sink')
-    × (source'.faults ≡ source.faults) × (sink'.faults ≡ sink.faults)
+-- the input was played, where its bytes are known, and no read or write failed
+abbrev pub IsPlayed : Playout → Streams → Streams → Type 0
+IsPlayed playout before after =
+    IfSome before.input.left (λ input. PlaysInput playout input before after)
+    × (after.input.faults ≡ before.input.faults) × (after.out.faults ≡ before.out.faults)
 
--- the input tells what it has: its lines up to the first stop are all of a form, and it is not too long
+-- the input was played on what the command line names
+abbrev pub PlaysToEnd : CommandLine → Outside → Outside → Type 0
+PlaysToEnd (Plain size) before after =
+    (after.media ≡ before.media) × IsPlayed (plain_playout size) (streams_of before) (streams_of after)
+PlaysToEnd (Configured path digests) before after =
+    (setup : ServerSetup) × SetsUp path (Ok setup) before.media after.media
+    × IsPlayed (playout_of setup digests) (streams_of before) (streams_of after)
+
+-- a read or a write of the input or of the output failed
+abbrev pub StreamsFail : Outside → Outside → Type 0
+StreamsFail before after = Rose before.input.faults after.input.faults ⊎ Rose before.out.faults after.out.faults
+
+-- a read of the folder, or one of these, failed
+abbrev pub DeviceFails : Outside → Outside → Type 0
+DeviceFails before after = Rose before.media.faults after.media.faults ⊎ StreamsFail before after
+
+-- where the files have a first fault, nothing of the input is read, and the status is that of the fault, unless the run was out
+-- of memory or a read of the folder failed before; where they have none, the status is not that of clips
+abbrev pub MeetsFault : Option RunFault → ℕ → Outside → Outside → Type 0
+MeetsFault None status before after = status ≢ 3
+MeetsFault (Some fault) status before after =
+    ((status ≡ table.status_of fault) ⊎ ((status ≡ 5) ⊎ ((status ≡ 4) × Rose before.media.faults after.media.faults)))
+    × (after.input ≡ before.input)
+
+-- the first fault of the files that the command line names is met, where the files are known
+abbrev pub MeetsFirstFault : CommandLine → ℕ → Outside → Outside → Type 0
+MeetsFirstFault (Plain size) status before after = status ≢ 3
+MeetsFirstFault (Configured path digests) status before after =
+    IfSome before.media.files (λ files. MeetsFault (fault_of_files path files) status before after)
+
+-- what the command line names can be set up: with a configuration, where the files are known and have no fault, and no read of
+-- the folder fails
+abbrev pub CanBeSetUp : CommandLine → Outside → Outside → Type 0
+CanBeSetUp (Plain size) before after = Unit {0}
+CanBeSetUp (Configured path digests) before after =
+    (files : Files) × (before.media.files ≡ Some files) × (fault_of_files path files ≡ None)
+    × (Rose before.media.faults after.media.faults → ⊥)
+
+-- whether a line is one that a script may have
+abbrev pub is_accepted : ScriptLine → Bool
+is_accepted Comment = true
+is_accepted (Ticks count) = true
+is_accepted (Said tag text) = true
+is_accepted Stop = true
+is_accepted Rejected = false
+
+-- the bytes of the input are known, it is not too long, and none of its lines up to the first stop is rejected
 abbrev pub IsValid : SourceState → Type 0
-IsValid source = (input : List ℕ) × (source.left ≡ Some input) × (length input ≤ limit) × (list_all is_formed (until_stop (meanings (lines input))) ≡ true)
+IsValid input =
+    (bytes : List ℕ) × (input.left ≡ Some bytes) × (length bytes ≤ MAX_INPUT_BYTES)
+    × (list_all is_accepted (until_stop (meanings (lines bytes))) ≡ true)
 
--- what a script is played on that was set up
-abbrev pub playout_of : Show → Bool → Playout
-playout_of show digests =
-    record { config = show.config; names = show.names; clips = clips_of show.table; digests = digests }
+-- a valid script was played on what could be set up, with no fault of a device: only memory could run out
+abbrev pub SucceedsIfValid : CommandLine → ℕ → Outside → Outside → Type 0
+SucceedsIfValid line status before after =
+    CanBeSetUp line before after → IsValid before.input → (StreamsFail before after → ⊥) → (status ≡ 0) ⊎ (status ≡ 5)
 
--- nothing was set up: nothing is read, and the output says why
-pub record IsRefused (file : List ℕ) (status : ℕ) (media media' : FolderState) (source source' : SourceState) (sink sink' : SinkState) : Type 0 where
-  pub fault : SetupFault
-  pub outcome : status ≡ setup.status_of fault
-  pub refused : SetsUp file (Err fault) media media'
-  pub unread : source' ≡ source
-  pub said : Says (setup.fault_line fault) sink sink'
-
--- a run on the configuration of this path and the clips of its folder
-pub record IsConfigured (file : List ℕ) (digests : Bool) (status : ℕ) (media media' : FolderState) (source source' : SourceState) (sink sink' : SinkState) : Type 0 where
-  pub show : Show
-  pub set_up : SetsUp file (Ok show) media media'
-  pub run : IsRun (playout_of show digests) status source source' sink sink'
-
--- what words of a form do
-abbrev pub Does : Form → ℕ → FolderState → FolderState → SourceState → SourceState → SinkState → SinkState → Type 0
-Does (Plain size) status media media' source source' sink sink' =
-    (media' ≡ media) × IsRun (plain_playout size.width size.height) status source source' sink sink'
-Does (Configured file digests) status media media' source source' sink sink' =
-    IsRefused file status media media' source source' sink sink'
-    ⊎ IsConfigured file digests status media media' source source' sink sink'
-
--- where the input tells what it had, it was played to its end or to a line at which the run ends, on what the words name
-abbrev pub Finishes : Form → FolderState → FolderState → SourceState → SourceState → SinkState → SinkState → Type 0
-Finishes (Plain size) media media' source source' sink sink' =
-    (media' ≡ media) × IsPlayed (plain_playout size.width size.height) source source' sink sink'
-Finishes (Configured file digests) media media' source source' sink sink' =
-    (show : Show) × SetsUp file (Ok show) media media' × IsPlayed (playout_of show digests) source source' sink sink'
-
--- what the words name can be set up: with a configuration, where the folder tells files without a fault and no read of
--- it fails
-abbrev pub CanBeSetUp : Form → FolderState → FolderState → Type 0
-CanBeSetUp (Plain size) media media' = Unit {0}
-CanBeSetUp (Configured file digests) media media' =
-    (files : Files) × (media.files ≡ Some files) × (fault_of_files file files ≡ None) × (Rose media.faults media'.faults → ⊥)
-
--- where files have a first fault, nothing of the input is read, and the status is that of the fault, unless memory ran
--- out or a read of the folder failed before; without one the status is not that of clips
-abbrev pub Meets : Option SetupFault → ℕ → FolderState → FolderState → SourceState → SourceState → Type 0
-Meets None status media media' source source' = status ≢ 3
-Meets (Some fault) status media media' source source' =
-    ((status ≡ setup.status_of fault) ⊎ ((status ≡ 5) ⊎ ((status ≡ 4) × Rose media.faults media'.faults)))
-    × (source' ≡ source)
-
--- the first fault of the files that the words name is met, where the folder tells them
-abbrev pub IsRefusal : Form → ℕ → FolderState → FolderState → SourceState → SourceState → Type 0
-IsRefusal (Plain size) status media media' source source' = status ≢ 3
-IsRefusal (Configured file digests) status media media' source source' =
-    IfSome media.files (λ files. Meets (fault_of_files file files) status media media' source source')
+-- what `run_main` promises of these words, its exit status, and the outside before and after the call
+pub record PlaysScript (words : List (List ℕ)) (status : ℕ) (before after : Outside) : Type 0 where
+  -- status 1 comes exactly where the words are no command line
+  pub usage : (status ≡ 1) ↔ (command_line_of words ≡ None)
+  -- no other status comes than those of the table
+  pub statuses : status ≤ 5
+  -- what was read and written, with each status
+  pub run : MatchOption (command_line_of words) (SaysUsage before after) (λ line. RunsCommandLine line status before after)
+  -- with status 0 the whole script was played, and nothing but its output was written
+  pub finished : status ≡ 0 → IfSome (command_line_of words) (λ line. PlaysToEnd line before after)
+  -- status 4 comes only where a device failed
+  pub device : status ≡ 4 → DeviceFails before after
+  -- the first fault of the configuration and of the clips decides
+  pub refused : IfSome (command_line_of words) (λ line. MeetsFirstFault line status before after)
+  -- what is valid succeeds
+  pub complete : IfSome (command_line_of words) (λ line. SucceedsIfValid line status before after)
+  -- nothing is written to the folder, and but for a fault of it nothing of its state changes
+  pub files : after.media.files ≡ before.media.files
+  pub media : status ≢ 4 → after.media ≡ before.media

@@ -1,42 +1,39 @@
--- A whole run over an input.
-use Rattle.std.specs.Prelude.{◌≡◌, ℕ, ◌+◌, ◌^◌, ◌<◌, ◌≤◌, Bool, true, false, Result, Ok, Err, List, ◌++◌, length, take}
+-- A whole run over an input, before it says what went wrong.
+use Rattle.std.specs.Prelude.{◌≡◌, ℕ, ◌<◌, ◌≤◌, true, false, List, ◌++◌, length, take}
 use Rattle.play_outside.specs.Faults.{Rose}
 use Rattle.play_outside.specs.SourceState.{SourceState}
 use Rattle.play_outside.specs.Source.{Gives, IsAtEnd}
 use Rattle.play_outside.specs.SinkState.{SinkState}
-use Rattle.history_model.specs.ScriptHistory.{Playout}
-use Rattle.history_model.specs.ScriptInput.{ended_lines, received}
+use Rattle.history_model.specs.declared.limits.TheConstants.{MAX_INPUT_BYTES}
+use Rattle.history_model.specs.scripts.History.{Playout}
+use Rattle.history_model.specs.scripts.Input.{ended_lines, received}
 use Rattle.run_script.specs.declared.ending.Ending.{Ending}
 use Rattle.run_script.specs.declared.ending.Ending.TheVariants.{Finished, Stopped, BadLine, TooLong, ReadFault, WriteFault, Memory}
-use Rattle.run_script.specs.declared.script.Script.{Script}
-use Rattle.run_script.specs.Script.{IsDone, HasTaken, StopsAt, IsBadAt, FailsAt}
+use Rattle.run_script.specs.Script.{Run, Reading, IsDone, StopsAt, RejectsAt, FailsAt}
 
--- the most bytes that an input may have
-abbrev pub limit : ℕ
-limit = 2 ^ 32
+-- the input and the output of a run
+pub record Streams : Type 0 where
+  pub input : SourceState
+  pub out : SinkState
 
--- a front of the bytes that an input may have, with the end of the input after it or not
-pub record Front (read : List ℕ) (ended : Bool) (front : List ℕ) (at_end : Bool) : Type 0 where
+-- a part of a reading from its first byte on, within the bytes that an input may have
+pub record IsPrefix (whole part : Reading) : Type 0 where
   pub rest : List ℕ
-  pub parts : take limit read ≡ front ++ rest
-  pub whole : at_end ≡ true → (ended ≡ true) × (front ≡ read)
+  pub parts : take MAX_INPUT_BYTES whole.bytes ≡ part.bytes ++ rest
+  pub at_end : part.ended ≡ true → (whole.ended ≡ true) × (part.bytes ≡ whole.bytes)
 
--- how a run ends that has read these bytes, and the end of the input or not, and has not yet said what went wrong
-abbrev pub Ends : Playout → Ending → List ℕ → Bool → SinkState → SinkState → Type 0
-Ends playout Finished read ended first state =
-    (ended ≡ true) × (length read ≤ limit) × IsDone playout (received read true) first state
-Ends playout Stopped read ended first state =
-    (front : List ℕ) × (at_end : Bool) × Front read ended front at_end × StopsAt playout front at_end first state
-Ends playout (BadLine number) read ended first state =
-    (front : List ℕ) × (at_end : Bool) × Front read ended front at_end × IsBadAt playout front at_end number first state
-Ends playout TooLong read ended first state =
-    (limit < length read) × IsDone playout (received (take limit read) false) first state
-Ends playout ReadFault read ended first state =
-    (ended ≡ false) × (length read ≤ limit) × IsDone playout (received read false) first state
-Ends playout WriteFault read ended first state =
-    (front : List ℕ) × (at_end : Bool) × Front read ended front at_end × FailsAt playout front at_end first state
-Ends playout Memory read ended first state =
-    (front : List ℕ) × Front read ended front false × IsDone playout (ended_lines front) first state
+-- how a run ends after a reading
+abbrev pub EndsAs : Run → Ending → Reading → SinkState → Type 0
+EndsAs run Finished reading state =
+    (reading.ended ≡ true) × (length reading.bytes ≤ MAX_INPUT_BYTES) × IsDone run (received reading.bytes true) state
+EndsAs run Stopped reading state = (part : Reading) × IsPrefix reading part × StopsAt run part state
+EndsAs run (BadLine number) reading state = (part : Reading) × IsPrefix reading part × RejectsAt run part number state
+EndsAs run TooLong reading state =
+    (MAX_INPUT_BYTES < length reading.bytes) × IsDone run (received (take MAX_INPUT_BYTES reading.bytes) false) state
+EndsAs run ReadFault reading state =
+    (reading.ended ≡ false) × (length reading.bytes ≤ MAX_INPUT_BYTES) × IsDone run (received reading.bytes false) state
+EndsAs run WriteFault reading state = (part : Reading) × IsPrefix reading part × FailsAt run part state
+EndsAs run Memory reading state = (part : Reading) × IsPrefix reading part × IsDone run (ended_lines part.bytes) state
 
 -- the count of faults of the input rose where a read failed, and is else as before
 abbrev pub FaultsOf : Ending → ℕ → ℕ → Type 0
@@ -48,18 +45,10 @@ FaultsOf TooLong before after = after ≡ before
 FaultsOf WriteFault before after = after ≡ before
 FaultsOf Memory before after = after ≡ before
 
--- a run that has not yet said what went wrong
-pub record Runs (playout : Playout) (ending : Ending) (source source' : SourceState) (first state : SinkState) : Type 0 where
-  pub read : List ℕ
-  pub ended : Bool
-  pub gives : Gives read source.left source'.left
-  pub faults : FaultsOf ending source.faults source'.faults
-  pub at_end : ended ≡ true → IsAtEnd source'
-  pub ends : Ends playout ending read ended first state
-
--- a piece was taken, or the run ends in it, which is no fault of the input
-abbrev pub Continues : Playout → Result ℕ Ending → ℕ → Script → List ℕ → List ℕ → SinkState → SinkState → Type 0
-Continues playout (Ok rest) left script bytes piece first state =
-    (rest + length piece ≡ left) × HasTaken playout script (bytes ++ piece) first state
-Continues playout (Err ending) left script bytes piece first state =
-    Ends playout ending (bytes ++ piece) false first state × ((faults : ℕ) → FaultsOf ending faults faults)
+-- what was read of the input, and how the run ended after it
+pub record RunsScript (playout : Playout) (ending : Ending) (before after : Streams) : Type 0 where
+  pub reading : Reading
+  pub gives : Gives reading.bytes before.input.left after.input.left
+  pub faults : FaultsOf ending before.input.faults after.input.faults
+  pub at_end : reading.ended ≡ true → IsAtEnd after.input
+  pub ends : EndsAs (record { playout = playout; first = before.out }) ending reading after.out

@@ -2,9 +2,9 @@
 ghost use Rattle.std.specs.Prelude.{◌≡◌, ◌<◌, IfOk, IfSome, List, Some, [], false, length};
 ghost use Rattle.std.specs.List.{list_any, position};
 ghost use Rattle.amcp_text.specs.Lines.{is_line_end};
-ghost use Rattle.history_model.specs.ScriptHistory.{Playout, Played, same_tag};
+ghost use Rattle.history_model.specs.scripts.History.{Playout, PlayedLine, same_tag};
 ghost use Rattle.play_session.specs.Session.{Fits};
-ghost use Rattle.run_script.specs.Clients.{AreClients, Serves, Hears, Speaks, IsPlaceOf};
+ghost use Rattle.run_script.specs.inner.Clients.{AreClients, ClientTakesLine, ClientsTakeLine, IsPlaceOf, ServesConnection};
 
 use play_session::{Session, Step};
 use play_types::{Config, MediaNames, Tag};
@@ -33,9 +33,9 @@ impl Clients {
         }
     }
 
-    /// Takes a line of a connection, its end left out, and answers its step: `None` where the connection has ended
+    /// Takes a line of a connection, its end left out, and returns its step: `None` where the connection has ended
     /// before.
-    pub fn hear(
+    pub fn take_line(
         &mut self,
         alloc: Global,
         tag: Tag,
@@ -44,18 +44,18 @@ impl Clients {
         media: &MediaNames,
     ) -> Result<Option<Step>, AllocError>
         ensures fits { IfOk result (λ found. IfSome found (Fits config.now)) }
-        ensures hears { (playout : Playout) (played : List Played) → config.now ≡ playout.config → media.now ≡ playout.names
+        ensures takes { (playout : Playout) (played : List PlayedLine) → config.now ≡ playout.config → media.now ≡ playout.names
             → list_any is_line_end text.now ≡ false → AreClients playout self.old.list.items played
-            → IfOk result (λ found. Hears playout tag text.now found self.new.list.items played) }
+            → IfOk result (λ found. ClientsTakeLine (record { playout = playout; played = played; tag = tag; text = text.now }) found self.new.list.items) }
     {
         let at = self.place_of(alloc, tag)?;
-        Ok(speak(&mut self.list[at], alloc, text, config, media))
+        Ok(take_client_line(&mut self.list[at], alloc, text, config, media))
     }
 
     /// The place of a connection, which has a new session where it has said nothing before.
     fn place_of(&mut self, alloc: Global, tag: Tag) -> Result<usize, AllocError>
         ensures { IfOk result (λ at. (at < length self.new.list.items) × IsPlaceOf tag at self.new.list.items
-            × ((playout : Playout) (played : List Played) → AreClients playout self.old.list.items played → AreClients playout self.new.list.items played)) }
+            × ((playout : Playout) (played : List PlayedLine) → AreClients playout self.old.list.items played → AreClients playout self.new.list.items played)) }
     {
         if let Some(at) = self.find(tag) {
             return Ok(at);
@@ -80,8 +80,8 @@ fn is_same(one: Tag, other: Tag) -> bool
     one.worker == other.worker && one.session == other.session
 }
 
-/// Feeds a line to a connection's session, and answers its step: `None` where the connection has ended before.
-fn speak(
+/// Hands a line to the session of a connection, and returns its step: `None` where the connection has ended before.
+fn take_client_line(
     client: &mut Client,
     alloc: Global,
     text: &[u8],
@@ -90,14 +90,12 @@ fn speak(
 ) -> Option<Step>
     ensures tag { client.new.tag ≡ client.old.tag }
     ensures fits { IfSome result (Fits config.now) }
-    ensures speaks { (playout : Playout) (played : List Played) → config.now ≡ playout.config → media.now ≡ playout.names
-        → list_any is_line_end text.now ≡ false → Serves playout client.old played
-        → Speaks playout text.now result client.old client.new played }
+    ensures takes { (playout : Playout) (played : List PlayedLine) → config.now ≡ playout.config → media.now ≡ playout.names
+        → list_any is_line_end text.now ≡ false → ServesConnection playout client.old played
+        → ClientTakesLine (record { playout = playout; played = played; tag = client.old.tag; text = text.now }) result client.new }
 {
     if client.session.has_ended() {
         return None;
     }
-    client.session.feed(text);
-    client.session.feed(b"\r\n");
-    Some(client.session.next(alloc, config, media))
+    Some(client.session.take_line(alloc, text, config, media))
 }

@@ -1,19 +1,23 @@
 //! How a run goes on or ends.
 ghost use Rattle.std.specs.Prelude.{◌≡◌, ◌<◌, ◌^◌};
-ghost use Rattle.play_outside.specs.Sink.{Sends};
-ghost use Rattle.run_script.specs.Ending.{ending_of, status_of, bad_line, fault_line};
+ghost use Rattle.run_script.specs.declared.ending.Halt.TheVariants.{Memory};
+ghost use Rattle.run_script.specs.Ending.{ending_of, fault_of};
+ghost use Rattle.run_script.specs.inner.Halt.{written_of};
 
-use play_outside::{Sent, Sink, send, send_number};
+use play_outside::Sent;
+use server_setup::RunFault;
+use std::alloc::{AllocError, AllocFailed};
 
 /// Why a run stops at a line.
 #[derive(Clone, Copy, Debug, PartialEq, Eq)]
 pub enum Halt {
-    /// The line is the server's own stop.
+    /// The line is the server's own stop, or a kill.
     Stop,
-    /// The line says nothing that a script may say.
-    NoForm,
+    /// The line is none that a script may have.
+    Rejected,
     /// A write failed.
     Write,
+    /// The run is out of memory.
     Memory,
 }
 
@@ -22,9 +26,9 @@ pub enum Halt {
 pub enum Ending {
     /// The input ended, and all its lines were taken.
     Finished,
-    /// A line was the server's own stop.
+    /// A line was the server's own stop, or a kill.
     Stopped,
-    /// The line of this number, from 1, says nothing that a script may say.
+    /// The line of this number, from 1, is none that a script may have.
     BadLine(u64),
     /// The input has more bytes than a script may have.
     TooLong,
@@ -33,15 +37,41 @@ pub enum Ending {
     Memory,
 }
 
+impl From<AllocError> for Halt {
+    ghost from_gives = { λ _ halt. halt ≡ Memory };
+
+    fn from(_error: AllocError) -> Halt {
+        Halt::Memory
+    }
+}
+
+impl<T: Drop> From<AllocFailed<T>> for Halt {
+    ghost from_gives = { λ _ halt. halt ≡ Memory };
+
+    fn from(_failed: AllocFailed<T>) -> Halt {
+        Halt::Memory
+    }
+}
+
+/// Returns a failed write as the reason why a run stops.
+pub fn written(sent: Sent) -> Result<(), Halt>
+    ensures { result ≡ written_of sent }
+{
+    match sent {
+        Sent::All => Ok(()),
+        Sent::Failed => Err(Halt::Write),
+    }
+}
+
 impl Halt {
-    /// How a run ends that stops after so many lines.
+    /// Returns how a run ends that stops after `lines` lines.
     pub fn ending(self, lines: u64) -> Ending
         requires { lines < 2 ^ 63 }
         ensures { result ≡ ending_of self lines }
     {
         match self {
             Halt::Stop => Ending::Stopped,
-            Halt::NoForm => Ending::BadLine(lines + 1),
+            Halt::Rejected => Ending::BadLine(lines + 1),
             Halt::Write => Ending::WriteFault,
             Halt::Memory => Ending::Memory,
         }
@@ -49,42 +79,16 @@ impl Halt {
 }
 
 impl Ending {
-    /// The exit status.
-    pub fn status(self) -> u8
-        ensures { result ≡ status_of self }
+    /// Returns the fault with which the run ends, `None` where it ends well.
+    pub fn fault(self) -> Option<RunFault>
+        ensures { result ≡ fault_of self }
     {
         match self {
-            Ending::Finished | Ending::Stopped => 0,
-            Ending::BadLine(_) | Ending::TooLong => 2,
-            Ending::ReadFault | Ending::WriteFault => 4,
-            Ending::Memory => 5,
+            Ending::Finished | Ending::Stopped => None,
+            Ending::BadLine(number) => Some(RunFault::BadLine(number)),
+            Ending::TooLong => Some(RunFault::InputTooLong),
+            Ending::ReadFault | Ending::WriteFault => Some(RunFault::Device),
+            Ending::Memory => Some(RunFault::OutOfMemory),
         }
-    }
-
-    /// Writes the line that says what went wrong, if something did.
-    pub fn say<K: Sink>(self, out: &mut K) -> Sent
-        ensures { Sends result (fault_line self) (K.state out.old) (K.state out.new) }
-    {
-        match self {
-            Ending::Finished | Ending::Stopped => Sent::All,
-            Ending::BadLine(number) => say_line(number, out),
-            Ending::TooLong => send(b"E input too long\n", out),
-            Ending::ReadFault | Ending::WriteFault => send(b"E device\n", out),
-            Ending::Memory => send(b"E memory\n", out),
-        }
-    }
-}
-
-/// Writes which line says nothing that a script may say.
-fn say_line<K: Sink>(number: u64, out: &mut K) -> Sent
-    ensures { Sends result (bad_line number) (K.state out.old) (K.state out.new) }
-{
-    match send(b"E line ", out) {
-        Sent::All => {}
-        Sent::Failed => return Sent::Failed,
-    }
-    match send_number(number, out) {
-        Sent::All => send(b"\n", out),
-        Sent::Failed => Sent::Failed,
     }
 }

@@ -1,17 +1,12 @@
 //! Lines of a script.
 ghost use Rattle.std.specs.Prelude.{◌≡◌, ◌==◌, option_map, position};
-ghost use Rattle.history_model.specs.Parts.{parts_at};
-ghost use Rattle.history_model.specs.Script.{addressed_parts, after_t, after_x, meaning, said_line, short_meaning, tag_of};
-ghost use Rattle.run_script.specs.Line.{parts_seen, seen};
+ghost use Rattle.history_model.specs.text.Parts.{parts_at};
+ghost use Rattle.history_model.specs.scripts.Line.{addressed_parts, after_t, after_x, meaning, said_line, short_meaning, tag_of};
+ghost use Rattle.run_script.specs.inner.Line.{line_view, parts_view};
 
-use crate::numbers::{number_within, plain_number_within};
+use amcp_text::{number_within, plain_number_within};
+use history_model::{MAX_SCRIPT_LINE_BYTES, MAX_TICKS_PER_LINE};
 use play_types::Tag;
-
-/// The most bytes that a line may have.
-const LONGEST: usize = 8192;
-
-/// The most ticks that a line may ask for.
-const MOST_TICKS: u32 = 100_000;
 
 /// What a line says.
 #[derive(Clone, Copy)]
@@ -25,22 +20,22 @@ pub enum Line<'a> {
     /// The server's own stop.
     Stop,
     /// Nothing that a script may say.
-    NoForm,
+    Rejected,
 }
 
 /// What the line says, its end left out.
 pub fn meaning(line: &[u8]) -> Line<'_>
-    ensures { seen result ≡ meaning line.now }
+    ensures { line_view result ≡ meaning line.now }
 {
-    if line.len() > LONGEST {
-        return Line::NoForm;
+    if line.len() > MAX_SCRIPT_LINE_BYTES {
+        return Line::Rejected;
     }
     short_meaning(line)
 }
 
 /// What a line says that is not too long.
 fn short_meaning(line: &[u8]) -> Line<'_>
-    ensures { seen result ≡ short_meaning line.now }
+    ensures { line_view result ≡ short_meaning line.now }
 {
     match line {
         [] | [b'#', ..] => Line::Comment,
@@ -52,42 +47,42 @@ fn short_meaning(line: &[u8]) -> Line<'_>
 
 /// What a line says that begins with T.
 fn after_t(more: &[u8]) -> Line<'_>
-    ensures { seen result ≡ after_t more.now }
+    ensures { line_view result ≡ after_t more.now }
 {
     match more {
         [] => Line::Ticks(1),
-        [b' ', digits @ ..] => match number_within(1, MOST_TICKS, digits) {
+        [b' ', digits @ ..] => match number_within(1, MAX_TICKS_PER_LINE, digits) {
             Some(count) => Line::Ticks(count),
-            None => Line::NoForm,
+            None => Line::Rejected,
         },
-        _ => Line::NoForm,
+        _ => Line::Rejected,
     }
 }
 
 /// What a line says that begins with X.
 fn after_x(more: &[u8]) -> Line<'_>
-    ensures { seen result ≡ after_x more.now }
+    ensures { line_view result ≡ after_x more.now }
 {
     if more.is_empty() {
         Line::Stop
     } else {
-        Line::NoForm
+        Line::Rejected
     }
 }
 
 /// What a connection's line says.
 fn said_line(line: &[u8]) -> Line<'_>
-    ensures { seen result ≡ said_line (addressed_parts line.now) }
+    ensures { line_view result ≡ said_line (addressed_parts line.now) }
 {
     let Some((worker, rest)) = parts_at(b'.', line) else {
-        return Line::NoForm;
+        return Line::Rejected;
     };
     let Some((session, text)) = parts_at(b' ', rest) else {
-        return Line::NoForm;
+        return Line::Rejected;
     };
     match tag_of(worker, session) {
         Some(tag) => Line::Said(tag, text),
-        None => Line::NoForm,
+        None => Line::Rejected,
     }
 }
 
@@ -102,7 +97,7 @@ fn tag_of(worker: &[u8], session: &[u8]) -> Option<Tag>
 
 /// What stands before and after the first such byte, where there is one.
 pub fn parts_at(byte: u8, text: &[u8]) -> Option<(&[u8], &[u8])>
-    ensures { option_map parts_seen result ≡ parts_at byte text.now }
+    ensures { option_map parts_view result ≡ parts_at byte text.now }
 {
     match place_of(byte, text) {
         Some(at) => Some((&text[..at], &text[at + 1..])),

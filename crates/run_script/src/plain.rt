@@ -1,28 +1,27 @@
 //! A run that names a width and a height alone.
 ghost use Rattle.std.specs.Prelude.{◌≡◌, false, IfOk, codes};
 ghost use Rattle.play_types.specs.Geometry.{IsSize};
-ghost use Rattle.history_model.specs.ScriptOutput.{plain_config};
-ghost use Rattle.run_script.specs.Program.{playout_of};
-ghost use Rattle.run_script.specs.Words.{plain_playout};
+ghost use Rattle.history_model.specs.scripts.Output.{plain_config};
+ghost use Rattle.run_script.specs.Program.{plain_playout, playout_of};
 
-use crate::setup::Show;
 use clip_format::MediaTable;
 use play_types::{Channel, ChannelList, Config, Geometry, MediaNames, Text};
+use server_setup::ServerSetup;
 use std::alloc::{AllocError, Global};
 
-/// What is played where the words name a width and a height alone: one channel of this size, without clips.
-pub fn plain_show(alloc: Global, size: Geometry) -> Result<Show, AllocError>
+/// Returns what is played where the words name a width and a height alone: one channel of this size, without clips.
+pub fn plain_setup(alloc: Global, size: Geometry) -> Result<ServerSetup, AllocError>
     requires { IsSize size.width size.height 0 }
-    ensures { IfOk result (λ show. playout_of show false ≡ plain_playout size.width size.height) }
+    ensures { IfOk result (λ setup. playout_of setup false ≡ plain_playout size) }
 {
-    Ok(Show {
+    Ok(ServerSetup {
         config: plain_config(alloc, size.width, size.height)?,
-        table: MediaTable::empty(alloc)?,
+        media: MediaTable::empty(alloc)?,
         names: MediaNames::new(alloc),
     })
 }
 
-/// The configuration of a run that names a width and a height alone.
+/// Returns the configuration of a run that names a width and a height alone.
 fn plain_config(alloc: Global, width: u16, height: u16) -> Result<Config, AllocError>
     requires { IsSize width height 0 }
     ensures { IfOk result (λ config. config ≡ plain_config width height) }
@@ -30,28 +29,21 @@ fn plain_config(alloc: Global, width: u16, height: u16) -> Result<Config, AllocE
     let listen = none(alloc)?;
     let media = none(alloc)?;
     let channels = one_channel(alloc, width, height)?;
-    match Config::new(listen, media, 25, 4, 4_194_304, channels) {
-        Some(config) => Ok(config),
-        None => unreachable!(),
-    }
+    Ok(Config::new(listen, media, 25, 4, 4_194_304, channels).unwrap())
 }
 
-/// One channel of this width and height, without sound.
+/// Returns one channel of this width and height, without sound.
 fn one_channel(alloc: Global, width: u16, height: u16) -> Result<ChannelList, AllocError>
     requires { IsSize width height 0 }
     ensures { IfOk result (λ channels. channels ≡ (plain_config width height).channels) }
 {
     let output = none(alloc)?;
-    let channel = match Channel::new(width, height, 0, output) {
-        Some(channel) => channel,
-        None => unreachable!(),
-    };
     let mut channels = ChannelList::new(alloc);
-    channels.push(channel)?;
+    channels.push(Channel::new(width, height, 0, output).unwrap())?;
     Ok(channels)
 }
 
-/// The text that stands where there is no address, folder or output.
+/// Returns the text that stands where there is no address, folder or output.
 fn none(alloc: Global) -> Result<Text, AllocError>
     ensures { IfOk result (λ text. text ≡ codes "none") }
 {

@@ -1,20 +1,18 @@
 //! The program: the words, the input, the folder, the output and the exit status.
-ghost use Rattle.std.specs.Prelude.{◌≡◌, ◌≢◌, ◌↔◌, ◌⊎◌, All, map, string_bytes, IfSome, MatchOption, None};
+ghost use Rattle.std.specs.Prelude.{◌≡◌, map, string_bytes};
 ghost use Rattle.play_types.specs.Geometry.{IsSize};
-ghost use Rattle.play_outside.specs.Faults.{Rose};
-ghost use Rattle.run_script.specs.Ending.{fault_line, status_of};
-ghost use Rattle.run_script.specs.Form.{Configured, IsFormInRange, form_of, seen};
-ghost use Rattle.run_script.specs.Program.{CanBeSetUp, Does, Finishes, IsConfigured, IsRefusal, IsRefused, IsRun, IsStatus, IsUsage, IsValid, Says, playout_of};
-ghost use Rattle.run_script.specs.Run.{Runs};
-ghost use Rattle.run_script.specs.Words.{plain_playout};
+ghost use Rattle.run_script.specs.Ending.{exit_status, last_line};
+ghost use Rattle.run_script.specs.CommandLine.{Configured, IsInRange, command_line_view};
+ghost use Rattle.run_script.specs.Program.{EndsRun, PlaysScript, RunsCommandLine, WritesFaultLine, plain_playout};
+ghost use Rattle.run_script.specs.Run.{RunsScript};
 
+use crate::command_line::CommandLine;
 use crate::ending::Ending;
-use crate::form::{Form, form_of};
-use crate::plain::plain_show;
+use crate::plain::plain_setup;
 use crate::run::run;
-use crate::setup::set_up;
-use play_outside::{MediaDir, Sink, Source, send};
+use play_outside::{MediaDir, Sink, Source};
 use play_types::Geometry;
+use server_setup::{RunFault, set_up};
 use std::alloc::Global;
 use std::thread::Threads;
 
@@ -31,7 +29,7 @@ use std::thread::Threads;
 /// | Status | Cause | The output's last line |
 /// |---|---|---|
 /// | 0 | the input was read to its end, or to a line at which the run ends, and all was written | |
-/// | 1 | the words have another form | `E usage` |
+/// | 1 | the words are no command line | `E usage` |
 /// | 2 | the configuration is not TOML, `read_config` refuses a key of it, or a channel has sound | `E config text`, `E config key KEY` |
 /// | 2 | a line was received that says nothing that a script may say, or more than 4,294,967,296 bytes were read | `E line n`, `E input too long` |
 /// | 3 | two clip files have one name, or the clip files are too large | `E media twice NAME`, `E media total n` |
@@ -50,63 +48,39 @@ pub fn run_main<R: Threads + Sync, I: Source, M: MediaDir, O: Sink>(
     media: &mut M,
     out: &mut O,
 ) -> u8
-    ensures usage { (result ≡ 1) ↔ (form_of (map string_bytes words.now) ≡ None) }
-    ensures statuses { IsStatus result }
-    ensures run { MatchOption (form_of (map string_bytes words.now))
-        ((M.state media.new ≡ M.state media.old) × IsUsage (I.state input.old) (I.state input.new) (O.state out.old) (O.state out.new))
-        (λ form. Does form result (M.state media.old) (M.state media.new) (I.state input.old) (I.state input.new) (O.state out.old) (O.state out.new)) }
-
-    // Where the input and the output tell, the input was read to its end or to a line at which the run ends, and the output is
-    // the script's.
-    ensures finished { result ≡ 0 → IfSome (form_of (map string_bytes words.now))
-        (λ form. Finishes form (M.state media.old) (M.state media.new) (I.state input.old) (I.state input.new) (O.state out.old) (O.state out.new)) }
-    ensures device { result ≡ 4 → Rose (I.state input.old).faults (I.state input.new).faults ⊎ Rose (M.state media.old).faults (M.state media.new).faults
-        ⊎ Rose (O.state out.old).faults (O.state out.new).faults }
-    ensures refused { IfSome (form_of (map string_bytes words.now))
-        (λ form. IsRefusal form result (M.state media.old) (M.state media.new) (I.state input.old) (I.state input.new)) }
-    ensures complete { IfSome (form_of (map string_bytes words.now))
-        (λ form. CanBeSetUp form (M.state media.old) (M.state media.new) → IsValid (I.state input.old)
-        → ¬ Rose (I.state input.old).faults (I.state input.new).faults → ¬ Rose (O.state out.old).faults (O.state out.new).faults
-        → (result ≡ 0) ⊎ (result ≡ 5)) }
-    ensures files { (M.state media.new).files ≡ (M.state media.old).files }
-    ensures media { result ≢ 4 → M.state media.new ≡ M.state media.old }
+    ensures { PlaysScript (map string_bytes words.now) result
+        (record { media = M.state media.old; input = I.state input.old; out = O.state out.old })
+        (record { media = M.state media.new; input = I.state input.new; out = O.state out.new }) }
 {
-    match form_of(words) {
-        Some(form) => play(rt, alloc, form, input, media, out),
-        None => {
-            let _ = send(b"E usage\n", out);
-            1
-        }
+    match CommandLine::read(words) {
+        Some(line) => run_command_line(rt, alloc, line, input, media, out),
+        None => end(Some(RunFault::Usage), out),
     }
 }
 
-/// Does what words of a form name.
-fn play<R: Threads + Sync, I: Source, M: MediaDir, O: Sink>(
+/// Does what a command line names, and returns the exit status.
+fn run_command_line<R: Threads + Sync, I: Source, M: MediaDir, O: Sink>(
     rt: &R,
     alloc: Global,
-    form: Form<'_>,
+    line: CommandLine<'_>,
     input: &mut I,
     media: &mut M,
     out: &mut O,
 ) -> u8
-    requires { IsFormInRange form }
-    ensures { Does (seen form.entry) result (M.state media.old) (M.state media.new) (I.state input.old) (I.state input.new) (O.state out.old) (O.state out.new) }
+    requires { IsInRange line }
+    ensures { RunsCommandLine (command_line_view line.entry) result
+        (record { media = M.state media.old; input = I.state input.old; out = O.state out.old })
+        (record { media = M.state media.new; input = I.state input.new; out = O.state out.new }) }
 {
-    match form {
-        Form::Plain(size) => play_plain(alloc, size, input, out),
-        Form::Configured { file, digests } => {
-            play_configured(rt, alloc, file, digests, input, media, out)
+    match line {
+        CommandLine::Plain(size) => {
+            let ending = run_plain(alloc, size, input, out);
+            end(ending.fault(), out)
+        }
+        CommandLine::Configured { path, digests } => {
+            run_configured(rt, alloc, path, digests, input, media, out)
         }
     }
-}
-
-/// Plays a script on one channel of this size.
-fn play_plain<I: Source, O: Sink>(alloc: Global, size: Geometry, input: &mut I, out: &mut O) -> u8
-    requires { IsSize size.width size.height 0 }
-    ensures { IsRun (plain_playout size.width size.height) result (I.state input.old) (I.state input.new) (O.state out.old) (O.state out.new) }
-{
-    let ending = run_plain(alloc, size, input, out);
-    end(ending, out)
 }
 
 /// Runs a script on one channel of this size.
@@ -117,43 +91,47 @@ fn run_plain<I: Source, O: Sink>(
     out: &mut O,
 ) -> Ending
     requires { IsSize size.width size.height 0 }
-    ensures { Runs (plain_playout size.width size.height) result (I.state input.old) (I.state input.new) (O.state out.old) (O.state out.new) }
+    ensures { RunsScript (plain_playout size) result
+        (record { input = I.state input.old; out = O.state out.old })
+        (record { input = I.state input.new; out = O.state out.new }) }
 {
-    match plain_show(alloc, size) {
-        Ok(show) => run(alloc, show, false, input, out),
+    match plain_setup(alloc, size) {
+        Ok(setup) => run(alloc, setup, false, input, out),
         Err(_) => Ending::Memory,
     }
 }
 
-/// Plays a script on the configuration of this path, or says why it cannot be played on it.
-fn play_configured<R: Threads + Sync, I: Source, M: MediaDir, O: Sink>(
+/// Runs a script on the configuration of this path, or says why it cannot be set up, and returns the exit status.
+fn run_configured<R: Threads + Sync, I: Source, M: MediaDir, O: Sink>(
     rt: &R,
     alloc: Global,
-    file: &str,
+    path: &str,
     digests: bool,
     input: &mut I,
     media: &mut M,
     out: &mut O,
 ) -> u8
-    ensures { Does (Configured file.now digests) result (M.state media.old) (M.state media.new) (I.state input.old) (I.state input.new) (O.state out.old) (O.state out.new) }
+    ensures { RunsCommandLine (Configured path.now digests) result
+        (record { media = M.state media.old; input = I.state input.old; out = O.state out.old })
+        (record { media = M.state media.new; input = I.state input.new; out = O.state out.new }) }
 {
-    match set_up(rt, alloc, file, media) {
-        Ok(show) => {
-            let ending = run(alloc, show, digests, input, out);
-            end(ending, out)
+    match set_up(rt, alloc, path, media) {
+        Ok(setup) => {
+            let ending = run(alloc, setup, digests, input, out);
+            end(ending.fault(), out)
         }
-        Err(fault) => {
-            let _ = fault.say(out);
-            fault.status()
-        }
+        Err(fault) => end(Some(fault), out),
     }
 }
 
-/// Says what went wrong in a run, if something did, and answers its exit status.
-fn end<O: Sink>(ending: Ending, out: &mut O) -> u8
-    ensures status { result ≡ status_of ending }
-    ensures said { Says (fault_line ending) (O.state out.old) (O.state out.new) }
+/// Writes the line of a fault, where there is one, and returns the exit status.
+fn end<O: Sink>(fault: Option<RunFault>, out: &mut O) -> u8
+    ensures status { result ≡ exit_status fault }
+    ensures said { WritesFaultLine (last_line fault) (O.state out.old) (O.state out.new) }
 {
-    let _ = ending.say(out);
-    ending.status()
+    let Some(fault) = fault else {
+        return 0;
+    };
+    let _ = fault.send_line(out);
+    fault.status()
 }

@@ -1,24 +1,22 @@
 //! A whole run over an input.
-ghost use Rattle.std.specs.Prelude.{◌≡◌, ◌+◌, ◌*◌, ◌≤◌, ℕ, List, length, All};
-ghost use Rattle.play_outside.specs.SinkState.{SinkState};
-ghost use Rattle.run_script.specs.Script.{HasTaken};
-ghost use Rattle.run_script.specs.Run.{Continues, Runs, limit};
+ghost use Rattle.std.specs.Prelude.{◌≡◌, ◌+◌, ◌*◌, ◌≤◌, ◌++◌, ℕ, List, length, All};
+ghost use Rattle.history_model.specs.declared.limits.TheConstants.{MAX_TICKS_PER_LINE};
+ghost use Rattle.run_script.specs.Script.{Run};
+ghost use Rattle.run_script.specs.Run.{RunsScript};
 ghost use Rattle.run_script.specs.Program.{playout_of};
-ghost use Rattle.history_model.specs.ScriptHistory.{Playout};
+ghost use Rattle.run_script.specs.inner.Taken.{HasTaken, ReadsOn};
 
 use crate::ending::Ending;
 use crate::script::Script;
-use crate::setup::Show;
+use history_model::MAX_INPUT_BYTES;
 use play_outside::{ReadStep, Sink, Source};
+use server_setup::ServerSetup;
 use std::alloc::Global;
-
-/// The most bytes that an input may have.
-const LIMIT: u64 = 4_294_967_296;
 
 /// How many bytes are read at a time.
 const PIECE: usize = 4096;
 
-/// Takes a piece of the input where at most `left` bytes are allowed, and answers how many are allowed after it.
+/// Takes a piece of the input where at most `left` bytes are allowed, and returns how many are allowed after it.
 fn take_piece<K: Sink>(
     script: &mut Script,
     alloc: Global,
@@ -26,15 +24,13 @@ fn take_piece<K: Sink>(
     piece: &[u8],
     out: &mut K,
 ) -> Result<u64, Ending>
-    requires allowed { left ≤ limit }
-    requires ticks { script.old.stage.ticks ≤ 100000 * limit }
-    requires lines { script.old.lines ≤ limit }
-    ensures ticks { script.new.stage.ticks ≤ script.old.stage.ticks + 100000 * length piece.now }
+    requires allowed { left ≤ MAX_INPUT_BYTES }
+    requires ticks { script.old.player.ticks ≤ MAX_TICKS_PER_LINE * MAX_INPUT_BYTES }
+    requires lines { script.old.lines ≤ MAX_INPUT_BYTES }
+    ensures ticks { script.new.player.ticks ≤ script.old.player.ticks + MAX_TICKS_PER_LINE * length piece.now }
     ensures lines { script.new.lines ≤ script.old.lines + length piece.now }
-    ensures taken { (playout : Playout) (bytes : List ℕ) (first : SinkState)
-        → HasTaken playout script.old bytes first (K.state out.old)
-        → left + length bytes ≡ limit
-        → Continues playout result left script.new bytes piece.now first (K.state out.new) }
+    ensures reads { (run : Run) (bytes : List ℕ) → HasTaken run script.old bytes (K.state out.old) → left + length bytes ≡ MAX_INPUT_BYTES
+        → ReadsOn run result script.new (bytes ++ piece.now) (K.state out.new) }
 {
     if piece.len() as u64 > left {
         return match script.take(alloc, &piece[..left as usize], out) {
@@ -51,32 +47,29 @@ fn take_piece<K: Sink>(
 /// Reads a script to its end and does what its lines say, on a configuration without sound.
 pub fn run<I: Source, K: Sink>(
     alloc: Global,
-    show: Show,
+    setup: ServerSetup,
     digests: bool,
     input: &mut I,
     out: &mut K,
 ) -> Ending
-    requires { All (λ channel. channel.pairs ≡ 0) show.config.channels }
-    ensures { Runs (playout_of show digests) result (I.state input.old) (I.state input.new) (K.state out.old) (K.state out.new) }
+    requires { All (λ channel. channel.pairs ≡ 0) setup.config.channels }
+    ensures { RunsScript (playout_of setup digests) result
+        (record { input = I.state input.old; out = K.state out.old })
+        (record { input = I.state input.new; out = K.state out.new }) }
 {
-    let mut script = match Script::new(alloc, show.config, show.names, show.table, digests) {
-        Ok(script) => script,
-        Err(_) => return Ending::Memory,
+    let Ok(mut script) = Script::new(alloc, setup, digests) else {
+        return Ending::Memory;
     };
-    let mut left = LIMIT;
+    let mut left = MAX_INPUT_BYTES;
     let mut buffer = [0u8; PIECE];
-    for _turn in 0..LIMIT + 1 {
+    for _turn in 0..MAX_INPUT_BYTES + 1 {
         match input.read(&mut buffer) {
-            ReadStep::Got(count) => match take_piece(
-                &mut script,
-                alloc,
-                left,
-                &buffer[..count],
-                out,
-            ) {
-                Ok(rest) => left = rest,
-                Err(ending) => return ending,
-            },
+            ReadStep::Got(count) => {
+                match take_piece(&mut script, alloc, left, &buffer[..count], out) {
+                    Ok(rest) => left = rest,
+                    Err(ending) => return ending,
+                }
+            }
             ReadStep::End => return script.finish(alloc, out),
             ReadStep::Failed => return Ending::ReadFault,
         }

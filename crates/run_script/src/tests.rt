@@ -169,7 +169,7 @@ const ANSWERS: [(&str, &str); 41] = [
     ("COMMIT", "403 COMMIT ERROR"),
     ("DISCARD", "403 DISCARD ERROR"),
     ("KILL", "202 KILL OK"),
-    // What the stage cannot do yet.
+    // What the player cannot do yet.
     ("PLAY 1-0", "403 PLAY ERROR"),
     ("PLAY 1-1 BLUE", "403 PLAY ERROR"),
     ("PLAY 1-0 BLUE MIX 0", "403 PLAY ERROR"),
@@ -213,7 +213,7 @@ const SESSIONS: [(&str, &str); 9] = [
         "1.1 BEGIN\n1.1 BEGIN\n1.1 INFO\n1.1 CLS\n1.1 VERSION\n1.1 MIXER 1-0 OPACITY\n1.1 BYE\n1.1 KILL\n1.1 COMMIT\n1.1 COMMIT\n",
         "1.1 202 BEGIN OK\n1.1 403 BEGIN ERROR\n1.1 403 INFO ERROR\n1.1 403 CLS ERROR\n1.1 403 VERSION ERROR\n1.1 403 MIXER ERROR\n1.1 403 BYE ERROR\n1.1 403 KILL ERROR\n1.1 202 COMMIT OK\n1.1 403 COMMIT ERROR\n",
     ),
-    // A batch with a command is answered, and the stage cannot do it yet.
+    // A batch with a command is answered, and the player cannot do it yet.
     (
         "1.1 BEGIN\n1.1 PLAY 1-0 RED\nT\n1.1 COMMIT\n1.1 COMMIT\nT\n",
         "1.1 202 BEGIN OK\n1.1 202 PLAY OK\nF 1 1\n00000000\n1.1 403 COMMIT ERROR\n1.1 403 COMMIT ERROR\nF 1 2\n00000000\n",

@@ -1,5 +1,5 @@
 //! Answers to events.
-#![tactic(auto, unfolding(crate::specs::Acts::acts, crate::specs::Acts::is_refused, crate::specs::Value::value, crate::specs::Frame::frame_pixel, crate::specs::Sound::frame_sample, crate::specs::Answer::answer))]
+#![tactic(auto, unfolding(crate::specs::stage::Acts::acts, crate::specs::stage::Acts::is_refused, crate::specs::stage::Value::value, crate::specs::pictures::Frame::frame_pixel, crate::specs::pictures::Sound::frame_sample, crate::specs::stage::Answer::answer))]
 
 ghost use Rattle.std.specs.Prelude.{◌≡◌, ◌∷◌, ◌++◌, [], pos, neg_ℤ, replicate};
 ghost use Rattle.play_types.specs.Answer.{micros_of, status_list_of};
@@ -9,7 +9,7 @@ ghost use Rattle.play_types.specs.declared.command.Cmd.TheVariants.{Info, Load, 
 ghost use Rattle.play_types.specs.declared.event.Event.TheVariants.{Stop, Tick};
 ghost use Rattle.play_types.specs.declared.setting.Prop.TheVariants.{Fill, Opacity};
 ghost use Rattle.pixel_math.specs.Pixel.{pixel_of};
-ghost use Rattle.history_model.specs.Answer.{answer, Answered, Frames, Stopped};
+ghost use Rattle.history_model.specs.stage.Answer.{answer, Answered, Frames, Stopped};
 ghost use Rattle.history_model.specs.Worked.{ask, at, automatic, batch, blue, clip, frame_of, loads, number, numbers, one, plays, red, setting, three};
 
 /// A command is done, or refused, and so is a batch.
@@ -19,7 +19,7 @@ pub fn done_or_refused()
     ensures batch { answer (one 1) (loads 64) (batch (PlayTake (at 1 63) blue ∷ PlayTake (at 1 64) red ∷ [])) ≡ Answered Refused }
 {}
 
-/// A query answers the value after the ticks so far, a frame shows that of one tick more.
+/// A query is answered with the value after the ticks so far. A frame shows the value of one tick more.
 pub fn value_queries()
     ensures opacity { answer (one 1) (ask (Set (setting (at 1 0) Opacity (number (pos 0)) 4)) ∷ Tick ∷ []) (ask (Value (at 1 0) Opacity))
         ≡ Answered (Values (micros_of (pos 750000 ∷ []) 1)) }
@@ -37,7 +37,7 @@ pub fn statuses()
     ensures none { answer (one 1) [] (ask Info) ≡ Answered (Statuses (status_list_of (Empty ∷ []) 1)) }
 {}
 
-/// A tick answers every channel's pixels and samples, and a stop its position.
+/// A tick is answered with every channel's pixels and samples, and a stop with its position.
 pub fn ticks_and_stops()
     ensures tick { answer three (plays (at 1 0) red ∷ plays (at 2 0) (clip 3 1) ∷ []) Tick
         ≡ Frames

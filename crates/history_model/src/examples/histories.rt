@@ -1,24 +1,25 @@
 //! Acts of a history, and refused events.
-#![tactic(auto, unfolding(crate::specs::Acts::acts, crate::specs::Acts::is_refused))]
+#![tactic(auto, unfolding(crate::specs::stage::Acts::acts, crate::specs::stage::Acts::is_refused))]
 
 ghost use Rattle.std.specs.Prelude.{◌≡◌, ◌∷◌, ◌++◌, [], pos, true, false, is_some, length};
 ghost use Rattle.play_types.specs.declared.command.Cmd.TheVariants.{Info, LoadBg, Play, PlayTake, Set, Value};
 ghost use Rattle.play_types.specs.declared.event.Event.TheVariants.{Tick};
 ghost use Rattle.play_types.specs.declared.setting.Prop.TheVariants.{Opacity};
-ghost use Rattle.history_model.specs.Acts.{acts, is_refused, with_command};
-ghost use Rattle.history_model.specs.Worked.{act, ask, at, automatic, batch, blue, deferred, deferred_acts, loads, number, plays, red};
+ghost use Rattle.history_model.specs.stage.Act.{act_after};
+ghost use Rattle.history_model.specs.stage.Acts.{acts, is_refused, with_command};
+ghost use Rattle.history_model.specs.Worked.{ask, at, automatic, batch, blue, deferred, deferred_acts, loads, number, plays, red};
 
-/// A play of a take is a load and a play with the same number of ticks before them, and does not start by itself.
+/// A play of a take is a load into the background and a play, both with the ticks before it, and does not start by itself.
 /// Queries are no acts.
 pub fn acts_of_commands()
-    ensures play { acts (Tick ∷ plays (at 1 0) (automatic red) ∷ []) ≡ act 1 (Play (at 1 0)) ∷ act 1 (LoadBg (at 1 0) red) ∷ [] }
+    ensures play { acts (Tick ∷ plays (at 1 0) (automatic red) ∷ []) ≡ act_after 1 (Play (at 1 0)) ∷ act_after 1 (LoadBg (at 1 0) red) ∷ [] }
     ensures query { acts (ask (Value (at 1 0) Opacity) ∷ ask Info ∷ Tick ∷ []) ≡ [] }
 {}
 
-/// The acts of a batch have the same number of ticks before them, the last act first.
+/// The acts of a batch all have the ticks that were before the batch, the last act first.
 pub fn acts_of_a_batch()
     ensures { acts (Tick ∷ Tick ∷ batch (LoadBg (at 1 0) red ∷ Play (at 1 0) ∷ []) ∷ [])
-        ≡ act 2 (Play (at 1 0)) ∷ act 2 (LoadBg (at 1 0) red) ∷ [] }
+        ≡ act_after 2 (Play (at 1 0)) ∷ act_after 2 (LoadBg (at 1 0) red) ∷ [] }
 {}
 
 /// The 64th live layer of a channel is accepted, the 65th is refused. A layer that is live, or one of another channel,

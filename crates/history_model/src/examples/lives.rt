@@ -1,65 +1,65 @@
 //! What stands at a place: commands, automatic starts and ticks.
-#![tactic(auto, unfolding(crate::specs::Acts::acts))]
+#![tactic(auto, unfolding(crate::specs::stage::Acts::acts))]
 
 ghost use Rattle.std.specs.Prelude.{◌≡◌, ◌∷◌, ◌++◌, [], Some, None, true, false};
 ghost use Rattle.play_types.specs.declared.command.Cmd.TheVariants.{ClearChannel, Load, LoadBg, Pause, Play, Resume, StopLayer};
 ghost use Rattle.play_types.specs.declared.event.Event.TheVariants.{Tick};
 ghost use Rattle.play_types.specs.declared.transition.Kind.TheVariants.{Mix};
-ghost use Rattle.history_model.specs.Life.{after, delay, effect, empty_place, ready, start};
-ghost use Rattle.history_model.specs.Worked.{ask, at, automatic, blue, by, clip, looped, old_of, over_old, paused, place_after, plays, red, rightward, running, ticking, with_back};
+ghost use Rattle.history_model.specs.stage.Life.{after, delay, effect, empty_place, ready, start};
+ghost use Rattle.history_model.specs.Worked.{ask, at, automatic, blue, by, clip, looped, old_of, over_old, paused, place_after, plays, red, rightward, running, ticking, with_background};
 
 /// Starting a background: with a cut the old content is gone, with another transition it goes without its own.
 pub fn starting()
-    ensures cut { start (with_back (running red 7) blue) ≡ running blue 0 }
+    ensures cut { start (with_background (running red 7) blue) ≡ running blue 0 }
     ensures mix { let take = by blue (rightward Mix 4) in
-        start (with_back (paused red 7) take) ≡ over_old take 0 (old_of red 7 true) }
+        start (with_background (paused red 7) take) ≡ over_old take 0 (old_of red 7 true) }
     ensures again { let first = by blue (rightward Mix 4) in
         let second = by red (rightward Mix 2) in
-        start (with_back (over_old first 3 (old_of red 7 true)) second) ≡ over_old second 0 (old_of first 3 false) }
+        start (with_background (over_old first 3 (old_of red 7 true)) second) ≡ over_old second 0 (old_of first 3 false) }
     ensures none { start (running red 7) ≡ running red 7 }
 {}
 
 /// The ticks until an automatic start: none without AUTO, over a colour, a loop or a paused clip; at once over nothing;
 /// over a running clip the frames that are left, less the duration of the transition.
 pub fn delays()
-    ensures manual { delay (with_back (running (clip 1 3) 0) blue) ≡ None }
-    ensures colour { delay (with_back (running red 0) (automatic blue)) ≡ None }
-    ensures looped { delay (with_back (running (looped (clip 1 3)) 0) (automatic blue)) ≡ None }
-    ensures paused { delay (with_back (paused (clip 1 3) 0) (automatic blue)) ≡ None }
-    ensures nothing { delay (with_back empty_place (automatic blue)) ≡ Some 0 }
-    ensures cut { delay (with_back (running (clip 1 3) 1) (automatic blue)) ≡ Some 2 }
-    ensures mix { delay (with_back (running (clip 1 30) 1) (automatic (by blue (rightward Mix 9)))) ≡ Some 20 }
-    ensures late { delay (with_back (running (clip 1 30) 25) (automatic (by blue (rightward Mix 9)))) ≡ Some 0 }
+    ensures manual { delay (with_background (running (clip 1 3) 0) blue) ≡ None }
+    ensures colour { delay (with_background (running red 0) (automatic blue)) ≡ None }
+    ensures looped { delay (with_background (running (looped (clip 1 3)) 0) (automatic blue)) ≡ None }
+    ensures paused { delay (with_background (paused (clip 1 3) 0) (automatic blue)) ≡ None }
+    ensures nothing { delay (with_background empty_place (automatic blue)) ≡ Some 0 }
+    ensures cut { delay (with_background (running (clip 1 3) 1) (automatic blue)) ≡ Some 2 }
+    ensures mix { delay (with_background (running (clip 1 30) 1) (automatic (by blue (rightward Mix 9)))) ≡ Some 20 }
+    ensures late { delay (with_background (running (clip 1 30) 25) (automatic (by blue (rightward Mix 9)))) ≡ Some 0 }
 {}
 
-/// Ticks: a running foreground is shown for so many more, a paused one is not, and past an automatic start the new
+/// Ticks: a running foreground is shown for that many ticks more, a paused one is not, and past an automatic start the new
 /// foreground is shown for those that are left.
 pub fn ticks_pass()
     ensures runs { after (running red 7) 5 ≡ running red 12 }
     ensures stands { after (paused red 7) 5 ≡ paused red 7 }
-    ensures before { after (with_back (running (clip 1 3) 0) (automatic blue)) 3 ≡ with_back (running (clip 1 3) 3) (automatic blue) }
-    ensures past { after (with_back (running (clip 1 3) 0) (automatic blue)) 5 ≡ running (automatic blue) 2 }
+    ensures before { after (with_background (running (clip 1 3) 0) (automatic blue)) 3 ≡ with_background (running (clip 1 3) 3) (automatic blue) }
+    ensures past { after (with_background (running (clip 1 3) 0) (automatic blue)) 5 ≡ running (automatic blue) 2 }
     ensures mix { let take = automatic (by blue (rightward Mix 9)) in
-        after (with_back (running (clip 1 30) 1) take) 25 ≡ over_old take 5 (old_of (clip 1 30) 21 false) }
+        after (with_background (running (clip 1 30) 1) take) 25 ≡ over_old take 5 (old_of (clip 1 30) 21 false) }
 {}
 
 /// What the next tick shows: the background where its start is due now, and else the place as it stands.
 pub fn due_starts()
-    ensures due { ready (with_back (running (clip 1 3) 3) (automatic blue)) ≡ running (automatic blue) 0 }
-    ensures later { ready (with_back (running (clip 1 3) 2) (automatic blue)) ≡ with_back (running (clip 1 3) 2) (automatic blue) }
+    ensures due { ready (with_background (running (clip 1 3) 3) (automatic blue)) ≡ running (automatic blue) 0 }
+    ensures later { ready (with_background (running (clip 1 3) 2) (automatic blue)) ≡ with_background (running (clip 1 3) 2) (automatic blue) }
 {}
 
 /// Commands on a place.
 pub fn commands_on_a_place()
-    ensures load { effect (Load (at 1 1) (automatic (by blue (rightward Mix 9)))) (with_back (running red 4) red) ≡ paused blue 0 }
-    ensures background { effect (LoadBg (at 1 1) blue) (running red 4) ≡ with_back (running red 4) blue }
-    ensures start { effect (Play (at 1 1)) (with_back (running red 4) blue) ≡ running blue 0 }
+    ensures load { effect (Load (at 1 1) (automatic (by blue (rightward Mix 9)))) (with_background (running red 4) red) ≡ paused blue 0 }
+    ensures background { effect (LoadBg (at 1 1) blue) (running red 4) ≡ with_background (running red 4) blue }
+    ensures start { effect (Play (at 1 1)) (with_background (running red 4) blue) ≡ running blue 0 }
     ensures unpause { effect (Play (at 1 1)) (paused red 4) ≡ running red 4 }
     ensures neither { effect (Play (at 1 1)) empty_place ≡ empty_place }
-    ensures pause { effect (Pause (at 1 1)) (with_back (running red 4) blue) ≡ with_back (paused red 4) blue }
+    ensures pause { effect (Pause (at 1 1)) (with_background (running red 4) blue) ≡ with_background (paused red 4) blue }
     ensures resume { effect (Resume (at 1 1)) (paused red 4) ≡ running red 4 }
-    ensures stop { effect (StopLayer (at 1 1)) (with_back (running red 4) blue) ≡ with_back empty_place blue }
-    ensures clear { effect (ClearChannel 1) (with_back (running red 4) blue) ≡ empty_place }
+    ensures stop { effect (StopLayer (at 1 1)) (with_background (running red 4) blue) ≡ with_background empty_place blue }
+    ensures clear { effect (ClearChannel 1) (with_background (running red 4) blue) ≡ empty_place }
 {}
 
 /// A place after a history: ticks count from the start of each content, and a pause keeps them.

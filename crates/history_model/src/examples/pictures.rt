@@ -1,12 +1,12 @@
 //! Pixels of a channel: pictures brought to the raster, transitions, placing and composition.
-#![tactic(auto, unfolding(crate::specs::Acts::acts, crate::specs::Frame::frame_pixel))]
+#![tactic(auto, unfolding(crate::specs::stage::Acts::acts, crate::specs::pictures::Frame::frame_pixel))]
 
 ghost use Rattle.std.specs.Prelude.{◌≡◌, ◌∷◌, ◌++◌, [], pos, neg_ℤ, codes};
 ghost use Rattle.play_types.specs.declared.command.Cmd.TheVariants.{ClearLayer, LoadBg};
 ghost use Rattle.play_types.specs.declared.event.Event.TheVariants.{Tick};
 ghost use Rattle.play_types.specs.declared.setting.Prop.TheVariants.{Clip, Fill, Keyer, Opacity};
 ghost use Rattle.play_types.specs.declared.transition.Kind.TheVariants.{Mix, Push, Slide, Wipe};
-ghost use Rattle.history_model.specs.Placing.{floor_div};
+ghost use Rattle.history_model.specs.pictures.Placing.{floor_div};
 ghost use Rattle.history_model.specs.Worked.{ask, at, automatic, blue, by, clip, leftward, looped, number, numbers, one, plays, red, rightward, row_text, sets, ticking};
 
 /// Before the first act a frame is transparent, and after the last content is gone it is so again.

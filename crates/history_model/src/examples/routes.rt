@@ -1,5 +1,5 @@
 //! Routes, swaps of places, and what starts by itself.
-#![tactic(auto, unfolding(crate::specs::Acts::acts, crate::specs::Frame::frame_pixel))]
+#![tactic(auto, unfolding(crate::specs::stage::Acts::acts, crate::specs::pictures::Frame::frame_pixel))]
 
 ghost use Rattle.std.specs.Prelude.{◌≡◌, ◌∷◌, ◌++◌, [], pos, true, false, codes, None};
 ghost use Rattle.play_types.specs.declared.command.Cmd.TheVariants.{ClearLayer, Load, LoadBg, Pause, Play, Resume, SwapChannels, SwapLayers};
@@ -8,7 +8,7 @@ ghost use Rattle.play_types.specs.declared.event.Event.TheVariants.{Tick};
 ghost use Rattle.play_types.specs.declared.setting.Prop.TheVariants.{Opacity};
 ghost use Rattle.play_types.specs.declared.take.Spec.TheVariants.{Clip, Colour, RouteChannel, RouteLayer};
 ghost use Rattle.play_types.specs.declared.transition.Kind.TheVariants.{Mix};
-ghost use Rattle.history_model.specs.Source.{last_fronts, source};
+ghost use Rattle.history_model.specs.pictures.Source.{last_foregrounds, source};
 ghost use Rattle.history_model.specs.Worked.{ask, at, automatic, blue, by, clip, number, one, plays, red, rightward, route, row_text, sets, layer_route, three, ticking};
 
 /// What producers show: a clip and a colour themselves, routes nothing before the first tick and later what was there.
@@ -16,9 +16,9 @@ pub fn sources()
     ensures clip { source None (Clip 4) 7 ≡ Frame 4 7 }
     ensures colour { source None (Colour 0xFFFF0000) 0 ≡ OneColour 0xFFFF0000 }
     ensures no_channel { source None (RouteChannel 2) 0 ≡ Nothing }
-    ensures channel { source (last_fronts (Tick ∷ [])) (RouteChannel 2) 0 ≡ Channel 2 }
+    ensures channel { source (last_foregrounds (Tick ∷ [])) (RouteChannel 2) 0 ≡ Channel 2 }
     ensures no_layer { source None (RouteLayer (at 1 0)) 0 ≡ Nothing }
-    ensures layer { source (last_fronts (Tick ∷ Tick ∷ plays (at 1 0) (clip 1 3) ∷ [])) (RouteLayer (at 1 0)) 0 ≡ Frame 1 1 }
+    ensures layer { source (last_foregrounds (Tick ∷ Tick ∷ plays (at 1 0) (clip 1 3) ∷ [])) (RouteLayer (at 1 0)) 0 ≡ Frame 1 1 }
 {}
 
 /// A channel that shows itself on an upper layer is one tick behind, and holds a picture that is gone.

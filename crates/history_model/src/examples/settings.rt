@@ -1,14 +1,15 @@
 //! Mixer values: tweens, deferred settings, resets, and values of places without a content.
-#![tactic(auto, unfolding(crate::specs::Acts::acts, crate::specs::Value::value, crate::specs::Frame::frame_pixel))]
+#![tactic(auto, unfolding(crate::specs::stage::Acts::acts, crate::specs::stage::Value::value, crate::specs::pictures::Frame::frame_pixel))]
 
 ghost use Rattle.std.specs.Prelude.{◌≡◌, ◌∷◌, ◌++◌, [], pos, neg_ℤ, true, false, codes};
 ghost use Rattle.play_types.specs.declared.command.Cmd.TheVariants.{CommitMixer, PlayTake, ResetChannel, ResetLayer, Set, SwapLayers};
 ghost use Rattle.play_types.specs.declared.event.Event.TheVariants.{Tick};
 ghost use Rattle.play_types.specs.declared.setting.Prop.TheVariants.{Fill, Opacity, Volume};
-ghost use Rattle.history_model.specs.Acts.{acts};
-ghost use Rattle.history_model.specs.Resolved.{resolved_acts, waiting_settings};
-ghost use Rattle.history_model.specs.Value.{value};
-ghost use Rattle.history_model.specs.Worked.{act, ask, at, batch, blue, deferred, defers, number, numbers, one, plays, red, row_text, sets, setting, ticking};
+ghost use Rattle.history_model.specs.stage.Act.{act_after};
+ghost use Rattle.history_model.specs.stage.Acts.{acts};
+ghost use Rattle.history_model.specs.stage.Resolved.{resolved_acts, waiting_settings};
+ghost use Rattle.history_model.specs.stage.Value.{value};
+ghost use Rattle.history_model.specs.Worked.{ask, at, batch, blue, deferred, defers, number, numbers, one, plays, red, row_text, sets, setting, ticking};
 
 /// A place without a content has its defaults, and the values that were set.
 pub fn place_without_a_content()
@@ -51,8 +52,8 @@ pub fn deferred_group()
         acts (defers (at 1 1) Opacity (number (pos 0)) ∷ defers (at 1 2) Opacity (number (pos 500000)) ∷ Tick
         ∷ ask (CommitMixer 2) ∷ Tick ∷ ask (CommitMixer 1) ∷ []) in
         (resolved_acts history
-        ≡ act 2 (Set (setting (at 1 2) Opacity (number (pos 500000)) 0))
-        ∷ act 2 (Set (setting (at 1 1) Opacity (number (pos 0)) 0)) ∷ [])
+        ≡ act_after 2 (Set (setting (at 1 2) Opacity (number (pos 500000)) 0))
+        ∷ act_after 2 (Set (setting (at 1 1) Opacity (number (pos 0)) 0)) ∷ [])
         × (waiting_settings history 1 ≡ []) }
 {}
 

@@ -1,5 +1,5 @@
 //! Samples of a channel: left and right of each pair.
-#![tactic(auto, unfolding(crate::specs::Frame::frame_pixel, crate::specs::Sound::frame_sample))]
+#![tactic(auto, unfolding(crate::specs::pictures::Frame::frame_pixel, crate::specs::pictures::Sound::frame_sample))]
 
 ghost use Rattle.std.specs.Prelude.{◌≡◌, ◌∷◌, ◌++◌, [], pos, neg_ℤ, replicate};
 ghost use Rattle.play_types.specs.declared.event.Event.TheVariants.{Tick};
@@ -25,7 +25,7 @@ pub fn half_volume_and_clamping()
 pub fn volume()
     ensures third { samples_of three 1 (plays (at 1 0) (clip 3 1) ∷ sets (at 1 0) Volume (number (pos 333333)) ∷ [])
         ≡ pos 333 ∷ neg_ℤ (pos 333) ∷ pos 10922 ∷ neg_ℤ (pos 10922) ∷ pos 0 ∷ pos 0 ∷ [] }
-    ensures unseen { samples_of three 1
+    ensures keyer_and_opacity { samples_of three 1
         (plays (at 1 0) (clip 3 1) ∷ sets (at 1 0) Keyer (number (pos 1000000)) ∷ sets (at 1 0) Opacity (number (pos 0)) ∷ [])
         ≡ pos 1000 ∷ neg_ℤ (pos 1000) ∷ pos 32767 ∷ neg_ℤ (pos 32768) ∷ pos 0 ∷ pos 0 ∷ [] }
 {}

@@ -3,17 +3,17 @@ ghost use Rattle.std.specs.Prelude.{◌≡◌, ℕ, ◌∷◌, ◌++◌, [], Lis
 ghost use Rattle.play_types.specs.History.{ticks};
 ghost use Rattle.play_types.specs.declared.event.Event.{Event};
 ghost use Rattle.play_types.specs.declared.event.Event.TheVariants.{Tick};
-ghost use Rattle.history_model.specs.Acts.{acts, with_event};
-ghost use Rattle.history_model.specs.Frame.{frame_pixel, last_pixel, scene_pixel};
-ghost use Rattle.history_model.specs.Media.{Setup, size};
-ghost use Rattle.history_model.specs.Scene.{scene};
-ghost use Rattle.history_model.specs.Sound.{frame_sample, last_sample, scene_sample};
+ghost use Rattle.history_model.specs.stage.Acts.{acts, with_event};
+ghost use Rattle.history_model.specs.pictures.Frame.{frame_pixel, last_pixel, pictures_after, scene_pixel};
+ghost use Rattle.history_model.specs.pictures.Media.{Setup, size};
+ghost use Rattle.history_model.specs.pictures.Scene.{scene};
+ghost use Rattle.history_model.specs.pictures.Sound.{frame_sample, last_sample, scene_sample};
 
 /// A frame is made of the drawn layers of its tick and of the frames of the tick before it.
 pub fn frame_of_a_scene()
     ensures pixel { (setup : Setup) (history : List Event) (channel x y : ℕ) →
         frame_pixel setup history channel x y
-        ≡ scene_pixel setup (last_pixel setup history) (size setup channel) (scene history channel) x y }
+        ≡ scene_pixel (pictures_after setup history) (size setup channel) (scene history channel) x y }
     ensures sample { (setup : Setup) (history : List Event) (channel pair side : ℕ) →
         frame_sample setup history channel pair side
         ≡ scene_sample setup (last_sample setup history) (scene history channel) pair side }

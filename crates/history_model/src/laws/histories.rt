@@ -8,14 +8,14 @@ ghost use Rattle.play_types.specs.declared.event.Event.TheVariants.{Do, Tick};
 ghost use Rattle.play_types.specs.declared.event.Tag.{Tag};
 ghost use Rattle.play_types.specs.declared.setting.Prop.{Prop};
 ghost use Rattle.pixel_math.specs.Pixel.{transparent};
-ghost use Rattle.history_model.specs.Acts.{acts, is_refused};
-ghost use Rattle.history_model.specs.Answer.{answer, statuses};
-ghost use Rattle.history_model.specs.Frame.{frame_pixel};
-ghost use Rattle.history_model.specs.Live.{live_layers};
-ghost use Rattle.history_model.specs.Media.{Setup};
-ghost use Rattle.history_model.specs.Sound.{frame_sample};
-ghost use Rattle.history_model.specs.Trail.{trail};
-ghost use Rattle.history_model.specs.Value.{value};
+ghost use Rattle.history_model.specs.stage.Acts.{acts, is_refused};
+ghost use Rattle.history_model.specs.stage.Answer.{answer, statuses};
+ghost use Rattle.history_model.specs.pictures.Frame.{frame_pixel};
+ghost use Rattle.history_model.specs.stage.Live.{live_layers};
+ghost use Rattle.history_model.specs.pictures.Media.{Setup};
+ghost use Rattle.history_model.specs.pictures.Sound.{frame_sample};
+ghost use Rattle.history_model.specs.stage.Trail.{trail};
+ghost use Rattle.history_model.specs.stage.Value.{value};
 
 /// A tick gives no acts: it changes neither which places are live nor the trail of any place.
 pub fn ticks_keep_places()

@@ -1,9 +1,9 @@
 //! Places over time.
 ghost use Rattle.std.specs.Prelude.{◌≡◌, ℕ, ◌+◌, ◌<◌, ◌≤◌, ◌∷◌, List, Some};
-ghost use Rattle.history_model.specs.Act.{Act};
-ghost use Rattle.history_model.specs.Life.{Life, after, delay, life, ready, run_for, start};
-ghost use Rattle.history_model.specs.Live.{is_live};
-ghost use Rattle.history_model.specs.Steps.{steps};
+ghost use Rattle.history_model.specs.stage.Act.{Act};
+ghost use Rattle.history_model.specs.stage.Life.{Life, after, delay, life, ready, run_for, start};
+ghost use Rattle.history_model.specs.stage.Live.{is_live};
+ghost use Rattle.history_model.specs.stage.Steps.{steps};
 
 /// Ticks one after another are all of them at once, and some ticks and then some more are their sum.
 pub fn stepping_is_jumping()
@@ -13,8 +13,8 @@ pub fn stepping_is_jumping()
         life (act ∷ before) (t + k) ≡ after (life (act ∷ before) t) k }
 {}
 
-/// An automatic start comes at the same tick whether one steps or jumps there: not before its delay has passed, and then
-/// at once.
+/// An automatic start comes at one tick, whether one steps or jumps there: not before its delay has passed, and then at
+/// once.
 pub fn automatic_start_at_its_tick()
     ensures not_before { (s : Life) (a j : ℕ) → delay s ≡ Some a → j < a → ready (steps j s) ≡ steps j s }
     ensures due { (s : Life) (a : ℕ) → delay s ≡ Some a → ready (steps a s) ≡ start (run_for a s) }

@@ -1,16 +1,17 @@
 //! Placing by the default values.
 ghost use Rattle.std.specs.Prelude.{◌≡◌, ℕ, ◌<◌, pos, Some};
 ghost use Rattle.play_types.specs.declared.geometry.Geometry.{Geometry};
+ghost use Rattle.play_types.specs.declared.setting.TheConstants.{MICROS_PER_UNIT};
 ghost use Rattle.play_types.specs.declared.setting.Prop.TheVariants.{Clip, Fill};
 ghost use Rattle.pixel_math.specs.Pixel.{PixelView};
-ghost use Rattle.history_model.specs.Placing.{placed_pixel, visible_column};
-ghost use Rattle.history_model.specs.Value.{default_of};
+ghost use Rattle.history_model.specs.pictures.Placing.{placed_pixel, visible_column};
+ghost use Rattle.history_model.specs.stage.Value.{default_of};
 
-/// By the default fill and clip every raster column and row shows itself, at every size, and at opacity 1 a placed pixel
+/// By the default fill and clip every raster column and row shows itself, at every size, and at full opacity a placed pixel
 /// is the raster's.
 pub fn default_placing()
     ensures columns { (width x : ℕ) → x < width → visible_column width (default_of Fill) (default_of Clip) 0 x ≡ Some x }
     ensures rows { (height y : ℕ) → y < height → visible_column height (default_of Fill) (default_of Clip) 1 y ≡ Some y }
     ensures pixel { (frame : Geometry) (raster : ℕ → ℕ → PixelView) (x y : ℕ) → x < frame.width → y < frame.height →
-        placed_pixel frame (default_of Fill) (default_of Clip) (pos 1000000) raster x y ≡ raster x y }
+        placed_pixel frame (record { fill = default_of Fill; clip = default_of Clip; opacity = MICROS_PER_UNIT }) raster x y ≡ raster x y }
 {}

@@ -3,7 +3,7 @@ use Rattle.play_types.specs.ClipFile.{IsClipFile}
 use Rattle.play_types.specs.Geometry.{frame_bytes}
 use Rattle.clip_format.specs.Decoding.{header_frames, header_size, announced, clip_of}
 use Rattle.clip_format.proofs.Files.{IsHeader-no_fault, IsClipFile-whole, clip_of-cut, clip_of-fault, clip_of-short, clip_of-long, clip_of-whole, announced-small}
-use Rattle.clip_format.specs.FileClip.{file_clip}
+use Rattle.clip_format.specs.inner.FileClip.{file_clip}
 use Rattle.clip_format.specs.declared.header.Header.{Header}
 use Rattle.clip_format.proofs.decoding.read_header.Goals as goal
 

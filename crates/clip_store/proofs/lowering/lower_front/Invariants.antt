@@ -1,5 +1,5 @@
 use Rattle.std.proofs.Common.{◌≡◌, ℕ, ◌<◌, ◌≤◌, slice_index}
-use Rattle.clip_store.specs.Pictures.{lowered_at}
+use Rattle.clip_store.specs.inner.Pictures.{lowered_at}
 use Rattle.clip_store.proofs.lowering.lower_front.Given as goal
 
 -- the bytes before this place are lowered, and the others are as they were

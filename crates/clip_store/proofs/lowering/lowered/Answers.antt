@@ -31,4 +31,5 @@ returns g c =
     let before : ClipView = record { geometry = c.geometry-size.result; frames = c.frames-frames.result; bytes = c.new.result } in
     let after : ClipView = record { geometry = clip.geometry; frames = clip.frames; bytes = new } in
     let made : before ≡ after = λ i. record { geometry = geometry i; frames = frames i; bytes = bytes i } in
-    c.in-Some.ensures.value ∙ made ∙ lowered_clip-frames clip new lowers
+    let kept : c.unwrap.result ≡ before = rw c.unwrap.ensures at c.new-2.ensures.value in
+    kept ∙ made ∙ lowered_clip-frames clip new lowers

@@ -1,5 +1,5 @@
 use Rattle.std.proofs.Common.{◌≡◌, length, ◌∙◌, ap, sym, subst, IsPermutation}
-use Rattle.clip_store.specs.Kept.{file_view, file_views}
+use Rattle.clip_store.specs.inner.Kept.{file_view, file_views}
 use Rattle.clip_store.specs.Listing.{sorted}
 use Rattle.clip_store.proofs.ClipFiles.{written_back}
 use Rattle.clip_store.proofs.Sorting.{sorted-views}

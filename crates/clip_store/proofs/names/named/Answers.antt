@@ -4,7 +4,7 @@ use Rattle.std.specs.Global.{Vec}
 use Rattle.std.specs.List.{cons_option}
 use Rattle.std.proofs.lemmas.List.{map-append}
 use Rattle.clip_store.specs.declared.names.ClipFile.{ClipFile}
-use Rattle.clip_store.specs.Kept.{file_view, file_views}
+use Rattle.clip_store.specs.inner.Kept.{file_view, file_views}
 use Rattle.clip_store.specs.Listing.{Found, clip_file, clip_files}
 use Rattle.clip_store.proofs.ClipFiles.{clip_files-more}
 use Rattle.clip_store.proofs.names.named.Goals as goal

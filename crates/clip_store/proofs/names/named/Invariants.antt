@@ -1,5 +1,5 @@
 use Rattle.std.proofs.Common.{◌≡◌, map, take, string_bytes}
-use Rattle.clip_store.specs.Kept.{file_views}
+use Rattle.clip_store.specs.inner.Kept.{file_views}
 use Rattle.clip_store.specs.Listing.{clip_files}
 use Rattle.clip_store.proofs.names.named.Given as goal
 

@@ -1,6 +1,6 @@
 use Rattle.std.proofs.Common.{◌-◌, drop, length-drop, sym, ◌∙◌, arith}
 use Rattle.std.proofs.lemmas.List.{length-map}
-use Rattle.clip_store.specs.Kept.{file_view, file_views}
+use Rattle.clip_store.specs.inner.Kept.{file_view, file_views}
 use Rattle.clip_store.proofs.Twice.{first_twice-short}
 use Rattle.clip_store.proofs.names.twice.Goals as goal
 

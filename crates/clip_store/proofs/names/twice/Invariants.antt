@@ -1,5 +1,5 @@
 use Rattle.std.proofs.Common.{◌≡◌, ◌-◌, drop}
-use Rattle.clip_store.specs.Kept.{file_views}
+use Rattle.clip_store.specs.inner.Kept.{file_views}
 use Rattle.clip_store.specs.Listing.{first_twice}
 use Rattle.clip_store.proofs.names.twice.Given as goal
 

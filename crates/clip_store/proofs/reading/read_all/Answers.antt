@@ -5,16 +5,16 @@ use Rattle.std.proofs.lemmas.List.{length-map}
 use Rattle.play_outside.specs.FolderState.{FolderState}
 use Rattle.play_outside.specs.Folder.{IsHeld, bytes_at}
 use Rattle.play_types.specs.ClipFile.{ClipView}
-use Rattle.clip_format.specs.declared.fault.ClipFault.{ClipFault}
+use Rattle.play_types.specs.declared.clip_fault.ClipFault.{ClipFault}
 use Rattle.clip_format.specs.Decoding.{clip_of}
 use Rattle.clip_format.specs.Table.{Entry, IsAbove}
-use Rattle.clip_store.specs.Kept.{file_view, file_views}
+use Rattle.clip_store.specs.inner.Kept.{file_view, file_views}
 use Rattle.clip_store.specs.Scan.{kept_clip}
 use Rattle.clip_store.proofs.FilesRead.{ReadSo, ReadSo-more, Tells-large, Tells-all, name_bytes, names-more, IsAbove-names, view_at}
 use Rattle.clip_store.proofs.reading.read_all.Goals as goal
 
-pub returns-then-total-gt-MOST_BYTES : goal.returns-then-total-gt-MOST_BYTES
-returns-then-total-gt-MOST_BYTES g c =
+pub returns-then-total-gt-MAX_MEDIA_BYTES : goal.returns-then-total-gt-MAX_MEDIA_BYTES
+returns-then-total-gt-MAX_MEDIA_BYTES g c =
     let item = c.file-item.result in
     let bytes = c.in_ok-bytes.bytes.items in
     let inv = c.loop-file.invariant in
@@ -24,8 +24,8 @@ returns-then-total-gt-MOST_BYTES g c =
     let len : c.len.result ≡ length bytes = search rules in
     let counted : c.max.result ≡ max (length bytes) 1 = c.max.ensures ∙ ap (λ n. max n 1) len in (
       rw counted (Tells-large c.args.folder.now _ (file_views c.args.files.now) c.loop-file.file-index c.loop-file.total c.loop-file.table (file_view item) bytes seen.0 seen.1 held
-          (rw counted at c.if-total-gt-MOST_BYTES.true) inv.told),
-      c.if-total-gt-MOST_BYTES.true,
+          (rw counted at c.if-total-gt-MAX_MEDIA_BYTES.true) inv.told),
+      c.if-total-gt-MAX_MEDIA_BYTES.true,
       c.in_ok-bytes.ensures.1 ∙ inv.same,
     )
 
@@ -61,10 +61,10 @@ loop-file-preserved g c =
     record {
       same = c.in_ok-bytes.ensures.1 ∙ inv.same;
       count = omega (arith, ap length added, length-append table (record { name = chars (string_bytes item.name); clip = clip } ∷ []), counted, inv.count);
-      few = c.if-total-gt-MOST_BYTES.false;
+      few = c.if-total-gt-MAX_MEDIA_BYTES.false;
       names = ap (map name_bytes) added ∙ names-more order at table (file_view item) clip seen.0 seen.1 text inv.names;
       told = subst (λ (t : List Entry). ReadSo c.args.folder.now (g.M.MediaDir.state c.args.media.now).files order (at + 1) t (c.loop-file.total + c.max.result)) (sym added)
-          (rw counted (ReadSo-more c.args.folder.now _ order at c.loop-file.total table (file_view item) bytes seen.0 seen.1 held (rw counted at c.if-total-gt-MOST_BYTES.false) inv.told));
+          (rw counted (ReadSo-more c.args.folder.now _ order at c.loop-file.total table (file_view item) bytes seen.0 seen.1 held (rw counted at c.if-total-gt-MAX_MEDIA_BYTES.false) inv.told));
     }
 
 pub returns : goal.returns

@@ -1,5 +1,5 @@
 use Rattle.std.proofs.Common.{◌≡◌, ◌≤◌, length, map, take}
-use Rattle.clip_store.specs.Kept.{file_views}
+use Rattle.clip_store.specs.inner.Kept.{file_views}
 use Rattle.clip_store.specs.Listing.{Found}
 use Rattle.clip_store.specs.Scan.{most_bytes}
 use Rattle.clip_store.proofs.FilesRead.{ReadSo, name_bytes}

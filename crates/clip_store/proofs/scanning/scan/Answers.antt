@@ -4,9 +4,9 @@ use Rattle.std.specs.Global.{Global}
 use Rattle.play_outside.specs.FolderState.{FolderState}
 use Rattle.clip_store.specs.declared.names.ClipFile.{ClipFile}
 use Rattle.clip_store.specs.declared.fault.ScanFault.TheVariants.{TwoNames}
-use Rattle.clip_store.specs.Kept.{file_views}
+use Rattle.clip_store.specs.inner.Kept.{file_views}
 use Rattle.clip_store.specs.Listing.{clip_files, first_twice, sorted}
-use Rattle.clip_store.specs.Orders.{IsStrict}
+use Rattle.clip_store.specs.inner.Orders.{IsStrict}
 use Rattle.clip_store.specs.Scan.{table_of, scanned, Tells, Answers}
 use Rattle.clip_store.proofs.Scans.{AreOrdered-listed, Tells-twice, Answers-scanned, IsStrict-listed}
 use Rattle.clip_store.proofs.scanning.scan.Goals as goal

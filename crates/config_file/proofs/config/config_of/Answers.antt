@@ -3,7 +3,7 @@ use Rattle.toml.specs.View.{table_view}
 use Rattle.config_file.specs.Configuration.{channel_faults, faults_of, values_of}
 use Rattle.config_file.specs.Key.{top_keys}
 use Rattle.config_file.specs.Section.{faults_in}
-use Rattle.config_file.specs.Told.{IsFirst}
+use Rattle.config_file.specs.inner.Told.{IsFirst}
 use Rattle.config_file.specs.declared.section.Section.TheVariants.{Top}
 use Rattle.config_file.proofs.Told.{first_before, first_after, none_in_both, told_fault}
 use Rattle.config_file.proofs.config.config_of.Goals as goal

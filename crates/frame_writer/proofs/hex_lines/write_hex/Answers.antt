@@ -13,12 +13,12 @@ returns-in-Failed-write_rows g c =
 
 pub returns-then-size-eq0 : goal.returns-then-size-eq0
 returns-then-size-eq0 g c =
-    rw (frame_lines-silent c.args.channel c.args.tick c.args.size.width c.args.size.height c.args.size.pairs c.args.frame.now c.args.sound.now c.if-size-eq0.true)
+    rw (frame_lines-silent c.args.channel c.args.tick c.args.size c.args.frame.now c.args.sound.now c.if-size-eq0.true)
     (taken_more _ _ _ _ _ c.in-All.ensures (rw c.from.ensures at c.in-All-write_rows.ensures))
 
 pub returns : goal.returns
 returns g c =
     let rows = taken_more _ _ _ _ _ c.in-All.ensures (rw c.from.ensures at c.in-All-write_rows.ensures) in
     Sends-last _ _ _ _ _ _ _
-    (frame_lines-sounding c.args.channel c.args.tick c.args.size.width c.args.size.height c.args.size.pairs c.args.frame.now c.args.sound.now c.if-size-eq0.false)
+    (frame_lines-sounding c.args.channel c.args.tick c.args.size c.args.frame.now c.args.sound.now c.if-size-eq0.false)
     rows c.write_line.ensures

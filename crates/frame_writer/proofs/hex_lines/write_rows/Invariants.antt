@@ -1,6 +1,6 @@
 use Rattle.std.proofs.Common.{◌≡◌}
 use Rattle.play_outside.specs.SinkState.{after_taking}
-use Rattle.history_model.specs.FrameText.{row_lines}
+use Rattle.history_model.specs.text.Frames.{row_lines}
 use Rattle.frame_writer.proofs.hex_lines.write_rows.Given as goal
 
 -- the rows before this one were written

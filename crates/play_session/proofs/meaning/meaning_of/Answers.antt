@@ -1,5 +1,5 @@
 use Rattle.std.proofs.lemmas.Str.{chars-nil}
-use Rattle.history_model.specs.SessionLine.{line_meaning}
+use Rattle.history_model.specs.sessions.Line.{line_meaning}
 use Rattle.play_session.proofs.meaning.meaning_of.Goals as goal
 
 pub returns-in-TooLong : goal.returns-in-TooLong

@@ -1,31 +1,30 @@
-use Rattle.std.proofs.Common.{◌≡◌, sym, take, get_or, arith}
+use Rattle.std.proofs.Common.{◌≡◌, sym, take, length, arith}
 use Rattle.std.proofs.lemmas.List.{take_all}
 use Rattle.std.proofs.lemmas.List.Folds.{flat_map-map}
-use Rattle.std.proofs.lemmas.Option.{get_or_from_slice_get}
+use Rattle.std.proofs.lemmas.Iterator.{YieldsList-from_slice}
+use Rattle.std.proofs.lemmas.Iterator.Consumers.{YieldsList-turn, YieldsList-end}
 use Rattle.play_outside.proofs.Taking.{after_taking-nil}
-use Rattle.return_codes.proofs.Pieces.{Fails-at, taken_at}
-use Rattle.history_model.specs.ReplyText.{media_line, ended}
+use Rattle.play_outside.proofs.Parts.{Fails-turn, taken_turn}
+use Rattle.history_model.specs.text.Replies.{media_line}
+use Rattle.return_codes.specs.inner.Style.{styled}
 use Rattle.return_codes.proofs.media.send_names.Goals as goal
 
-pub loop-at-init : goal.loop-at-init
-loop-at-init g c = sym (after_taking-nil (g.K.Sink.state c.args.to.now))
+pub loop-clip-init : goal.loop-clip-init
+loop-clip-init g c = sym (after_taking-nil (g.K.Sink.state c.args.to.now))
 
 pub returns-in-Failed : goal.returns-in-Failed
 returns-in-Failed g c =
-    let clip : get_or c.args.media.now c.loop-at.at c.in-Some.clip.now ≡ c.in-Some.clip.now =
-    get_or_from_slice_get c.args.media.now c.loop-at.at c.in-Some.clip.now c.in-Some.clip.now (sym c.in-Some.ensures) in
-    rw (flat_map-map ended media_line c.args.media.now)
-    (Fails-at (λ clip. ended (media_line clip)) c.args.media.now c.loop-at.at c.in-Some.clip.now _ _ _ (omega arith) c.loop-at.invariant
-    (rw clip c.in-Failed.ensures))
+    let turn = YieldsList-turn (YieldsList-from_slice c.args.media.now cc) c.loop-clip.yielded _ c.loop-clip.yielded_by _ _ c.in-Some.clip c.in-Some.is c.next.ensures.steps in
+    rw (flat_map-map (styled c.args.style.now) media_line c.args.media.now)
+    (Fails-turn (λ clip. styled c.args.style.now (media_line clip)) _ _ _ _ _ _ turn c.loop-clip.invariant c.in-Failed.ensures)
 
-pub loop-at-preserved : goal.loop-at-preserved
-loop-at-preserved g c =
-    let clip : get_or c.args.media.now c.loop-at.at c.in-Some.clip.now ≡ c.in-Some.clip.now =
-    get_or_from_slice_get c.args.media.now c.loop-at.at c.in-Some.clip.now c.in-Some.clip.now (sym c.in-Some.ensures) in
-    taken_at (λ clip. ended (media_line clip)) c.args.media.now c.loop-at.at c.in-Some.clip.now _ _ _ (omega arith) c.loop-at.invariant
-    (rw clip c.in-All.ensures)
+pub loop-clip-preserved : goal.loop-clip-preserved
+loop-clip-preserved g c =
+    let turn = YieldsList-turn (YieldsList-from_slice c.args.media.now cc) c.loop-clip.yielded _ c.loop-clip.yielded_by _ _ c.in-Some.clip c.in-Some.is c.next.ensures.steps in
+    taken_turn (λ clip. styled c.args.style.now (media_line clip)) _ _ _ _ _ _ _ turn c.loop-clip.invariant c.in-All.ensures
 
 pub returns : goal.returns
 returns g c =
-    let end : take c.loop-at.at c.args.media.now ≡ c.args.media.now = take_all c.loop-at.at c.args.media.now (omega arith) in
-    rw (flat_map-map ended media_line c.args.media.now) (rw end at c.loop-at.invariant)
+    let end = YieldsList-end (YieldsList-from_slice c.args.media.now cc) c.loop-clip.yielded _ c.loop-clip.yielded_by _ _ c.in-None.is c.next.ensures.steps in
+    let all : take (length c.loop-clip.yielded) c.args.media.now ≡ c.args.media.now = take_all _ c.args.media.now (omega (arith, end.1)) in
+    rw (flat_map-map (styled c.args.style.now) media_line c.args.media.now) (rw all at c.loop-clip.invariant)

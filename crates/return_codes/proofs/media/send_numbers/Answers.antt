@@ -17,4 +17,4 @@ returns g c =
       c.format-4.ensures.text,
       c.pairs.ensures.value,
       numbers_text-parts,
-    ) at c.send_line.ensures
+    ) at c.end.ensures

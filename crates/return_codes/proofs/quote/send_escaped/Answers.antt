@@ -1,13 +1,9 @@
-use Rattle.std.proofs.Common.{◌≡◌, ◌+◌, sym, take, length, arith}
-use Rattle.std.specs.List.{flat_map}
-use Rattle.play_outside.specs.SinkState.{after_taking}
+use Rattle.std.proofs.Common.{◌≡◌, ◌+◌, sym, length, arith}
 use Rattle.play_outside.proofs.Taking.{after_taking-nil}
 use Rattle.play_outside.proofs.Sending.{taken_more, Fails-within, Sends-last}
-use Rattle.history_model.specs.ReplyText.{escaped}
-use Rattle.return_codes.proofs.Pieces.{Fails-at, taken_at}
-use Rattle.return_codes.proofs.Escapes.{plain_none, plain_more, plain-parts, plain-whole}
+use Rattle.return_codes.proofs.Escapes.{plain_none, plain_more, escape-more, escape-parts, plain-whole}
 use Rattle.return_codes.proofs.quote.send_escaped.Goals as goal
-use Rattle.return_codes.proofs.quote.send_escaped.Goals.{in-Some+in-All+in-All-send, in_default}
+use Rattle.return_codes.proofs.quote.send_escaped.Goals.{in-Some+in-All, in_default}
 
 pub loop-at-init : goal.loop-at-init
 loop-at-init g c = record {
@@ -18,26 +14,17 @@ loop-at-init g c = record {
 
 pub returns-in-Failed : goal.returns-in-Failed
 returns-in-Failed g c =
-    Fails-within _ _ _ _ _ _ _ (plain-parts c.loop-at.sent c.loop-at.at c.args.name.now c.loop-at.invariant.plain)
-    c.loop-at.invariant.written c.in-Failed.ensures
-
-pub returns-in-Failed-send : goal.returns-in-Failed-send
-returns-in-Failed-send g c =
-    let run : g.K.Sink.state c.send.new.to ≡ after_taking (g.K.Sink.state c.args.to.now) (flat_map escaped (take c.loop-at.at c.args.name.now)) =
-    rw c.loop-at.invariant.plain (taken_more _ _ _ _ _ c.loop-at.invariant.written c.in-All.ensures) in
-    Fails-at escaped c.args.name.now c.loop-at.at 0 _ _ _ c.loop-at-test.true run (rw c.in-Some.ensures.some at c.in-Failed-send.ensures)
+    Fails-within _ _ _ _ _ _ _ (escape-parts c.loop-at.sent c.loop-at.at c.args.name.now c.loop-at-test.true c.loop-at.invariant.plain)
+    c.loop-at.invariant.written (rw c.in-Some.ensures.some c.in-Failed.ensures)
 
 pub loop-at-preserved : goal.loop-at-preserved
 loop-at-preserved g c = elim c.match-escape_of.branch [
-  | in-Some+in-All+in-All-send w ↦
-      let run : g.K.Sink.state w.send.new.to ≡ after_taking (g.K.Sink.state c.args.to.now) (flat_map escaped (take c.loop-at.at c.args.name.now)) =
-      rw c.loop-at.invariant.plain (taken_more _ _ _ _ _ c.loop-at.invariant.written w.in-All.ensures) in
-      record {
-        order = omega arith;
-        plain = rw w.sent-is (plain_none (c.loop-at.at + 1) c.args.name.now);
-        written = rw (w.sent-is, w.to-is)
-            (taken_at escaped c.args.name.now c.loop-at.at 0 _ _ _ c.loop-at-test.true run (rw w.in-Some.ensures.some at w.in-All-send.ensures));
-      }
+  | in-Some+in-All w ↦ record {
+    order = omega arith;
+    plain = rw w.sent-is (plain_none (c.loop-at.at + 1) c.args.name.now);
+    written = rw (w.sent-is, w.to-is, escape-more c.loop-at.sent c.loop-at.at c.args.name.now c.loop-at-test.true c.loop-at.invariant.plain)
+        (taken_more _ _ _ _ _ c.loop-at.invariant.written (rw w.in-Some.ensures.some w.in-All.ensures));
+  }
   | in_default w ↦ record {
     order = omega arith;
     plain = rw w.sent-is (plain_more c.loop-at.sent c.loop-at.at c.args.name.now c.loop-at.invariant.order c.loop-at-test.true w.in_default.ensures.none c.loop-at.invariant.plain);
@@ -48,4 +35,4 @@ loop-at-preserved g c = elim c.match-escape_of.branch [
 pub returns : goal.returns
 returns g c =
     let end : c.loop-at.at ≡ length c.args.name.now = omega arith in
-    Sends-last _ _ _ _ _ _ _ (plain-whole c.loop-at.sent c.args.name.now (rw end at c.loop-at.invariant.plain)) c.loop-at.invariant.written c.send-2.ensures
+    Sends-last _ _ _ _ _ _ _ (plain-whole c.loop-at.sent c.args.name.now (rw end at c.loop-at.invariant.plain)) c.loop-at.invariant.written c.send.ensures

@@ -1,6 +1,6 @@
 use Rattle.std.proofs.Common.{◌≡◌, ◌≤◌, take}
 use Rattle.std.specs.List.{flat_map}
-use Rattle.history_model.specs.ReplyText.{escaped}
+use Rattle.history_model.specs.text.Replies.{escaped}
 use Rattle.play_outside.specs.SinkState.{after_taking}
 use Rattle.return_codes.proofs.Escapes.{IsPlain}
 use Rattle.return_codes.proofs.quote.send_escaped.Given as goal

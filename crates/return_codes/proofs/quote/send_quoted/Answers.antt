@@ -1,7 +1,7 @@
 use Rattle.std.proofs.Common.{[], ◌∷◌}
 use Rattle.std.specs.List.{flat_map}
 use Rattle.play_outside.proofs.Sending.{taken_more, Fails-before, Fails-within, Sends-last}
-use Rattle.history_model.specs.ReplyText.{escaped}
+use Rattle.history_model.specs.text.Replies.{escaped}
 use Rattle.return_codes.proofs.Escapes.{quoted-bytes}
 use Rattle.return_codes.proofs.quote.send_quoted.Goals as goal
 

@@ -3,8 +3,9 @@ use Rattle.return_codes.proofs.Lines.{listed_lines}
 use Rattle.return_codes.proofs.reply.send_cls.Goals as goal
 
 pub returns-in-Failed-send_names : goal.returns-in-Failed-send_names
-returns-in-Failed-send_names g c = Fails-within _ _ _ _ _ _ _ (listed_lines _ _) c.in-All.ensures c.in-Failed-send_names.ensures
+returns-in-Failed-send_names g c = Fails-within _ _ _ _ _ _ _ (listed_lines c.args.style.now _ _) c.in-All.ensures c.in-Failed-send_names.ensures
 
 pub returns-in-All-send_names : goal.returns-in-All-send_names
 returns-in-All-send_names g c =
-    Sends-last _ _ _ _ _ _ _ (listed_lines _ _) (taken_more _ _ _ _ _ c.in-All.ensures c.in-All-send_names.ensures) c.send_empty_line.ensures
+    Sends-last _ _ _ _ _ _ _ (listed_lines c.args.style.now _ _)
+    (taken_more _ _ _ _ _ c.in-All.ensures c.in-All-send_names.ensures) c.send_line-in-All-send_names.ensures

@@ -12,6 +12,7 @@ returns g c =
       c.as_bytes-3.ensures.value,
       c.format-3.ensures.text,
       c.height.ensures.value,
-      c.word.ensures,
+      c.as_bytes-4.ensures.value,
+      c.as_str.ensures,
       channel_line-parts,
     ) at c.send_line.ensures

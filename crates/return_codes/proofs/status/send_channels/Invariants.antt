@@ -1,4 +1,4 @@
-use Rattle.std.proofs.Common.{◌≡◌, take}
+use Rattle.std.proofs.Common.{◌≡◌, take, length}
 use Rattle.std.specs.List.{flat_map, zip, enumerate_from}
 use Rattle.play_outside.specs.SinkState.{after_taking}
 use Rattle.return_codes.proofs.Lines.{numbered_line}
@@ -7,4 +7,6 @@ use Rattle.return_codes.proofs.status.send_channels.Given as goal
 -- the channels before this one were written
 abbrev pub invariant-loop-at : goal.invariant-loop-at
 invariant-loop-at g l =
-    g.K.Sink.state l.to ≡ after_taking (g.K.Sink.state l.initial.to) (flat_map numbered_line (take l.at (enumerate_from 1 (zip l.channels l.statuses))))
+    g.K.Sink.state l.to
+    ≡ after_taking (g.K.Sink.state l.initial.to)
+    (flat_map (numbered_line l.style) (take (length l.yielded) (enumerate_from 0 (zip l.channels l.statuses))))

@@ -1,6 +1,6 @@
 use Rattle.std.proofs.Common.{ap, ◌∙◌}
-use Rattle.history_model.specs.Acts.{acts}
-use Rattle.history_model.specs.Live.{live_layers}
+use Rattle.history_model.specs.stage.Acts.{acts}
+use Rattle.history_model.specs.stage.Live.{live_layers}
 use Rattle.history_model.proofs.Liveness.{acts-tick, trail-tick, live_layers-ticks}
 use Rattle.history_model.proofs.laws.histories.ticks_keep_places.Goals as goal
 

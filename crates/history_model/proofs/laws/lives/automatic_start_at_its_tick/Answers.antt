@@ -1,5 +1,5 @@
 use Rattle.std.proofs.Common.{ap, sym, ◌∙◌}
-use Rattle.history_model.specs.Life.{ready}
+use Rattle.history_model.specs.stage.Life.{ready}
 use Rattle.history_model.proofs.Lives.{steps_are_after, ready_before, ready_when_due}
 use Rattle.history_model.proofs.laws.lives.automatic_start_at_its_tick.Goals as goal
 

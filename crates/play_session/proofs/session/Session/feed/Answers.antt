@@ -1,10 +1,10 @@
 use Rattle.std.proofs.Common.{refl, sym, subst}
-use Rattle.play_session.proofs.Standing.{StandsFor-fed}
-use Rattle.play_session.specs.Session.{StandsFor}
+use Rattle.play_session.proofs.Standing.{Represents-fed}
+use Rattle.play_session.specs.Session.{Represents}
 use Rattle.play_session.specs.SessionState.{SessionState}
 use Rattle.play_session.proofs.session.Session.feed.Goals as goal
 
-pub returns-clause-stands : goal.returns-clause-stands
-returns-clause-stands c = λ config media stream given_up given s.
-    let inner = subst (λ (session : SessionState). StandsFor config media session stream given_up given) (sym c.self.view_is) s in
-    StandsFor-fed config media _ _ stream given_up given _ inner c.feed.ensures.stands refl refl refl
+pub returns-clause-represents : goal.returns-clause-represents
+returns-clause-represents c = λ config media progress s.
+    let inner = subst (λ (session : SessionState). Represents config media session progress) (sym c.self.view_is) s in
+    Represents-fed config media _ _ progress _ inner c.feed.ensures.stands refl refl refl

@@ -8,7 +8,7 @@ pub invariant_of-result : goal.invariant_of-result
 invariant_of-result c =
     let n = c.args.count in
     let four : length c.args.values ≡ 4 = search rules in
-    let kept = kept_is _ c.args.values n 4 c.from.result c.from-2.result (pos 0) c.copy_from_slice.ensures.after c.from.ensures c.from-2.ensures in
+    let kept = kept_is _ c.args.values n 4 c.from-used.result (pos 0) c.copy_from_slice.ensures.after c.from-used.ensures in
     let wide : All IsWide (take n c.args.values) = search rules in
     record {
       few = omega arith;
@@ -19,4 +19,4 @@ invariant_of-result c =
 pub returns-clause-value : goal.returns-clause-value
 returns-clause-value c =
     ap (λ values. record { values = values; count = c.args.count })
-    (kept_is _ c.args.values c.args.count 4 c.from.result c.from-2.result (pos 0) c.copy_from_slice.ensures.after c.from.ensures c.from-2.ensures)
+    (kept_is _ c.args.values c.args.count 4 c.from-used.result (pos 0) c.copy_from_slice.ensures.after c.from-used.ensures)

@@ -7,7 +7,7 @@ pub invariant_of-result : goal.invariant_of-result
 invariant_of-result c =
     let n = c.args.count in
     let all : length c.args.channels ≡ 16 = search rules in
-    let kept = kept_is _ c.args.channels n 16 c.from-2.result c.from.result Empty c.copy_from_slice.ensures.after c.from-2.ensures c.from.ensures in
+    let kept = kept_is _ c.args.channels n 16 c.from-used.result Empty c.copy_from_slice.ensures.after c.from-used.ensures in
     record {
       few = omega arith;
       unused = ap (drop n) kept ∙ rest_is c.args.channels (replicate (16 - n) Empty) n (omega arith);
@@ -16,4 +16,4 @@ invariant_of-result c =
 pub returns-clause-value : goal.returns-clause-value
 returns-clause-value c =
     ap (λ channels. record { channels = channels; count = c.args.count })
-    (kept_is _ c.args.channels c.args.count 16 c.from-2.result c.from.result Empty c.copy_from_slice.ensures.after c.from-2.ensures c.from.ensures)
+    (kept_is _ c.args.channels c.args.count 16 c.from-used.result Empty c.copy_from_slice.ensures.after c.from-used.ensures)

@@ -1,29 +1,32 @@
 use Rattle.std.proofs.Common.{refl, ap, subst, ◌∙◌}
 use Rattle.std.specs.Prelude.{Ok, Err}
 use Rattle.std.specs.Str.Lines.{strip_carriage_return}
-use Rattle.history_model.specs.Script.{meaning}
-use Rattle.history_model.specs.ScriptInput.{unended}
-use Rattle.run_script.specs.Stage.{Takes}
+use Rattle.std.proofs.lemmas.Result.{err_from_is_err_and}
+use Rattle.history_model.specs.scripts.Line.{meaning}
+use Rattle.history_model.specs.scripts.Input.{unended}
+use Rattle.run_script.specs.inner.Player.{PlaysLine}
 use Rattle.run_script.proofs.Growth.{fed_done, fed_stops}
 use Rattle.run_script.proofs.OneLine.{stripped_one_line}
 use Rattle.run_script.proofs.script.Script.end_line.Goals as goal
 
-pub returns-in-Err-clause-taken : goal.returns-in-Err-clause-taken
-returns-in-Err-clause-taken g c = λ playout bytes first taken.
-    let line_is = c.without_return-line.ensures ∙ ap strip_carriage_return (c.as_slice.ensures.value ∙ taken.waiting) in
-    fed_stops playout c.args.self.now _ bytes first _ _ taken c.in-Err.halt
+pub returns-in_err-take_line-clause-takes : goal.returns-in_err-take_line-clause-takes
+returns-in_err-take_line-clause-takes g c = λ run bytes taken.
+    let p = err_from_is_err_and c.from_residual.result c.from_residual.ensures.1 in
+    let line_is = c.without_carriage_return-line.ensures ∙ ap strip_carriage_return (c.as_slice.ensures.value ∙ taken.waiting) in
+    rw (p.1, p.2)
+    (fed_stops run c.args.self.now (record { waiting = c.args.self.now.waiting; lines = c.args.self.now.lines; player = c.take_line.new.self }) bytes _ _ taken c.in_err-take_line.field-0.0
     (subst
-    (λ l. Takes playout (Err c.in-Err.halt) (meaning l) taken.done.played c.take_line.new.self (g.K.Sink.state c.args.out.now) (g.K.Sink.state c.take_line.new.out))
+    (λ l. PlaysLine (record { playout = run.playout; before = taken.done.played; line = meaning l }) (Err c.in_err-take_line.field-0.0) c.take_line.new.self (g.K.Sink.state c.args.out.now) (g.K.Sink.state c.take_line.new.out))
     line_is
-    (c.in-Err.ensures.taken playout taken.done.played (stripped_one_line _ (unended bytes) line_is taken.one_line) taken.done.formed taken.stage))
-    refl
+    (c.in_err-take_line.ensures.plays run.playout taken.done.played (stripped_one_line _ (unended bytes) line_is taken.one_line) taken.done.runs_on taken.player))
+    refl)
 
-pub returns-clause-taken : goal.returns-clause-taken
-returns-clause-taken g c = λ playout bytes first taken.
-    let line_is = c.without_return-line.ensures ∙ ap strip_carriage_return (c.as_slice.ensures.value ∙ taken.waiting) in
-    fed_done playout c.args.self.now _ bytes first _ _ taken c.in-Ok.field-0
+pub returns-clause-takes : goal.returns-clause-takes
+returns-clause-takes g c = λ run bytes taken.
+    let line_is = c.without_carriage_return-line.ensures ∙ ap strip_carriage_return (c.as_slice.ensures.value ∙ taken.waiting) in
+    fed_done run c.args.self.now _ bytes _ _ taken
     (subst
-    (λ l. Takes playout (Ok c.in-Ok.field-0) (meaning l) taken.done.played c.take_line.new.self (g.K.Sink.state c.args.out.now) (g.K.Sink.state c.take_line.new.out))
+    (λ l. PlaysLine (record { playout = run.playout; before = taken.done.played; line = meaning l }) (Ok c.in_ok-take_line.field-0) c.take_line.new.self (g.K.Sink.state c.args.out.now) (g.K.Sink.state c.take_line.new.out))
     line_is
-    (c.in-Ok.ensures.taken playout taken.done.played (stripped_one_line _ (unended bytes) line_is taken.one_line) taken.done.formed taken.stage))
+    (c.in_ok-take_line.ensures.plays run.playout taken.done.played (stripped_one_line _ (unended bytes) line_is taken.one_line) taken.done.runs_on taken.player))
     c.clear.ensures.items refl

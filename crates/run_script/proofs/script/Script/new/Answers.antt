@@ -3,4 +3,4 @@ use Rattle.run_script.proofs.Endings.{none_taken}
 use Rattle.run_script.proofs.script.Script.new.Goals as goal
 
 pub returns-clause-taken : goal.returns-clause-taken
-returns-clause-taken c = λ playout first on. none_taken _ _ _ c.new.ensures.items refl (c.in_ok-new.ensures.stands playout on)
+returns-clause-taken c = λ playout first on. none_taken _ _ c.new.ensures.items refl (c.in_ok-new.ensures.represents playout on)

@@ -1,40 +1,39 @@
-use Rattle.std.proofs.Common.{◌<◌, ◌+◌, ◌++◌, take, drop, length, sym, subst, arith}
-use Rattle.std.specs.Prelude.{Ok, Err}
+use Rattle.std.proofs.Common.{◌<◌, ◌+◌, ◌++◌, take, drop, length, ap, ◌∙◌, subst, arith, append_assoc}
+use Rattle.std.specs.Prelude.{Err}
 use Rattle.std.proofs.lemmas.List.{take_all, take-append-drop}
-use Rattle.run_script.specs.Script.{HasTaken, Goes}
-use Rattle.run_script.proofs.Growth.{front_more}
+use Rattle.std.proofs.lemmas.Result.{err_from_is_err_and}
+use Rattle.run_script.specs.inner.Taken.{HasTaken, TakesBytes}
+use Rattle.run_script.proofs.Growth.{bytes_more, stopped_before}
 use Rattle.run_script.proofs.script.Script.take.Goals as goal
 
-pub returns-in-Err-clause-taken : goal.returns-in-Err-clause-taken
-returns-in-Err-clause-taken g c = λ playout bytes first taken.
-    let so_far = c.loop-byte.invariant.taken playout bytes first taken in
+pub returns-in_err-take_byte-clause-takes : goal.returns-in_err-take_byte-clause-takes
+returns-in_err-take_byte-clause-takes g c = λ run bytes taken.
+    let p = err_from_is_err_and c.from_residual.result c.from_residual.ensures.1 in
+    let reason = c.in_err-take_byte.field-0.0 in
     let piece = c.args.piece.now in
     let i = c.loop-byte.byte-index in
-    let inside : i < length piece = omega arith in (
-      take (i + 1) piece,
-      drop (i + 1) piece,
-      sym (take-append-drop (i + 1) piece),
-      subst (λ text. Goes playout (Err c.in-Err.halt) c.take_byte.new.self text first (g.K.Sink.state c.take_byte.new.out))
-          (front_more bytes piece i inside)
-          (c.in-Err.ensures.taken playout (bytes ++ take i piece) first so_far),
-    )
+    let inside : i < length piece = omega arith in
+    let stops = c.in_err-take_byte.ensures.takes run (bytes ++ take i piece) (c.loop-byte.invariant.taken run bytes taken) in
+    rw (p.1, p.2)
+    (subst (λ all. TakesBytes run (Err reason) c.take_byte.new.self all (g.K.Sink.state c.take_byte.new.out))
+    (append_assoc bytes (take (i + 1) piece) (drop (i + 1) piece) ∙ ap (λ l. bytes ++ l) (take-append-drop (i + 1) piece))
+    (stopped_before run reason c.take_byte.new.self (bytes ++ take (i + 1) piece) (drop (i + 1) piece) _
+    (subst (λ text. TakesBytes run (Err reason) c.take_byte.new.self text (g.K.Sink.state c.take_byte.new.out)) (bytes_more bytes piece i inside) stops)))
 
 pub loop-byte-preserved : goal.loop-byte-preserved
 loop-byte-preserved g c = record {
-  ticks = omega (arith, c.loop-byte.invariant.ticks, c.in-Ok.ensures.ticks);
-  lines = omega (arith, c.loop-byte.invariant.lines, c.in-Ok.ensures.lines);
-  taken = λ playout bytes first taken.
-      let so_far = c.loop-byte.invariant.taken playout bytes first taken in
+  ticks = (let before = c.loop-byte.invariant.ticks in let step = c.take_byte.ensures.ticks in omega (arith, before, step));
+  lines = (let before = c.loop-byte.invariant.lines in let step = c.take_byte.ensures.lines in omega (arith, before, step));
+  taken = λ run bytes taken.
       let piece = c.args.piece.now in
       let i = c.loop-byte.byte-index in
       let inside : i < length piece = omega arith in
-      subst (λ text. Goes playout (Ok c.in-Ok.field-0) c.take_byte.new.self text first (g.K.Sink.state c.take_byte.new.out))
-      (front_more bytes piece i inside)
-      (c.in-Ok.ensures.taken playout (bytes ++ take i piece) first so_far);
+      subst (λ text. HasTaken run c.take_byte.new.self text (g.K.Sink.state c.take_byte.new.out)) (bytes_more bytes piece i inside)
+      (c.in_ok-take_byte.ensures.takes run (bytes ++ take i piece) (c.loop-byte.invariant.taken run bytes taken));
 }
 
-pub returns-clause-taken : goal.returns-clause-taken
-returns-clause-taken g c = λ playout bytes first taken.
+pub returns-clause-takes : goal.returns-clause-takes
+returns-clause-takes g c = λ run bytes taken.
     let past = c.loop-byte-test.false in
-    subst (λ t. HasTaken playout c.loop-byte.self (bytes ++ t) first (g.K.Sink.state c.loop-byte.out)) (take_all c.loop-byte.byte-index c.args.piece.now (omega (arith, past)))
-    (c.loop-byte.invariant.taken playout bytes first taken)
+    subst (λ t. HasTaken run c.loop-byte.self (bytes ++ t) (g.K.Sink.state c.loop-byte.out)) (take_all c.loop-byte.byte-index c.args.piece.now (omega (arith, past)))
+    (c.loop-byte.invariant.taken run bytes taken)

@@ -1,0 +1,4 @@
+pub mod Area
+pub mod Mixer
+pub mod Keyword
+pub mod Options

@@ -1,0 +1,7 @@
+pub mod Line
+pub mod Places
+pub mod Options
+pub mod Producer
+pub mod Mixer
+pub mod Command
+pub mod Channels

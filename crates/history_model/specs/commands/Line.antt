@@ -1,0 +1,51 @@
+-- A client's line whose command is known, and what stands at its positions. They count from 0, where the command's name
+-- stands.
+use Rattle.std.specs.Prelude.{ℕ, ◌+◌, nat_lt, Bool, true, false, if◌then◌else◌, Option, Result, Ok, Err, List, length, slice_get, ok_or}
+use Rattle.std.specs.Option.{option_map_or}
+use Rattle.amcp_text.specs.Numbers.{number_within}
+use Rattle.play_types.specs.Config.{ConfigView}
+use Rattle.play_types.specs.Media.{MediaNameView}
+use Rattle.play_types.specs.Words.{is_word}
+use Rattle.play_types.specs.declared.reply.Name.{Name}
+use Rattle.play_types.specs.declared.parsed.Refusal.{Refusal}
+use Rattle.play_types.specs.declared.parsed.Refusal.TheVariants.{Missing, Illegal}
+
+-- the command, all words of the line, and the channels and the clips that its words can name
+pub record Line : Type 0 where
+  pub name : Name
+  pub words : List (List ℕ)
+  pub config : ConfigView
+  pub media : List MediaNameView
+
+-- what follows from the value of a step, or the refusal of that step
+infixl 10 ◌>>=◌
+abbrev pub ◌>>=◌ : {A B : Type 0} → Result A Refusal → (A → Result B Refusal) → Result B Refusal
+(Ok value) >>= next = next value
+(Err refusal) >>= next = Err refusal
+
+-- the value of the word at a position: a word without a value is wrong
+abbrev pub legal : {A : Type 0} → Line → ℕ → Option A → Result A Refusal
+legal line at value = ok_or value (Illegal line.name at)
+
+-- the word at a position, which the line may not leave out
+abbrev pub word_at : Line → ℕ → Result (List ℕ) Refusal
+word_at line at = ok_or (slice_get line.words at) (Missing line.name)
+
+-- the whole number at a position, which lies from `least` to `most`
+abbrev pub number_at : Line → ℕ → ℕ → ℕ → Result ℕ Refusal
+number_at line at least most = do
+  word ← word_at line at
+  legal line at (number_within least most word)
+
+-- the value, where the line ends before a position: a word there is one too many
+abbrev pub ended : {A : Type 0} → Line → ℕ → A → Result A Refusal
+ended line at value = if nat_lt at (length line.words) then Err (Illegal line.name at) else Ok value
+
+-- whether this fixed word stands at a position
+abbrev pub stands_at : Line → ℕ → List ℕ → Bool
+stands_at line at fixed = option_map_or (is_word fixed) (slice_get line.words at) false
+
+-- whether this fixed word stands at a position, where no other word may stand, and none after it
+abbrev pub flag_at : Line → ℕ → List ℕ → Result Bool Refusal
+flag_at line at fixed =
+    if stands_at line at fixed then ended line (at + 1) true else ended line at false

@@ -1,0 +1,190 @@
+-- The options of LOADBG, LOAD and PLAY.
+use Rattle.std.specs.Prelude.{ℕ, suc, zero, ◌+◌, ◌==◌, Bool, false, ◌&&◌, ◌||◌, if◌then◌else◌, Option, Some, None, Result, Ok, Err, List, [], ◌∷◌, ◌++◌, take, drop, slice_get, is_some, is_none, unwrap_or, option_map, option_and_then, codes}
+use Rattle.std.specs.Option.{option_map_or}
+use Rattle.std.specs.List.{list_any, find}
+use Rattle.amcp_text.specs.Numbers.{whole_number, number_within}
+use Rattle.play_types.specs.Transition.{TransView, cut, trans_of}
+use Rattle.play_types.specs.declared.transition.Kind.TheVariants.{Cut}
+use Rattle.play_types.specs.declared.transition.Curve.TheVariants.{Linear}
+use Rattle.play_types.specs.declared.transition.TheConstants.{MAX_DURATION}
+use Rattle.play_types.specs.declared.clip.TheConstants.{MAX_FRAMES}
+use Rattle.play_types.specs.declared.reply.Name.{Name}
+use Rattle.play_types.specs.declared.parsed.Refusal.{Refusal}
+use Rattle.play_types.specs.declared.parsed.Refusal.TheVariants.{Missing, Illegal}
+use Rattle.play_types.specs.Words.{is_word, kind_of}
+use Rattle.history_model.specs.commands.Line.{Line}
+
+-- the options: each may be given once. CUT and the other transitions are one
+pub data OptionName : Type 0 where
+  Loop : OptionName
+  Transition : OptionName
+  Seek : OptionName
+  Length : OptionName
+  Auto : OptionName
+
+-- the option that a word begins
+abbrev pub option_of : List ℕ → Option OptionName
+option_of word =
+    if is_word (codes "LOOP") word then Some Loop
+    else if is_word (codes "SEEK") word then Some Seek
+    else if is_word (codes "LENGTH") word then Some Length
+    else if is_word (codes "AUTO") word then Some Auto
+    else if is_some (kind_of word) then Some Transition
+    else None
+
+abbrev pub is_curve : List ℕ → Bool
+is_curve word = is_word (codes "LINEAR") word
+
+abbrev pub is_leftward : List ℕ → Bool
+is_leftward word = is_word (codes "LEFT") word || is_word (codes "FROMRIGHT") word
+
+abbrev pub is_direction : List ℕ → Bool
+is_direction word = is_leftward word || (is_word (codes "RIGHT") word || is_word (codes "FROMLEFT") word)
+
+-- how many of the first words are a curve and a direction: in either order, each at most once
+abbrev pub manner_len : List (List ℕ) → ℕ
+manner_len [] = 0
+manner_len (one ∷ []) = if is_curve one || is_direction one then 1 else 0
+manner_len (one ∷ two ∷ rest) =
+    if is_curve one then (if is_direction two then 2 else 1)
+    else if is_direction one then (if is_curve two then 2 else 1)
+    else 0
+
+-- how many of the first words are the number of an option that this word begins. After CUT it may be left out
+abbrev pub number_len : List ℕ → OptionName → List (List ℕ) → ℕ
+number_len word Loop rest = 0
+number_len word Auto rest = 0
+number_len word Seek rest = 1
+number_len word Length rest = 1
+number_len word Transition rest =
+    if is_word (codes "CUT") word && is_none (option_and_then whole_number (slice_get rest 0)) then 0 else 1
+
+-- how many of the first words belong to an option that this word begins
+abbrev pub option_len : List ℕ → Option OptionName → List (List ℕ) → ℕ
+option_len word (Some Loop) rest = number_len word Loop rest
+option_len word (Some Transition) rest =
+    let number = number_len word Transition rest in number + manner_len (drop number rest)
+option_len word (Some Seek) rest = number_len word Seek rest
+option_len word (Some Length) rest = number_len word Length rest
+option_len word (Some Auto) rest = number_len word Auto rest
+option_len word None rest = 0
+
+-- an option as it is written: the position of its first word, that word, and the words after it that belong to it
+pub record Written : Type 0 where
+  pub at : ℕ
+  pub word : List ℕ
+  pub more : List (List ℕ)
+
+-- the words from a position on, each option with the words that belong to it. The first words may be those of the
+-- option before, and are passed over
+abbrev pub options_after : ℕ → ℕ → List (List ℕ) → List Written
+options_after passed at [] = []
+options_after (suc passed) at (word ∷ words) = options_after passed (at + 1) words
+options_after zero at (word ∷ words) =
+    let len = option_len word (option_of word) words in
+    record { at = at; word = word; more = take len words } ∷ options_after len (at + 1) words
+
+-- the options that are written from a position on
+abbrev pub options_from : ℕ → List (List ℕ) → List Written
+options_from at words = options_after 0 at words
+
+-- the number of an option, by which options are compared
+abbrev pub option_number : OptionName → ℕ
+option_number Loop = 0
+option_number Transition = 1
+option_number Seek = 2
+option_number Length = 3
+option_number Auto = 4
+
+-- whether two options are one
+abbrev pub is_same_option : OptionName → OptionName → Bool
+is_same_option one other = option_number one == option_number other
+
+-- whether an option is the one that is written
+abbrev pub is_option : OptionName → Written → Bool
+is_option option written = option_map_or (is_same_option option) (option_of written.word) false
+
+-- an option among those that are written
+abbrev pub given : OptionName → List Written → Option Written
+given option all = find (is_option option) all
+
+-- the least number that an option may have. A length is at least 1
+abbrev pub least_number : OptionName → ℕ
+least_number Loop = 0
+least_number Transition = 0
+least_number Seek = 0
+least_number Length = 1
+least_number Auto = 0
+
+-- the greatest number that an option may have: a duration in ticks, or a count of frames
+abbrev pub most_number : OptionName → ℕ
+most_number Loop = 0
+most_number Transition = MAX_DURATION
+most_number Seek = MAX_FRAMES
+most_number Length = MAX_FRAMES
+most_number Auto = 0
+
+-- the number that a word writes for an option
+abbrev pub option_value : OptionName → List ℕ → Option ℕ
+option_value option word = number_within (least_number option) (most_number option) word
+
+-- the number of an option as it is written: 0 where none is written
+abbrev pub written_number : OptionName → Written → ℕ
+written_number option written = unwrap_or (option_and_then (option_value option) (slice_get written.more 0)) 0
+
+-- the refusal of an option's number, if it has one: it is missing, or it is wrong
+abbrev pub number_refusal : Name → ℕ → OptionName → Option (List ℕ) → Option Refusal
+number_refusal name at option None = Some (Missing name)
+number_refusal name at option (Some number) =
+    if is_some (option_value option number) then None else Some (Illegal name (at + 1))
+
+-- the refusal of an option that stands after others: it is none, it is repeated, or its number is refused
+abbrev pub option_refusal : Name → List Written → Written → Option OptionName → Option Refusal
+option_refusal name before written None = Some (Illegal name written.at)
+option_refusal name before written (Some option) =
+    if is_some (given option before) then Some (Illegal name written.at)
+    else if number_len written.word option written.more == 0 then None
+    else number_refusal name written.at option (slice_get written.more 0)
+
+-- the first refusal of options, from the left, that stand after options that are not refused
+abbrev pub options_refusal : Name → List Written → List Written → Option Refusal
+options_refusal name before [] = None
+options_refusal name before (written ∷ rest) =
+    if is_some (option_refusal name before written (option_of written.word))
+    then option_refusal name before written (option_of written.word)
+    else options_refusal name (before ++ written ∷ []) rest
+
+-- what options say. Without a length a clip is played to its end
+pub record Options : Type 0 where
+  pub looped : Bool
+  pub transition : TransView
+  pub seek : ℕ
+  pub length : Option ℕ
+  pub auto : Bool
+
+-- the transition that an option writes: without a direction it goes rightward
+abbrev pub transition_of : Written → TransView
+transition_of written =
+    let manner = drop (number_len written.word Transition written.more) written.more in
+    trans_of (unwrap_or (kind_of written.word) Cut) (written_number Transition written) Linear (list_any is_leftward manner)
+
+-- what the options say that are written
+abbrev pub options_of : List Written → Options
+options_of all = record {
+  looped = is_some (given Loop all);
+  transition = unwrap_or (option_map transition_of (given Transition all)) cut;
+  seek = unwrap_or (option_map (written_number Seek) (given Seek all)) 0;
+  length = option_map (written_number Length) (given Length all);
+  auto = is_some (given Auto all);
+}
+
+-- what the options say, or the first refusal
+abbrev pub unless_refused : Option Refusal → Options → Result Options Refusal
+unless_refused None options = Ok options
+unless_refused (Some refusal) options = Err refusal
+
+-- what the options say that stand in a line from a position on
+unfoldable pub options_at : Line → ℕ → Result Options Refusal
+options_at line at =
+    let all = options_from at (drop at line.words) in
+    unless_refused (options_refusal line.name [] all) (options_of all)

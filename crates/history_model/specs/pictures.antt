@@ -1,0 +1,7 @@
+pub mod Media
+pub mod Source
+pub mod Scene
+pub mod Raster
+pub mod Placing
+pub mod Frame
+pub mod Sound

@@ -1,0 +1,4 @@
+pub mod Line
+pub mod History
+pub mod Input
+pub mod Output

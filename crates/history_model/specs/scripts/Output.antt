@@ -1,0 +1,125 @@
+-- What is written for a script, line by line.
+use Rattle.std.specs.Prelude.{ℕ, zero, suc, ◌+◌, ◌-◌, if◌then◌else◌, ℤ, pos, negsuc, Option, Some, None, List, [], ◌∷◌, ◌++◌, codes, decimal, flat_map}
+use Rattle.std.specs.Int.{w16, to_le_bytes}
+use Rattle.play_types.specs.Config.{ConfigView}
+use Rattle.play_types.specs.Commands.{command_name, answer_reply}
+use Rattle.play_types.specs.History.{ticks}
+use Rattle.play_types.specs.declared.command.Cmd.{Cmd}
+use Rattle.play_types.specs.declared.event.Tag.{Tag}
+use Rattle.play_types.specs.declared.event.Event.{Event}
+use Rattle.play_types.specs.declared.event.Event.TheVariants as event
+use Rattle.play_types.specs.declared.reply.Name.TheVariants as name
+use Rattle.play_types.specs.declared.reply.Reply.{Reply}
+use Rattle.play_types.specs.declared.reply.Reply.TheVariants as reply
+use Rattle.history_model.specs.stage.Acts.{is_refused}
+use Rattle.history_model.specs.stage.Answer.{numbers_below, pair_samples, channel_numbers, command_answer}
+use Rattle.history_model.specs.pictures.Frame.{frame_pixel}
+use Rattle.history_model.specs.text.Frames.{frame_bytes, frame_lines, digest_line}
+use Rattle.history_model.specs.pictures.Media.{Setup, size}
+use Rattle.history_model.specs.text.Replies.{reply_lines}
+use Rattle.history_model.specs.first_plays.Built.{is_built}
+use Rattle.history_model.specs.scripts.Line.{ScriptLine, Comment, Ticks, Said, Stop, Rejected}
+use Rattle.history_model.specs.scripts.History.{Playout, PlayedLine, setup_of, said_step, ends_at, script_events}
+use Rattle.history_model.specs.sessions.Session.{Step, Local, Ask, AskBatch, KillServer, EndConnection, Skip}
+
+-- the configuration of a run that names a width and a height alone
+abbrev pub plain_config : ℕ → ℕ → ConfigView
+plain_config width height = record {
+  listen = codes "none";
+  media = codes "none";
+  rate = 25;
+  connections = 4;
+  journal_limit = 4194304;
+  channels = record { width = width; height = height; pairs = 0; output = codes "none" } ∷ [];
+}
+
+-- the head of each line of a reply: the tag of the connection
+unfoldable pub tag_text : Tag → List ℕ
+tag_text tag = decimal tag.worker ++ 46 ∷ decimal tag.session ++ 32 ∷ []
+
+-- a line of a reply
+unfoldable pub reply_line : Tag → List ℕ → List ℕ
+reply_line tag text = tag_text tag ++ text ++ 10 ∷ []
+
+-- lines of a reply, each after the tag
+unfoldable pub tagged_lines : Tag → List (List ℕ) → List ℕ
+tagged_lines tag lines = flat_map (reply_line tag) lines
+
+-- what is written for a reply, where there is one
+abbrev pub reply_output : Playout → Tag → Option Reply → List ℕ
+reply_output playout tag None = []
+reply_output playout tag (Some answer) = tagged_lines tag (reply_lines playout.config playout.names answer)
+
+-- the reply to a command after these events: one that is not built yet is refused
+abbrev pub ask_reply : Playout → List Event → Tag → Cmd → Reply
+ask_reply playout events tag command =
+    if is_built command
+    then answer_reply (command_name command) (command_answer (setup_of playout) events (is_refused events (event.Do tag command)) command)
+    else reply.Refused 403 (command_name command)
+
+-- the reply of a step after these events: batches are not built yet
+abbrev pub step_reply : Playout → List Event → Tag → Option Step → Option Reply
+step_reply playout events tag None = None
+step_reply playout events tag (Some (Local answer)) = Some answer
+step_reply playout events tag (Some (Ask command)) = Some (ask_reply playout events tag command)
+step_reply playout events tag (Some (AskBatch commands)) = Some (reply.Refused 403 name.Commit)
+step_reply playout events tag (Some KillServer) = Some (reply.Done name.Kill)
+step_reply playout events tag (Some EndConnection) = None
+step_reply playout events tag (Some Skip) = None
+
+-- a sample as 16 bits in two's complement, the lower byte first
+abbrev pub sample_bytes : ℤ → List ℕ
+sample_bytes (pos n) = to_le_bytes w16 n
+sample_bytes (negsuc n) = to_le_bytes w16 (65535 - n)
+
+-- the sound of a channel at the tick after these events: pair by pair, left then right
+abbrev pub sound_bytes : Setup → List Event → ℕ → List ℕ
+sound_bytes setup events channel =
+    flat_map (λ pair. flat_map sample_bytes (pair_samples setup events channel pair)) (numbers_below (size setup channel).pairs)
+
+-- the picture of a channel at that tick
+abbrev pub picture_bytes : Setup → List Event → ℕ → List ℕ
+picture_bytes setup events channel =
+    frame_bytes (size setup channel).width (size setup channel).height (frame_pixel setup events channel)
+
+-- what is written for a channel at a tick: the lines of its frame, or the line of its digest
+abbrev pub channel_output : Playout → ℕ → ℕ → List ℕ → List ℕ → List ℕ
+channel_output playout tick channel picture sound =
+    if playout.digests
+    then digest_line channel tick picture sound
+    else frame_lines channel tick (size (setup_of playout) channel) picture sound
+
+-- what is written for the tick after these events, channel 1 first
+unfoldable pub tick_output : Playout → List Event → List ℕ
+tick_output playout events =
+    let setup = setup_of playout in
+    flat_map
+    (λ channel.
+    channel_output playout (ticks events + 1) channel (picture_bytes setup events channel) (sound_bytes setup events channel))
+    (channel_numbers setup)
+
+-- what is written for the next ticks
+unfoldable pub ticks_output : Playout → List Event → ℕ → List ℕ
+ticks_output playout events zero = []
+ticks_output playout events (suc count) =
+    tick_output playout events ++ ticks_output playout (events ++ event.Tick ∷ []) count
+
+-- what is written for a line after those before it
+abbrev pub output_at : Playout → List PlayedLine → PlayedLine → ScriptLine → List ℕ
+output_at playout before line Comment = []
+output_at playout before line (Ticks count) = ticks_output playout (script_events playout before) count
+output_at playout before line (Said tag text) =
+    reply_output playout tag (step_reply playout (script_events playout before) tag (said_step playout before line tag))
+output_at playout before line Stop = []
+output_at playout before line Rejected = []
+
+-- what is written for lines that follow others, up to the line at which the run ends
+unfoldable pub output_after : Playout → List PlayedLine → List PlayedLine → List ℕ
+output_after playout before [] = []
+output_after playout before (line ∷ lines) =
+    output_at playout before line line.line
+    ++ (if ends_at playout before line line.line then [] else output_after playout (before ++ line ∷ []) lines)
+
+-- what is written for a script
+unfoldable pub script_output : Playout → List PlayedLine → List ℕ
+script_output playout lines = output_after playout [] lines

@@ -1,0 +1,10 @@
+pub mod Act
+pub mod Acts
+pub mod Trail
+pub mod Touched
+pub mod Resolved
+pub mod Life
+pub mod Live
+pub mod Value
+pub mod Steps
+pub mod Answer

@@ -1,0 +1,77 @@
+-- The acts of a history, and which of its events are refused.
+use Rattle.std.specs.Prelude.{ℕ, Bool, ◌||◌, List, [], ◌∷◌, ◌++◌, length, reverse, nat_lt, Option, Some, None, is_none, unwrap_or, option_and_then, if◌then◌else◌}
+use Rattle.std.specs.List.{list_any}
+use Rattle.play_types.specs.History.{ticks}
+use Rattle.play_types.specs.declared.place.TheConstants.{MAX_LIVE_LAYERS}
+use Rattle.play_types.specs.declared.setting.TheConstants.{MAX_WAITING_SETTINGS}
+use Rattle.play_types.specs.declared.command.Cmd.{Cmd}
+use Rattle.play_types.specs.declared.command.Cmd.TheVariants.{Load, LoadBg, Play, PlayTake, Pause, Resume, StopLayer, ClearLayer, ClearChannel, SwapLayers, SwapChannels, Set, CommitMixer, ResetLayer, ResetChannel, Value, Info}
+use Rattle.play_types.specs.declared.event.Event.{Event}
+use Rattle.play_types.specs.declared.event.Event.TheVariants.{Do, Batch, Tick, Stop}
+use Rattle.history_model.specs.stage.Act.{Act, acts_of}
+use Rattle.history_model.specs.stage.Resolved.{waiting_settings}
+use Rattle.history_model.specs.stage.Live.{with_number, live_layers}
+
+-- the channels with those to which a command can bring a content or a waiting setting
+abbrev pub with_channels_of : Cmd → List ℕ → List ℕ
+with_channels_of (Load place take) channels = with_number place.channel channels
+with_channels_of (LoadBg place take) channels = with_number place.channel channels
+with_channels_of (Play place) channels = channels
+with_channels_of (PlayTake place take) channels = channels
+with_channels_of (Pause place) channels = channels
+with_channels_of (Resume place) channels = channels
+with_channels_of (StopLayer place) channels = channels
+with_channels_of (ClearLayer place) channels = channels
+with_channels_of (ClearChannel channel) channels = channels
+with_channels_of (SwapLayers a b transforms) channels = with_number a.channel (with_number b.channel channels)
+with_channels_of (SwapChannels a b transforms) channels = with_number a (with_number b channels)
+with_channels_of (Set setting) channels = with_number setting.place.channel channels
+with_channels_of (CommitMixer channel) channels = channels
+with_channels_of (ResetLayer place) channels = channels
+with_channels_of (ResetChannel channel) channels = channels
+with_channels_of (Value place prop) channels = channels
+with_channels_of Info channels = channels
+
+-- the channels that can hold a content or a waiting setting after the acts, in rising number
+abbrev pub channels : List Act → List ℕ
+channels [] = []
+channels (act ∷ before) = with_channels_of act.cmd (channels before)
+
+-- whether a channel has more live layers or more waiting settings after the acts and `ticks` ticks than it may have
+abbrev pub is_over : List Act → ℕ → ℕ → Bool
+is_over acts ticks channel =
+    nat_lt MAX_LIVE_LAYERS (length (live_layers acts ticks channel))
+    || nat_lt MAX_WAITING_SETTINGS (length (waiting_settings acts channel))
+
+-- the acts with those of a command after `ticks` ticks, none where it is refused since a channel is then over a limit
+abbrev pub with_command : List Act → ℕ → Cmd → Option (List Act)
+with_command acts ticks cmd =
+    let more = acts_of ticks cmd ++ acts in
+    if list_any (is_over more ticks) (channels more) then None else Some more
+
+-- the acts with those of all commands, none where one of them is refused after the ones before it
+abbrev pub with_commands : List Act → ℕ → List Cmd → Option (List Act)
+with_commands acts ticks [] = Some acts
+with_commands acts ticks (cmd ∷ cmds) =
+    option_and_then (λ more. with_commands more ticks cmds) (with_command acts ticks cmd)
+
+-- the acts with those of an event after `ticks` ticks, none where it is refused
+abbrev pub with_event : List Act → ℕ → Event → Option (List Act)
+with_event acts ticks (Do tag cmd) = with_command acts ticks cmd
+with_event acts ticks (Batch tag cmds) = with_commands acts ticks cmds
+with_event acts ticks Tick = Some acts
+with_event acts ticks (Stop tag) = Some acts
+
+-- the acts of a history that is read backward, its last event first. A refused event gives none
+abbrev pub acts_back : List Event → List Act
+acts_back [] = []
+acts_back (event ∷ before) =
+    let earlier = acts_back before in unwrap_or (with_event earlier (ticks before) event) earlier
+
+-- the acts of a history, the last one first
+unfoldable pub acts : List Event → List Act
+acts history = acts_back (reverse history)
+
+-- whether an event after a history is refused
+unfoldable pub is_refused : List Event → Event → Bool
+is_refused history event = is_none (with_event (acts history) (ticks history) event)

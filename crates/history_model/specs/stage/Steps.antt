@@ -1,0 +1,12 @@
+-- A place tick by tick, for the laws on lives.
+use Rattle.std.specs.Prelude.{ℕ, zero, suc}
+use Rattle.history_model.specs.stage.Life.{Life, ready, run_for}
+
+-- a place after one tick: what is due is started, and what runs was shown for one tick more
+abbrev pub step : Life → Life
+step s = run_for 1 (ready s)
+
+-- a place after `n` ticks, one after another
+abbrev pub steps : ℕ → Life → Life
+steps zero s = s
+steps (suc n) s = step (steps n s)

@@ -1,0 +1,75 @@
+-- Mixer values.
+use Rattle.std.specs.Prelude.{ℕ, ◌-◌, List, [], ◌∷◌, ℤ, pos, reverse, Option, Some, None, if◌then◌else◌}
+use Rattle.play_types.specs.Place.{PlaceView}
+use Rattle.play_types.specs.Curve.{along}
+use Rattle.play_types.specs.Setting.{is_same_prop}
+use Rattle.play_types.specs.declared.setting.TheConstants.{MICROS_PER_UNIT}
+use Rattle.play_types.specs.declared.setting.Prop.{Prop}
+use Rattle.play_types.specs.declared.setting.Prop.TheVariants.{Opacity, Fill, Clip, Volume, Keyer}
+use Rattle.play_types.specs.declared.command.Cmd.{Cmd}
+use Rattle.play_types.specs.declared.command.Cmd.TheVariants.{Load, LoadBg, Play, PlayTake, Pause, Resume, StopLayer, ClearLayer, ClearChannel, SwapLayers, SwapChannels, Set, CommitMixer, ResetLayer, ResetChannel, Value, Info}
+use Rattle.play_types.specs.declared.event.Event.{Event}
+use Rattle.history_model.specs.stage.Act.{Act}
+use Rattle.history_model.specs.stage.Trail.{tuning}
+use Rattle.history_model.specs.stage.Resolved.{resolved_acts}
+use Rattle.history_model.specs.stage.Acts.{acts_back}
+
+-- four numbers in millionths
+abbrev pub four : ℤ → ℤ → ℤ → ℤ → List ℤ
+four a b c d = a ∷ b ∷ c ∷ d ∷ []
+
+-- the value of a property without any setting, in millionths: the numbers that it does not use are 0
+abbrev pub default_of : Prop → List ℤ
+default_of Opacity = four MICROS_PER_UNIT (pos 0) (pos 0) (pos 0)
+default_of Fill = four (pos 0) (pos 0) MICROS_PER_UNIT MICROS_PER_UNIT
+default_of Clip = four (pos 0) (pos 0) MICROS_PER_UNIT MICROS_PER_UNIT
+default_of Volume = four MICROS_PER_UNIT (pos 0) (pos 0) (pos 0)
+default_of Keyer = four (pos 0) (pos 0) (pos 0) (pos 0)
+
+-- a value to be reached, and in how many ticks
+pub record Aim : Type 0 where
+  pub values : List ℤ
+  pub duration : ℕ
+
+-- what a command sets a property to: a reset sets the default at once
+abbrev pub aim_of : Cmd → Prop → Option Aim
+aim_of (Load place take) prop = None
+aim_of (LoadBg place take) prop = None
+aim_of (Play place) prop = None
+aim_of (PlayTake place take) prop = None
+aim_of (Pause place) prop = None
+aim_of (Resume place) prop = None
+aim_of (StopLayer place) prop = None
+aim_of (ClearLayer place) prop = None
+aim_of (ClearChannel channel) prop = None
+aim_of (SwapLayers a b transforms) prop = None
+aim_of (SwapChannels a b transforms) prop = None
+aim_of (Set setting) prop =
+    if is_same_prop setting.prop prop then Some (record { values = setting.values; duration = setting.duration }) else None
+aim_of (CommitMixer channel) prop = None
+aim_of (ResetLayer place) prop = Some (record { values = default_of prop; duration = 0 })
+aim_of (ResetChannel channel) prop = Some (record { values = default_of prop; duration = 0 })
+aim_of (Value place asked) prop = None
+aim_of Info prop = None
+
+-- each number on its way, `ticks` ticks after the start
+abbrev pub all_along : List ℤ → List ℤ → ℕ → ℕ → List ℤ
+all_along [] to ticks duration = []
+all_along (from ∷ more) [] ticks duration = []
+all_along (from ∷ more) (to ∷ others) ticks duration = along from to ticks duration ∷ all_along more others ticks duration
+
+-- the value of a property by the settings and resets of a place, the last one first, after `ticks` ticks
+abbrev pub tuned_value : List Act → Prop → ℕ → List ℤ
+tuned_value [] prop ticks = default_of prop
+tuned_value (act ∷ before) prop ticks = elim (aim_of act.cmd prop) [
+  | None ↦ tuned_value before prop ticks
+  | Some aim ↦ all_along (tuned_value before prop act.ticks) aim.values (ticks - act.ticks) aim.duration
+]
+
+-- the value of a property of a place after the acts and `ticks` ticks, in millionths
+abbrev pub value_at : List Act → PlaceView → Prop → ℕ → List ℤ
+value_at acts place prop ticks = tuned_value (tuning (resolved_acts acts) place) prop ticks
+
+-- the value of a property of a place after a history, when `ticks` ticks have passed, in millionths
+unfoldable pub value : List Event → PlaceView → Prop → ℕ → List ℤ
+value history place prop ticks = value_at (acts_back (reverse history)) place prop ticks

@@ -1,0 +1,10 @@
+//! Limits of scripts. The definitions in `specs/scripts` cite them.
+
+/// The most bytes that a line of a script may have, its end left out.
+pub const MAX_SCRIPT_LINE_BYTES: usize = 8_192;
+
+/// The most ticks that one line of a script may ask for.
+pub const MAX_TICKS_PER_LINE: u32 = 100_000;
+
+/// The most bytes that a script may have.
+pub const MAX_INPUT_BYTES: u64 = 4_294_967_296;

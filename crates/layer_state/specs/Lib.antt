@@ -1,0 +1,5 @@
+pub mod Shown
+pub mod Past
+pub mod Ticks
+pub mod Worked
+pub mod inner

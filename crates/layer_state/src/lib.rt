@@ -1,0 +1,20 @@
+//! One place of the stage, tick by tick: its foreground, its background, and what it shows.
+//!
+//! Each call of a [`Layer`] is one step of the life of a place: a command does what `effect` says, and a tick is one tick
+//! of `after`. So a layer that was given the acts on a place and the ticks between them is what `life` says of that
+//! place. No call takes memory, and none refuses.
+#![tactic(auto)]
+
+pub mod examples;
+mod foreground;
+mod front;
+pub mod laws;
+mod layer;
+mod playhead;
+mod shown;
+#[cfg(test)]
+mod tests;
+
+pub use front::Front;
+pub use layer::Layer;
+pub use shown::Shown;

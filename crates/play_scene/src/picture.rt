@@ -1,0 +1,126 @@
+//! The picture that a channel shows at a tick.
+ghost use Rattle.std.specs.Prelude.{◌≡◌, ◌+◌, ◌-◌, ◌%◌, ◌<◌, ◌≤◌, ◌^◌, min, if◌then◌else◌, slice_index};
+ghost use Rattle.play_types.specs.Playhead.{head};
+ghost use Rattle.history_model.specs.pictures.Media.{clip_pixel, pixel_of_bytes};
+ghost use Rattle.history_model.specs.pictures.Raster.{scaled_to};
+ghost use Rattle.play_scene.specs.Picture.{clips_of, picture_pixel, picture_view, take_picture};
+
+use clip_format::MediaTable;
+use pixel_math::Pixel;
+use play_types::{Clip, Geometry, Spec, Take};
+
+/// The picture that a channel shows at a tick.
+#[derive(Drop)]
+pub enum Picture<'a> {
+    /// A transparent picture.
+    Nothing,
+    /// This pixel everywhere.
+    Colour(Pixel),
+    /// A frame of a clip, counted from 0. It is transparent where the clip has no such frame.
+    Frame(&'a Clip, u64),
+}
+
+impl<'a> Picture<'a> {
+    /// Returns what a take shows after `ticks` ticks: its colour, or its clip, by the number of that in the table, at the
+    /// frame of the playhead. A clip that is played once ends on its last frame, and one that is looped begins anew.
+    ///
+    /// A number without a readable clip, and a route, show nothing.
+    pub fn of_take(table: &'a MediaTable, take: Take, ticks: u64) -> Picture<'a>
+        requires { ticks < 2 ^ 63 }
+        ensures { picture_view result ≡ take_picture (clips_of table.now) take ticks }
+    {
+        match take.spec() {
+            Spec::Colour(colour) => Picture::Colour(Pixel::colour(colour)),
+            Spec::Clip(id) => match table.clip(id) {
+                Some(clip) => Picture::Frame(clip, playhead(take, ticks)),
+                None => Picture::Nothing,
+            },
+            Spec::RouteChannel(_) | Spec::RouteLayer(_) => Picture::Nothing,
+        }
+    }
+
+    /// Returns the pixel at a column and a row of a raster of this size. A column of the raster shows the column of the
+    /// picture in which its middle lies, and rows do alike.
+    pub fn pixel(&self, size: Geometry, x: u16, y: u16) -> Pixel
+        requires columns { 0 < size.width }
+        requires rows { 0 < size.height }
+        ensures { result ≡ picture_pixel (picture_view self.now) size x y }
+    {
+        match self {
+            Picture::Nothing => Pixel::transparent(),
+            Picture::Colour(pixel) => *pixel,
+            Picture::Frame(clip, frame) => {
+                let picture = clip.geometry();
+                let column = scaled_to(picture.width, size.width, x);
+                let row = scaled_to(picture.height, size.height, y);
+                clip_pixel(clip, *frame, column, row)
+            }
+        }
+    }
+}
+
+/// Returns the frame at which the playhead of a clip stands after `ticks` ticks.
+fn playhead(take: Take, ticks: u64) -> u64
+    requires { ticks < 2 ^ 63 }
+    ensures { result ≡ head take ticks }
+{
+    match take.spec() {
+        Spec::Clip(_) => u64::from(take.seek()) + frames_passed(take, ticks),
+        Spec::Colour(_) | Spec::RouteChannel(_) | Spec::RouteLayer(_) => 0,
+    }
+}
+
+/// Returns how many frames after its first one the playhead stands after `ticks` ticks.
+fn frames_passed(take: Take, ticks: u64) -> u64
+    ensures value { result ≡ (if take.looped then ticks % take.length else min ticks (take.length - 1)) }
+    ensures bound { result ≤ ticks }
+{
+    let length = u64::from(take.length());
+    if !take.looped() {
+        return ticks.min(length.saturating_sub(1));
+    }
+    if length == 0 { ticks } else { ticks % length }
+}
+
+/// Returns the column of a picture of `columns` columns that column `x` of a raster of `width` columns shows; rows alike.
+fn scaled_to(columns: u16, width: u16, x: u16) -> u64
+    requires { 0 < width }
+    ensures value { result ≡ scaled_to columns width x }
+    ensures bound { result < 2 ^ 33 }
+{
+    (2 * u64::from(x) + 1) * u64::from(columns) / (2 * u64::from(width))
+}
+
+/// Returns the pixel of a clip at a frame, column and row: transparent where it has no such frame.
+fn clip_pixel(clip: &Clip, frame: u64, column: u64, row: u64) -> Pixel
+    requires columns { column < 2 ^ 33 }
+    requires rows { row < 2 ^ 33 }
+    ensures { result ≡ clip_pixel clip.now frame column row }
+{
+    if frame >= u64::from(clip.frames()) {
+        return Pixel::transparent();
+    }
+    let size = clip.geometry();
+    let at = frame * size.frame_bytes() + 4 * (row * u64::from(size.width) + column);
+    pixel_at(clip.bytes(), at as usize)
+}
+
+/// Returns the pixel of the four bytes from this place on.
+fn pixel_at(bytes: &[u8], at: usize) -> Pixel
+    requires { at < 2 ^ 63 }
+    ensures { result ≡ pixel_of_bytes bytes.now at }
+{
+    Pixel::lowered(
+        byte_at(bytes, at),
+        byte_at(bytes, at + 1),
+        byte_at(bytes, at + 2),
+        byte_at(bytes, at + 3),
+    )
+}
+
+/// Returns the byte at a place, and 0 past the end.
+fn byte_at(bytes: &[u8], at: usize) -> u8
+    ensures { result ≡ slice_index bytes.now at }
+{
+    bytes.get(at).copied().unwrap_or(0)
+}

@@ -1,0 +1,30 @@
+use Rattle.std.proofs.Common.{◌≡◌, [], ap, sym, ◌∙◌, subst}
+use Rattle.amcp_text.specs.Lines.{line_of_text}
+use Rattle.amcp_text.specs.Reader as reader
+use Rattle.amcp_text.specs.ReaderState.{ReaderState}
+use Rattle.play_session.specs.Session.{IsBetweenLines, Represents}
+use Rattle.play_session.specs.SessionState.{SessionState}
+use Rattle.play_session.proofs.Fitting.{followed_fits}
+use Rattle.play_session.proofs.WholeLine.{Gives-whole}
+use Rattle.play_session.proofs.session.Session.take_line.Goals as goal
+
+pub returns-clause-gives : goal.returns-clause-gives
+returns-clause-gives c = λ between one_line progress s.
+    let inside = c.self.inside in
+    let before : SessionState = record { reader = inside.reader; batch_open = inside.batch.is_open; batch = inside.batch.commands; ended = inside.ended } in
+    let inner = subst (λ (session : SessionState). Represents c.args.config.now c.args.media.now session progress) (sym c.self.view_is) s in
+    let going : before.ended ≡ _ = ap (λ (session : SessionState). session.ended) c.self.view_is ∙ c.requires in
+    let dropped = subst (λ (r : ReaderState). reader.Represents r []) (sym c.follow.ensures.reader) c.clear.ensures in
+    Gives-whole c.args.config.now c.args.media.now c.meaning_of-meaning.result c.follow.result before c.follow.new.self c.args.text.now
+    (subst (λ (session : SessionState). IsBetweenLines session) (sym c.self.view_is) between) one_line going dropped
+    (rw c.of.ensures at c.meaning_of-meaning.ensures) c.follow.ensures.follows c.follow.ensures.ended progress inner
+
+pub returns-clause-fits : goal.returns-clause-fits
+returns-clause-fits c =
+    let inside = c.self.inside in
+    let before : SessionState = record { reader = inside.reader; batch_open = inside.batch.is_open; batch = inside.batch.commands; ended = inside.ended } in
+    followed_fits c.args.config.now c.args.media.now (line_of_text c.args.text.now) c.meaning_of-meaning.result c.follow.result before c.follow.new.self
+    (rw c.of.ensures at c.meaning_of-meaning.ensures) c.follow.ensures.follows
+
+pub returns-clause-between : goal.returns-clause-between
+returns-clause-between c = subst (λ (r : ReaderState). reader.Represents r []) (sym c.follow.ensures.reader) c.clear.ensures

@@ -1,0 +1,3 @@
+pub mod BatchState
+pub mod Meaning
+pub mod Following

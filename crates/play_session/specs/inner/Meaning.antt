@@ -1,0 +1,10 @@
+-- What a line of a connection was read as.
+use Rattle.history_model.specs.sessions.Line as line
+use Rattle.play_session.specs.declared.meaning.Meaning.{Meaning}
+use Rattle.play_session.specs.declared.meaning.Meaning.TheVariants as meaning
+
+-- the meaning in the definition of sessions
+abbrev pub meaning_view : Meaning → line.LineMeaning
+meaning_view meaning.Blank = line.Blank
+meaning_view (meaning.Wrong answer) = line.Wrong answer
+meaning_view (meaning.Asks asked) = line.Asks asked

@@ -1,0 +1,57 @@
+-- What a command is called, whether it only asks, and how the stage's answer to it is told to a client.
+use Rattle.std.specs.Prelude.{Bool, true, false}
+use Rattle.play_types.specs.declared.answer.Answer.{Answer}
+use Rattle.play_types.specs.declared.answer.Answer.TheVariants as answer
+use Rattle.play_types.specs.declared.command.Cmd.{Cmd}
+use Rattle.play_types.specs.declared.command.Cmd.TheVariants as cmd
+use Rattle.play_types.specs.declared.reply.Name.{Name}
+use Rattle.play_types.specs.declared.reply.Name.TheVariants as name
+use Rattle.play_types.specs.declared.reply.Reply.{Reply}
+use Rattle.play_types.specs.declared.reply.Reply.TheVariants as reply
+
+-- the name that a command begins with
+abbrev pub command_name : Cmd → Name
+command_name (cmd.Load place take) = name.Load
+command_name (cmd.LoadBg place take) = name.LoadBg
+command_name (cmd.Play place) = name.Play
+command_name (cmd.PlayTake place take) = name.Play
+command_name (cmd.Pause place) = name.Pause
+command_name (cmd.Resume place) = name.Resume
+command_name (cmd.StopLayer place) = name.Stop
+command_name (cmd.ClearLayer place) = name.Clear
+command_name (cmd.ClearChannel channel) = name.Clear
+command_name (cmd.SwapLayers one other transforms) = name.Swap
+command_name (cmd.SwapChannels one other transforms) = name.Swap
+command_name (cmd.Set setting) = name.Mixer
+command_name (cmd.CommitMixer channel) = name.Mixer
+command_name (cmd.ResetLayer place) = name.Mixer
+command_name (cmd.ResetChannel channel) = name.Mixer
+command_name (cmd.Value place prop) = name.Mixer
+command_name cmd.Info = name.Info
+
+-- whether a command only asks
+abbrev pub is_query : Cmd → Bool
+is_query (cmd.Load place take) = false
+is_query (cmd.LoadBg place take) = false
+is_query (cmd.Play place) = false
+is_query (cmd.PlayTake place take) = false
+is_query (cmd.Pause place) = false
+is_query (cmd.Resume place) = false
+is_query (cmd.StopLayer place) = false
+is_query (cmd.ClearLayer place) = false
+is_query (cmd.ClearChannel channel) = false
+is_query (cmd.SwapLayers one other transforms) = false
+is_query (cmd.SwapChannels one other transforms) = false
+is_query (cmd.Set setting) = false
+is_query (cmd.CommitMixer channel) = false
+is_query (cmd.ResetLayer place) = false
+is_query (cmd.ResetChannel channel) = false
+is_query (cmd.Value place prop) = true
+is_query cmd.Info = true
+
+-- the reply that tells a client the stage's answer to a command of this name
+abbrev pub answer_reply : Name → Answer → Reply
+answer_reply command answer.Done = reply.Done command
+answer_reply command (answer.Value micros) = reply.Value micros
+answer_reply command (answer.Info statuses) = reply.Info statuses
+answer_reply command answer.Refused = reply.Refused 403 command

@@ -1,0 +1,41 @@
+//! Why a file is no clip.
+
+use std::error::Error;
+use std::fmt;
+
+/// Why a file is no clip.
+#[derive(Clone, Copy, Debug, PartialEq, Eq)]
+pub enum ClipFault {
+    /// The first four bytes are not `RCLP`.
+    BadMagic,
+    /// The version is not 1.
+    BadVersion,
+    /// The header's field at this byte is not accepted, and those before it are.
+    BadField { at: usize },
+    /// The file has `had` bytes, fewer than the `needed` bytes of its header, or than its header announces.
+    Short { needed: u64, had: u64 },
+    /// This many bytes stand after the last frame.
+    Long { extra: u64 },
+    /// Memory ran out before the file was read.
+    OutOfMemory,
+}
+
+impl fmt::Display for ClipFault {
+    fn fmt<W: fmt::Write>(&self, f: &mut fmt::Formatter<W>) -> fmt::Result {
+        match self {
+            ClipFault::BadMagic => write!(f, "the file does not begin with RCLP"),
+            ClipFault::BadVersion => write!(f, "the version is not 1"),
+            ClipFault::BadField { at } => write!(
+                f,
+                "the header's field at byte {at} is out of range"
+            ),
+            ClipFault::Short { needed, had } => {
+                write!(f, "the file has {had} bytes where {needed} are needed")
+            }
+            ClipFault::Long { extra } => write!(f, "{extra} bytes stand after the last frame"),
+            ClipFault::OutOfMemory => write!(f, "out of memory"),
+        }
+    }
+}
+
+impl Error for ClipFault {}

@@ -1,0 +1,5 @@
+pub mod Halt
+pub mod Line
+pub mod Clients
+pub mod Player
+pub mod Taken

@@ -1,0 +1,84 @@
+-- The connections of a script, and what a line of one of them makes of its session.
+use Rattle.std.specs.Prelude.{◌≡◌, ℕ, Bool, true, false, Option, Some, None, List, [], ◌∷◌, ◌++◌, length, find}
+use Rattle.std.specs.List.{list_any, position}
+use Rattle.amcp_text.specs.Lines.{IsEnded, lines_of}
+use Rattle.play_types.specs.declared.command.Cmd.{Cmd}
+use Rattle.play_types.specs.declared.event.Tag.{Tag}
+use Rattle.history_model.specs.scripts.Line.{Said}
+use Rattle.history_model.specs.scripts.History.{Playout, PlayedLine, same_tag, texts_of, stream_of, given_up_of, said_step}
+use Rattle.history_model.specs.sessions.Session.{line_steps, is_end}
+use Rattle.history_model.specs.sessions.Session as model
+use Rattle.play_session.specs.Step.{viewed, gives_up}
+use Rattle.play_session.specs.Session as session
+use Rattle.play_session.specs.declared.step.Step.{Step}
+use Rattle.run_script.specs.declared.clients.Client.{Client}
+
+-- how far the session of a connection has come with the lines that were played
+abbrev pub progress_of : Tag → List PlayedLine → session.Progress
+progress_of tag played = record { stream = stream_of tag played; given_up = given_up_of tag played; given = length (texts_of tag played) }
+
+-- the session represents the stream of its connection, gave a step for each line and holds no unfinished one; once the
+-- connection has ended, it has a step that ends it
+abbrev pub IsServed : Playout → Bool → Client → List PlayedLine → Type 0
+IsServed playout false client played =
+    (client.session.ended ≡ false)
+    × session.Represents playout.config playout.names client.session (progress_of client.tag played)
+    × session.IsBetweenLines client.session
+IsServed playout true client played =
+    list_any is_end (line_steps playout.config playout.names (given_up_of client.tag played) (lines_of (stream_of client.tag played))) ≡ true
+
+-- the connection has a session: each of its texts is one line
+pub record ServesConnection (playout : Playout) (client : Client) (played : List PlayedLine) : Type 0 where
+  pub whole : IsEnded (stream_of client.tag played)
+  pub count : length (lines_of (stream_of client.tag played)) ≡ length (texts_of client.tag played)
+  pub served : IsServed playout client.session.ended client played
+
+-- a connection without a session has said nothing
+abbrev pub IsClient : Playout → Tag → Option Client → List PlayedLine → Type 0
+IsClient playout tag None played = texts_of tag played ≡ []
+IsClient playout tag (Some client) played = ServesConnection playout client played
+
+-- the session of a connection
+abbrev pub client_of : Tag → List Client → Option Client
+client_of tag clients = find (λ client. same_tag tag client.tag) clients
+
+-- each connection is served by its session
+abbrev pub AreClients : Playout → List Client → List PlayedLine → Type 0
+AreClients playout clients played = (tag : Tag) → IsClient playout tag (client_of tag clients) played
+
+-- whether the session gave the line up, out of memory
+abbrev pub gave_up : Option Step → Bool
+gave_up None = false
+gave_up (Some found) = gives_up found
+
+-- a line of a connection after the lines that were played before it
+pub record NextText : Type 0 where
+  pub playout : Playout
+  pub played : List PlayedLine
+  pub tag : Tag
+  pub text : List ℕ
+
+-- the line as it was played, where this step was found for it
+abbrev pub played_text : NextText → Option Step → PlayedLine
+played_text next found = record { line = Said next.tag next.text; given_up = gave_up found }
+
+-- the step that was found, with the batch that is asked for
+abbrev pub step_view : Option Step → List Cmd → Option model.Step
+step_view None commands = None
+step_view (Some found) commands = viewed found commands
+
+-- the line was taken: its step was found, none where the connection has ended before
+pub record ClientsTakeLine (next : NextText) (found : Option Step) (new : List Client) : Type 0 where
+  pub commands : List Cmd
+  pub given : said_step next.playout next.played (played_text next found) next.tag ≡ step_view found commands
+  pub serves : AreClients next.playout new (next.played ++ played_text next found ∷ [])
+
+-- the line was taken by the session of its connection
+pub record ClientTakesLine (next : NextText) (found : Option Step) (new : Client) : Type 0 where
+  pub commands : List Cmd
+  pub given : said_step next.playout next.played (played_text next found) next.tag ≡ step_view found commands
+  pub serves : ServesConnection next.playout new (next.played ++ played_text next found ∷ [])
+
+-- the first connection of this tag stands at this place
+abbrev pub IsPlaceOf : Tag → ℕ → List Client → Type 0
+IsPlaceOf tag at clients = position (λ (client : Client). same_tag tag client.tag) clients ≡ Some at

@@ -1,0 +1,153 @@
+-- Setting up: the first sound, and what a call leaves as it was.
+use Rattle.std.proofs.Common.{◌≡◌, ◌≢◌, ℕ, ◌+◌, false, List, [], refl, sym, ap, ◌∙◌, subst, arith, length, get_or, inl, inr}
+use Rattle.std.specs.Prelude.{Option, Some, None, option_map, option_and_then, Result, Ok, Err, All}
+use Rattle.std.specs.List.{list_any, position, position_or_len}
+use Rattle.std.specs.Result.{IsErrAnd}
+use Rattle.std.proofs.lemmas.Bool.{cases_Bool}
+use Rattle.std.proofs.lemmas.Bool.Decides.{nat_tests}
+use Rattle.amcp_text.proofs.FirstEnd.{position_or_len_some, position_or_len_none}
+use Rattle.std.proofs.lemmas.Grind.{common_steps}
+use Rattle.std.proofs.lemmas.List.Sums.{fails_before_first}
+use Rattle.std.proofs.lemmas.List.Elements.{All-from_get_or}
+use Rattle.play_types.specs.Config.{ChannelView, ConfigView}
+use Rattle.play_outside.specs.FolderState.{FolderState}
+use Rattle.play_outside.specs.Folder.{IsHeld, config_at, Misses}
+use Rattle.play_outside.specs.declared.folder.FileFault.{FileFault}
+use Rattle.play_outside.specs.declared.folder.FileFault.TheVariants as file
+use Rattle.config_file.specs.declared.fault.ConfigFault.{ConfigFault}
+use Rattle.config_file.specs.declared.fault.ConfigFault.TheVariants as config
+use Rattle.config_file.specs.Reading.{IsReadOf, config_in}
+use Rattle.clip_store.specs.declared.fault.ScanFault.{ScanFault}
+use Rattle.clip_store.specs.declared.fault.ScanFault.TheVariants as scan
+use Rattle.server_setup.specs.declared.setup.ServerSetup.{ServerSetup}
+use Rattle.server_setup.specs.declared.fault.RunFault.{RunFault}
+use Rattle.server_setup.specs.declared.fault.RunFault.TheVariants.{Usage, ConfigText, ConfigKey, BadLine, InputTooLong, MediaTwice, MediaTotal, Device, OutOfMemory}
+use Rattle.server_setup.specs.Fault.{fault_of_config, fault_of_file, fault_of_scan}
+use Rattle.server_setup.specs.Setup.{Scans, SetsUp}
+use Rattle.server_setup.specs.Silent.{IsAccepted, first_sound, has_sound, refused_of, sound_key}
+use Rattle.server_setup.specs.inner.Reading.{IsSilentRead, IsSoundFault, ReadsMedia}
+
+-- the first channel with sound stands past the end where there is none
+nowhere : (channels : List ChannelView) → position has_sound channels ≡ None → position_or_len has_sound channels ≡ length channels
+nowhere channels none = elim (cases_Bool (list_any has_sound channels)) [
+  | inl loud ↦ let within = position_or_len_some has_sound channels loud in grind (arith, common_steps)
+  | inr quiet ↦ position_or_len_none has_sound channels quiet
+]
+
+-- channels of which none has sound
+pub all_silent : (channels : List ChannelView) → position has_sound channels ≡ None → All (λ channel. channel.pairs ≡ 0) channels
+all_silent channels none =
+    let none_passes = nowhere channels none in
+    All-from_get_or (λ (channel : ChannelView). channel.pairs ≡ 0) channels no_channel
+    (λ at within.
+    let quiet : has_sound (get_or channels at no_channel) ≡ false = fails_before_first has_sound channels at no_channel (omega (arith, none_passes, within)) in
+    grind (arith, nat_tests))
+  where
+    no_channel : ChannelView
+    no_channel = record { width = 0; height = 0; pairs = 0; output = [] }
+
+-- a number counted from 1 is none where there is no place
+pub none_before : (at : Option ℕ) → option_map (λ n. n + 1) at ≡ None → at ≡ None
+none_before None none = refl
+none_before (Some at) none = absurd (cc none)
+
+-- bytes that are refused as a configuration
+pub refused_read : (bytes : List ℕ) (fault : ConfigFault) → IsReadOf bytes (Err fault) → IsSilentRead bytes (Err (fault_of_config fault))
+refused_read bytes config.NotToml read = read
+refused_read bytes (config.Key name) read = ap (option_and_then refused_of) read
+refused_read bytes config.OutOfMemory read = tt
+
+-- bytes of a configuration with sound
+pub sound_read : (bytes : List ℕ) (config : ConfigView) (number : ℕ) (fault : RunFault) → config_in bytes ≡ Some (Ok config) → first_sound config.channels ≡ Some number → IsSoundFault number fault
+    → IsSilentRead bytes (Err fault)
+sound_read bytes config number (ConfigKey name) read first key =
+    ap (option_and_then refused_of) read ∙ ap (option_map sound_key) first ∙ ap Some (sym key)
+sound_read bytes config number OutOfMemory read first key = tt
+sound_read bytes config number ConfigText read first key = absurd key
+sound_read bytes config number (MediaTwice name) read first key = absurd key
+sound_read bytes config number (MediaTotal total) read first key = absurd key
+sound_read bytes config number Device read first key = absurd key
+sound_read bytes config number Usage read first key = absurd key
+sound_read bytes config number (BadLine line) read first key = absurd key
+sound_read bytes config number InputTooLong read first key = absurd key
+
+-- a folder that gave no table
+pub shows_fault : (config : ConfigView) (fault : ScanFault) (before after : FolderState) → Scans config (Err fault) before after → ReadsMedia config (Err (fault_of_scan fault)) before after
+shows_fault config scan.ReadFault before after scans = scans
+shows_fault config (scan.TwoNames name) before after scans = scans
+shows_fault config (scan.TooLarge total) before after scans = scans
+shows_fault config scan.OutOfMemory before after scans = scans
+
+-- a configuration that was not read
+pub unread : (path : List ℕ) (fault : FileFault) (before after : FolderState) → Misses fault before after → SetsUp path (Err (fault_of_file fault)) before after
+unread path file.Failed before after misses = misses
+unread path file.OutOfMemory before after misses = misses
+
+-- bytes that are refused
+pub refused : (path bytes : List ℕ) (fault : RunFault) (before after : FolderState) → IsHeld (config_at path) bytes before.files → after ≡ before → IsSilentRead bytes (Err fault)
+    → SetsUp path (Err fault) before after
+refused path bytes ConfigText before after held same read = ((bytes, held, read), same)
+refused path bytes (ConfigKey name) before after held same read = ((bytes, held, read), same)
+refused path bytes OutOfMemory before after held same read = same
+refused path bytes (MediaTwice name) before after held same read = absurd read
+refused path bytes (MediaTotal total) before after held same read = absurd read
+refused path bytes Device before after held same read = absurd read
+refused path bytes Usage before after held same read = absurd read
+refused path bytes (BadLine line) before after held same read = absurd read
+refused path bytes InputTooLong before after held same read = absurd read
+
+shown_from : (path bytes : List ℕ) (config : ConfigView) (result : Result ServerSetup RunFault) (before after : FolderState) → IsHeld (config_at path) bytes before.files → IsAccepted bytes config
+    → ReadsMedia config result before after → SetsUp path result before after
+shown_from path bytes config (Ok setup) before after held accepted shows = (
+  (bytes, held, subst (λ (c : ConfigView). IsAccepted bytes c) (sym shows.0) accepted),
+  subst (λ (c : ConfigView). Scans c (Ok setup.media) before after) (sym shows.0) shows.1,
+  shows.2,
+)
+shown_from path bytes config (Err (MediaTwice name)) before after held accepted shows = (config, (bytes, held, accepted), shows)
+shown_from path bytes config (Err (MediaTotal total)) before after held accepted shows = (config, (bytes, held, accepted), shows)
+shown_from path bytes config (Err Device) before after held accepted shows = shows
+shown_from path bytes config (Err OutOfMemory) before after held accepted shows = shows
+shown_from path bytes config (Err ConfigText) before after held accepted shows = absurd shows
+shown_from path bytes config (Err (ConfigKey name)) before after held accepted shows = absurd shows
+shown_from path bytes config (Err Usage) before after held accepted shows = absurd shows
+shown_from path bytes config (Err (BadLine line)) before after held accepted shows = absurd shows
+shown_from path bytes config (Err InputTooLong) before after held accepted shows = absurd shows
+
+-- the clips of a configuration that is accepted
+pub shown : (path bytes : List ℕ) (config : ConfigView) (result : Result ServerSetup RunFault) (before state after : FolderState) → IsHeld (config_at path) bytes before.files → state ≡ before
+    → IsAccepted bytes config → ReadsMedia config result state after → SetsUp path result before after
+shown path bytes config result before state after held same accepted shows =
+    shown_from path bytes config result before after held accepted (subst (λ (s : FolderState). ReadsMedia config result s after) same shows)
+
+-- every answer but a fault of the device leaves the folder as it was
+pub kept_but_device : (path : List ℕ) (result : Result ServerSetup RunFault) (before after : FolderState) → SetsUp path result before after → result ≢ Err Device → after ≡ before
+kept_but_device path (Ok setup) before after sets other = sets.1.1
+kept_but_device path (Err ConfigText) before after sets other = sets.1
+kept_but_device path (Err (ConfigKey name)) before after sets other = sets.1
+kept_but_device path (Err (MediaTwice name)) before after sets other = sets.2.1
+kept_but_device path (Err (MediaTotal total)) before after sets other = sets.2.2
+kept_but_device path (Err Device) before after sets other = absurd (other refl)
+kept_but_device path (Err OutOfMemory) before after sets other = sets
+kept_but_device path (Err Usage) before after sets other = absurd sets
+kept_but_device path (Err (BadLine line)) before after sets other = absurd sets
+kept_but_device path (Err InputTooLong) before after sets other = absurd sets
+
+-- no answer changes what is held
+pub files_kept : (path : List ℕ) (result : Result ServerSetup RunFault) (before after : FolderState) → SetsUp path result before after → after.files ≡ before.files
+files_kept path (Ok setup) before after sets = ap (λ (s : FolderState). s.files) sets.1.1
+files_kept path (Err ConfigText) before after sets = ap (λ (s : FolderState). s.files) sets.1
+files_kept path (Err (ConfigKey name)) before after sets = ap (λ (s : FolderState). s.files) sets.1
+files_kept path (Err (MediaTwice name)) before after sets = ap (λ (s : FolderState). s.files) sets.2.1
+files_kept path (Err (MediaTotal total)) before after sets = ap (λ (s : FolderState). s.files) sets.2.2
+files_kept path (Err Device) before after sets = sets.0
+files_kept path (Err OutOfMemory) before after sets = ap (λ (s : FolderState). s.files) sets
+files_kept path (Err Usage) before after sets = absurd sets
+files_kept path (Err (BadLine line)) before after sets = absurd sets
+files_kept path (Err InputTooLong) before after sets = absurd sets
+
+-- the fault of a folder that gave no table, handed on
+pub handed_on : (config : ConfigView) (fault : ScanFault) (result : Result ServerSetup RunFault) (before after : FolderState) → Scans config (Err fault) before after
+    → IsErrAnd result (λ e. e ≡ fault_of_scan fault) → ReadsMedia config result before after
+handed_on config fault (Ok setup) before after scans handed = absurd handed
+handed_on config fault (Err e) before after scans handed =
+    subst (λ (f : RunFault). ReadsMedia config (Err f) before after) (sym handed) (shows_fault config fault before after scans)

@@ -1,0 +1,4 @@
+pub mod Fault
+pub mod Silent
+pub mod Setup
+pub mod inner

@@ -1,0 +1,158 @@
+//! The faults of a run.
+ghost use Rattle.std.specs.Prelude.{◌≡◌};
+ghost use Rattle.play_outside.specs.Sink.{Sends};
+ghost use Rattle.server_setup.specs.Fault.{fault_line, fault_of_config, fault_of_file, fault_of_scan, status_of};
+ghost use Rattle.server_setup.specs.declared.fault.RunFault.TheVariants.{OutOfMemory};
+
+use clip_store::ScanFault;
+use config_file::ConfigFault;
+use itoa::Buffer;
+use play_outside::{FileFault, Sent, Sink, send_parts};
+use play_types::Text;
+use std::alloc::AllocError;
+use std::error::Error;
+use std::fmt;
+
+/// Why a run of `playrun` or of `playd` ended with a status above 0.
+#[derive(Debug, Drop)]
+pub enum RunFault {
+    /// The command line is none that the program takes.
+    Usage,
+    /// The configuration is not TOML.
+    ConfigText,
+    /// This key of the configuration is refused, as `rate` or `channel.1.pairs`.
+    ConfigKey(Text),
+    /// The line of a script with this number, counted from 1, is none that a script may have.
+    BadLine(u64),
+    /// The script has more than 4,294,967,296 bytes.
+    InputTooLong,
+    /// Two clip files have this name.
+    MediaTwice(Text),
+    /// The clip files are too large: this sum of their lengths, in bytes, is above 1,073,741,824.
+    MediaTotal(u64),
+    /// A read or a write failed.
+    Device,
+    /// Memory ran out.
+    OutOfMemory,
+}
+
+impl RunFault {
+    /// Returns the exit status: 1 for the command line, 2 for the configuration and the script, 3 for the clips, 4 for a
+    /// device and 5 for memory.
+    pub fn status(&self) -> u8
+        ensures { result ≡ status_of self.now }
+    {
+        match self {
+            RunFault::Usage => 1,
+            RunFault::ConfigText
+            | RunFault::ConfigKey(_)
+            | RunFault::BadLine(_)
+            | RunFault::InputTooLong => 2,
+            RunFault::MediaTwice(_) | RunFault::MediaTotal(_) => 3,
+            RunFault::Device => 4,
+            RunFault::OutOfMemory => 5,
+        }
+    }
+
+    /// Writes the line that says what went wrong. It takes no memory.
+    pub fn send_line<K: Sink>(&self, to: &mut K) -> Sent
+        ensures { Sends result (fault_line self.now) (K.state to.old) (K.state to.new) }
+    {
+        let mut digits = Buffer::new();
+        match self {
+            RunFault::Usage => send_parts(&[b"E usage\n"], to),
+            RunFault::ConfigText => send_parts(&[b"E config text\n"], to),
+            RunFault::ConfigKey(key) => {
+                send_parts(&[b"E config key ", key.as_str().as_bytes(), b"\n"], to)
+            }
+            RunFault::BadLine(number) => {
+                send_parts(&[b"E line ", digits.format(*number).as_bytes(), b"\n"], to)
+            }
+            RunFault::InputTooLong => send_parts(&[b"E input too long\n"], to),
+            RunFault::MediaTwice(name) => {
+                send_parts(&[b"E media twice ", name.as_str().as_bytes(), b"\n"], to)
+            }
+            RunFault::MediaTotal(total) => {
+                send_parts(
+                    &[b"E media total ", digits.format(*total).as_bytes(), b"\n"],
+                    to,
+                )
+            }
+            RunFault::Device => send_parts(&[b"E device\n"], to),
+            RunFault::OutOfMemory => send_parts(&[b"E memory\n"], to),
+        }
+    }
+}
+
+impl fmt::Display for RunFault {
+    fn fmt<W: fmt::Write>(&self, f: &mut fmt::Formatter<W>) -> fmt::Result {
+        match self {
+            RunFault::Usage => write!(f, "the command line is none that the program takes"),
+            RunFault::ConfigText => write!(f, "the configuration is not TOML"),
+            RunFault::ConfigKey(key) => {
+                let key = key.as_str();
+                write!(f, "the key {key} of the configuration is refused")
+            }
+            RunFault::BadLine(number) => write!(f, "line {number} is none that a script may have"),
+            RunFault::InputTooLong => write!(f, "the script has more than 4,294,967,296 bytes"),
+            RunFault::MediaTwice(name) => {
+                let name = name.as_str();
+                write!(f, "two clip files have the name {name}")
+            }
+            RunFault::MediaTotal(total) => {
+                write!(
+                    f,
+                    "the clip files have {total} bytes, more than 1,073,741,824"
+                )
+            }
+            RunFault::Device => write!(f, "a read or a write failed"),
+            RunFault::OutOfMemory => write!(f, "out of memory"),
+        }
+    }
+}
+
+impl Error for RunFault {}
+
+impl From<FileFault> for RunFault {
+    ghost from_gives = { λ error fault. fault ≡ fault_of_file error };
+
+    fn from(error: FileFault) -> RunFault {
+        match error {
+            FileFault::Failed => RunFault::Device,
+            FileFault::OutOfMemory => RunFault::OutOfMemory,
+        }
+    }
+}
+
+impl From<ConfigFault> for RunFault {
+    ghost from_gives = { λ error fault. fault ≡ fault_of_config error };
+
+    fn from(error: ConfigFault) -> RunFault {
+        match error {
+            ConfigFault::NotToml => RunFault::ConfigText,
+            ConfigFault::Key(name) => RunFault::ConfigKey(name),
+            ConfigFault::OutOfMemory => RunFault::OutOfMemory,
+        }
+    }
+}
+
+impl From<ScanFault> for RunFault {
+    ghost from_gives = { λ error fault. fault ≡ fault_of_scan error };
+
+    fn from(error: ScanFault) -> RunFault {
+        match error {
+            ScanFault::ReadFault => RunFault::Device,
+            ScanFault::TwoNames { name } => RunFault::MediaTwice(name),
+            ScanFault::TooLarge { total } => RunFault::MediaTotal(total),
+            ScanFault::OutOfMemory => RunFault::OutOfMemory,
+        }
+    }
+}
+
+impl From<AllocError> for RunFault {
+    ghost from_gives = { λ _ fault. fault ≡ OutOfMemory };
+
+    fn from(_error: AllocError) -> RunFault {
+        RunFault::OutOfMemory
+    }
+}

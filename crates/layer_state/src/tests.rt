@@ -2,7 +2,10 @@
 mod lives;
 
 use crate::{Layer, Shown};
-use lives::{Asked, LIVES, Life, Source, Step};
+use lives::{
+    AUTOMATIC_STARTS, Asked, BROKEN_TRANSITIONS, DUE_STARTS, LOADS_AND_PLAYS, Life,
+    PAUSES_AND_STOPS, PICTURES, Source, Step, TRANSITIONS,
+};
 use play_types::{Curve, Kind, MAX_TICKS, Spec, Take, Trans};
 use std::test::Fail;
 
@@ -111,7 +114,43 @@ fn first_wrong(lives: &[Life]) -> Result<Option<(&'static str, usize)>, Fail> {
 }
 
 #[test]
-fn layers_show_what_the_table_says(rt: HostRuntime) -> Result<(), Fail> {
-    assert_eq!(rt; first_wrong(&LIVES)?, None);
+fn a_content_shows_its_frames(rt: HostRuntime) -> Result<(), Fail> {
+    assert_eq!(rt; first_wrong(&PICTURES)?, None);
+    Ok(())
+}
+
+#[test]
+fn loads_and_plays(rt: HostRuntime) -> Result<(), Fail> {
+    assert_eq!(rt; first_wrong(&LOADS_AND_PLAYS)?, None);
+    Ok(())
+}
+
+#[test]
+fn pauses_and_stops(rt: HostRuntime) -> Result<(), Fail> {
+    assert_eq!(rt; first_wrong(&PAUSES_AND_STOPS)?, None);
+    Ok(())
+}
+
+#[test]
+fn automatic_starts(rt: HostRuntime) -> Result<(), Fail> {
+    assert_eq!(rt; first_wrong(&AUTOMATIC_STARTS)?, None);
+    Ok(())
+}
+
+#[test]
+fn automatic_starts_when_they_are_due(rt: HostRuntime) -> Result<(), Fail> {
+    assert_eq!(rt; first_wrong(&DUE_STARTS)?, None);
+    Ok(())
+}
+
+#[test]
+fn transitions(rt: HostRuntime) -> Result<(), Fail> {
+    assert_eq!(rt; first_wrong(&TRANSITIONS)?, None);
+    Ok(())
+}
+
+#[test]
+fn commands_in_transitions(rt: HostRuntime) -> Result<(), Fail> {
+    assert_eq!(rt; first_wrong(&BROKEN_TRANSITIONS)?, None);
     Ok(())
 }

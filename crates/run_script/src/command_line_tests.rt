@@ -1,5 +1,5 @@
 //! What command lines name.
-use crate::command_line::{CommandLine, command_line_of};
+use crate::command_line::CommandLine;
 use std::alloc::Global;
 use std::test::Fail;
 
@@ -27,15 +27,15 @@ run => none
 play --config a => none
 run --Config a => none";
 
-/// What the words name, as one line.
-fn form_told(alloc: Global, command_line: Option<CommandLine<'_>>) -> Result<String, Fail> {
+/// Returns what the words name, as one line.
+fn named_by(alloc: Global, command_line: Option<CommandLine<'_>>) -> Result<String, Fail> {
     match command_line {
         Some(CommandLine::Plain(size)) => Ok(format!(in alloc;
             "{}x{}+{}",
             size.width, size.height, size.pairs
         )?),
-        Some(CommandLine::Configured { file, digests }) => Ok(format!(in alloc;
-            "{file} {digests}"
+        Some(CommandLine::Configured { path, digests }) => Ok(format!(in alloc;
+            "{path} {digests}"
         )?),
         None => Ok(String::from_str(alloc, "none")?),
     }
@@ -44,14 +44,14 @@ fn form_told(alloc: Global, command_line: Option<CommandLine<'_>>) -> Result<Str
 #[test]
 fn command_lines(rt: HostRuntime) -> Result<(), Fail> {
     let alloc = rt.alloc();
-    assert!(rt; command_line_of(&[]).is_none());
+    assert!(rt; CommandLine::read(&[]).is_none());
     for row in LINES.lines() {
         let (line, wanted) = row.split_once(" => ").ok_or("a row")?;
         let mut words = Vec::new(alloc);
         for word in line.split_whitespace() {
             words.push(String::from_str(alloc, word)?)?;
         }
-        let found = form_told(alloc, command_line_of(words.as_slice()))?;
+        let found = named_by(alloc, CommandLine::read(words.as_slice()))?;
         assert_eq!(rt; found.as_str(), wanted, "{row}");
     }
     Ok(())

@@ -131,7 +131,8 @@ pub struct Life {
 use Source::{Blue, Clip, Other, Red, Route};
 use Step::{Clear, ComesIn, Load, LoadBg, Mixes, Nothing, Pause, Play, Resume, Shows, Start, Stop};
 
-pub static LIVES: [Life; 56] = [
+/// Which frames of a content are shown.
+pub static PICTURES: [Life; 9] = [
     Life {
         name: "a place that holds nothing",
         steps: &[Nothing(2)],
@@ -168,6 +169,10 @@ pub static LIVES: [Life; 56] = [
         name: "a route has one picture",
         steps: &[Start(ROUTE), Shows(Route, &[0, 0])],
     },
+];
+
+/// What LOAD, LOADBG and PLAY do.
+pub static LOADS_AND_PLAYS: [Life; 9] = [
     Life {
         name: "LOAD shows the first picture, paused",
         steps: &[
@@ -231,6 +236,10 @@ pub static LIVES: [Life; 56] = [
         name: "PLAY starts a background unpaused",
         steps: &[Load(RED), Start(CLIP), Shows(Clip, &[0, 1])],
     },
+];
+
+/// What PAUSE, RESUME, STOP and CLEAR do.
+pub static PAUSES_AND_STOPS: [Life; 8] = [
     Life {
         name: "a paused clip shows the picture that comes next",
         steps: &[
@@ -307,6 +316,10 @@ pub static LIVES: [Life; 56] = [
             Nothing(1),
         ],
     },
+];
+
+/// Over what a background with AUTO starts by itself.
+pub static AUTOMATIC_STARTS: [Life; 9] = [
     Life {
         name: "AUTO over nothing",
         steps: &[LoadBg(BLUE_NEXT), Shows(Blue, &[0, 0])],
@@ -374,6 +387,10 @@ pub static LIVES: [Life; 56] = [
             Shows(Blue, &[0]),
         ],
     },
+];
+
+/// When it starts by itself.
+pub static DUE_STARTS: [Life; 8] = [
     Life {
         name: "AUTO over a clip that is paused on its last frame",
         steps: &[
@@ -458,6 +475,10 @@ pub static LIVES: [Life; 56] = [
             Shows(Clip, &[1, 2, 2]),
         ],
     },
+];
+
+/// What a transition shows.
+pub static TRANSITIONS: [Life; 7] = [
     Life {
         name: "a MIX over a colour",
         steps: &[
@@ -521,6 +542,10 @@ pub static LIVES: [Life; 56] = [
             Mixes(Blue, Clip, &[(0, 2, 1), (0, 2, 2)]),
         ],
     },
+];
+
+/// What a command in a transition does.
+pub static BROKEN_TRANSITIONS: [Life; 6] = [
     Life {
         name: "PAUSE in a transition",
         steps: &[

@@ -1,13 +1,9 @@
--- A stream that a reader takes in pieces. However it is cut, the lines that were told are its first lines.
+-- A stream that a reader takes in pieces. However it is cut, the lines that the reader returned are its first lines.
 use Rattle.std.proofs.Common.{◌≡◌, ℕ, List, [], ◌∷◌, ◌++◌, refl, sym, ap, ◌∙◌, append_assoc, append-nil}
 use Rattle.std.specs.Prelude.{Some}
 use Rattle.amcp_text.specs.Lines.{Line, lines_of}
-use Rattle.amcp_text.specs.Reader.{IsLineOf, line_view}
+use Rattle.amcp_text.specs.Reader.{HasTold, IsLineOf, line_view}
 use Rattle.amcp_text.specs.declared.line_reader.LineEvent.{LineEvent}
-
--- of what was taken of a stream these lines were told, and the reader stands for the bytes after them
-pub record HasTold (taken : List ℕ) (lines : List Line) (bytes : List ℕ) : Type 0 where
-  pub first : (rest : List ℕ) → lines_of (taken ++ rest) ≡ lines ++ lines_of (bytes ++ rest)
 
 -- before the stream
 pub told_nothing : HasTold [] [] []
@@ -21,7 +17,7 @@ told_more piece {taken} {bytes} {lines} told = record {
       ∙ ap (λ (bs : List ℕ). lines ++ lines_of bs) (sym (append_assoc bytes piece rest));
 }
 
--- a line was told and dropped
+-- a line was returned and dropped
 pub told_line : (event : LineEvent) {taken bytes : List ℕ} {lines : List Line} → HasTold taken lines bytes → IsLineOf (Some event) bytes
     → HasTold taken (lines ++ line_view event ∷ []) []
 told_line event {lines = lines} told tells = record {
@@ -29,7 +25,7 @@ told_line event {lines = lines} told tells = record {
       told.first rest ∙ ap (λ (ls : List Line). lines ++ ls) (tells rest) ∙ sym (append_assoc lines (line_view event ∷ []) (lines_of rest));
 }
 
--- at the end of the stream, where no line is held, all its lines were told
+-- where no line is held, all lines of the bytes that were taken were returned
 pub told_all : {taken bytes : List ℕ} {lines : List Line} → HasTold taken lines bytes → lines_of bytes ≡ [] → lines_of taken ≡ lines
 told_all {taken} {bytes} {lines} told none =
     ap lines_of (sym (append-nil taken)) ∙ told.first []

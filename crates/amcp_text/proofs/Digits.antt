@@ -55,7 +55,7 @@ by_digits least most text true digits some above =
     ap (option_and_then (within least most)) (whole_number-digits text some digits) ∙ within-above least most (digits_value 10 text) above
 by_digits least most text false digits some above = ap (option_and_then (within least most)) (whole_number-none text digits)
 
--- a text whose front is above the upper end has no number within the ends
+-- a text that begins with a number above the upper end has no number within the ends
 pub number_within-large : (least most : ℕ) (text : List ℕ) (i : ℕ) → 0 < length text → most < digits_value 10 (take i text) → number_within least most text ≡ None
 number_within-large least most text i some above =
     by_digits least most text (list_all is_ascii_digit text) refl some

@@ -8,4 +8,3 @@ pub mod Reading
 pub mod ReadingText
 pub mod TextLaws
 pub mod Digits
-pub mod Examples

@@ -1,4 +1,4 @@
--- The lines of a stream, taken from its front.
+-- The lines of a stream, one after another.
 use Rattle.std.proofs.Common.{◌≡◌, ℕ, ◌-◌, ◌<◌, ◌≤◌, suc, true, false, List, [], ◌∷◌, ◌++◌, map, take, length, refl, sym, ap, ◌∙◌, arith, inl, inr, append_assoc, append-nil}
 use Rattle.std.specs.List.{list_any, slice_split}
 use Rattle.std.specs.Str.{chars, is_utf8, IsUtf8}
@@ -84,11 +84,11 @@ parts_append part (x ∷ xs) rest h = elim (cases_Bool (is_line_end x)) [
 -- the lines of a stream that is cut at a line end
 pub lines_of-append : (whole rest : List ℕ) → IsEnded whole → lines_of (whole ++ rest) ≡ lines_of whole ++ lines_of rest
 lines_of-append whole rest (inl none) = rw none refl
-lines_of-append whole rest (inr (front, e)) =
-    rw (e, append_assoc front (10 ∷ []) rest, ← map-append line_of (ended_parts (front ++ 10 ∷ [])) (ended_parts rest))
-    (ap (map line_of) (parts_append [] front rest refl))
+lines_of-append whole rest (inr (prefix, e)) =
+    rw (e, append_assoc prefix (10 ∷ []) rest, ← map-append line_of (ended_parts (prefix ++ 10 ∷ [])) (ended_parts rest))
+    (ap (map line_of) (parts_append [] prefix rest refl))
 
 -- one whole line after another
 pub IsEnded-append : (a b : List ℕ) → IsEnded a → IsEnded b → IsEnded (a ++ b)
 IsEnded-append a b h (inl none) = rw (none, append-nil a) h
-IsEnded-append a b h (inr (front, e)) = inr (a ++ front, rw (e, append_assoc a front (10 ∷ [])) refl)
+IsEnded-append a b h (inr (prefix, e)) = inr (a ++ prefix, rw (e, append_assoc a prefix (10 ∷ [])) refl)

@@ -1,4 +1,4 @@
--- What a line reader keeps, and the bytes that it stands for.
+-- What a line reader keeps, and the bytes that it represents.
 use Rattle.std.proofs.Common.{◌≡◌, ℕ, ◌+◌, ◌-◌, ◌<◌, ◌≤◌, min, true, false, cond, ◌||◌, List, [], ◌∷◌, ◌++◌, take, length, get_or, refl, sym, ap, ◌∙◌, arith, inl, inr, append_assoc}
 use Rattle.std.proofs.Math.Bool.{or-false}
 use Rattle.std.specs.Prelude.{Some, None, nat_lt, ◌==◌, slice_index}
@@ -16,7 +16,7 @@ use Rattle.amcp_text.specs.Reader.{Represents, with_text, line_kept}
 use Rattle.amcp_text.proofs.FirstEnd.{before_first_none, after_first_none, before_first_at, after_first_at, cut_at_first, list_any-before_first, list_any_from_position, list_any-take_position}
 use Rattle.amcp_text.proofs.LineLaws.{lines_of_none, lines_of_at}
 
--- what there is room for is the front of the text so far
+-- what is kept is a prefix of the text so far
 take_kept : (kept text : List ℕ) → length kept ≤ 4097
     → kept ++ take (min (length text) (4097 - length kept)) text ≡ take 4097 (kept ++ text)
 take_kept kept text fits =
@@ -35,7 +35,7 @@ with_text_whole r text kept fits e whole =
     let short = le-ltb 4097 (length (r.kept ++ text)) (omega (arith, length-append r.kept text)) in
     rw (all, short, or-false r.over) refl
 
--- only a front of the text was kept
+-- only a prefix of the text was kept
 pub with_text_over : (r : ReaderState) (text kept : List ℕ) → length r.kept ≤ 4097
     → kept ≡ r.kept ++ take (min (length text) (4097 - length r.kept)) text
     → min (length text) (4097 - length r.kept) < length text
@@ -45,8 +45,8 @@ with_text_over r text kept fits e part =
     let long = lt-ltb 4097 (length (r.kept ++ text)) (omega (arith, length-append r.kept text)) in
     rw (all, or_right r.over (nat_lt 4097 (length (r.kept ++ text))) long) refl
 
-take_front : (n : ℕ) (xs ys : List ℕ) → take n (take n xs ++ ys) ≡ take n (xs ++ ys)
-take_front n xs ys = elim (cases_lt (length xs) n) [
+take_prefix : (n : ℕ) (xs ys : List ℕ) → take n (take n xs ++ ys) ≡ take n (xs ++ ys)
+take_prefix n xs ys = elim (cases_lt (length xs) n) [
   | inl short ↦ rw (take_all n xs (omega arith)) refl
   | inr long ↦
       rw (take-append-le n (take n xs) ys (omega (arith, length-take n xs)), take-take n n xs (omega arith), take-append-le n xs ys long) refl
@@ -67,7 +67,7 @@ Represents-text r bytes text s unheld none =
     let over = s.over ∙ ap (λ (bs : List ℕ). nat_lt 4097 (length bs)) all in
     record {
       one_line = after_first_none is_line_end (bytes ++ text) joined;
-      kept = rw (all_joined, kept) (take_front 4097 bytes text);
+      kept = rw (all_joined, kept) (take_prefix 4097 bytes text);
       over = rw (all_joined, kept, over) (over_more 4097 bytes text);
       held = unheld ∙ sym joined;
     }

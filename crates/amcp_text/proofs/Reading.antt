@@ -1,4 +1,4 @@
--- A line that is read from its front: what the parts that are left give, after those that were read.
+-- A line that is read part by part: what the parts that are left give, after those that were read.
 use Rattle.std.proofs.Common.{◌≡◌, ℕ, ◌+◌, Bool, true, false, cond, not, ◌&&◌, List, [], ◌∷◌, ◌++◌, map, length, Result, Ok, Err, refl, sym, ap, ◌∙◌, arith, inl, inr, append_assoc, append-nil, add_assoc, add-zero, zero-add}
 use Rattle.std.specs.Prelude.{Option, Some, None, is_some, nat_lt, ◌==◌, filter, sum_by}
 use Rattle.std.specs.List.{before_first, before_last, list_any, slice_split, onto_first, filter_map, position_or_len}

@@ -12,22 +12,46 @@ use Rattle.amcp_text.specs.Tokens.{words_of}
 use Rattle.amcp_text.specs.declared.token.TokenFault.TheVariants.{OpenQuote, BadEscape}
 use Rattle.amcp_text.proofs.Reading.{Read, answer, begun, turned, answer_start, answer_mark, answer_letter, answer_escape, answer_gap, answer_end, answer_open, answer_bad}
 
--- what was read up to a byte, and up to the backslash before it where an escape has begun
-abbrev pub read_up_to : List (List ℕ) → Bool → List ℕ → Option ℕ → Option ℕ → ℕ → Read
-read_up_to words has_begun word quote escape offset =
-    record { words = words; word = cond has_begun (Some (chars word)) None; quote = quote; place = unwrap_or escape offset }
+-- where the reader of a line's text stands
+pub record ReaderAt : Type 0 where
+  -- the bytes of the line
+  pub line : List ℕ
+  -- the words that ended before here
+  pub words : List (List ℕ)
+  -- whether a word has begun that has not ended
+  pub has_begun : Bool
+  -- the bytes of that word, and none where no word has begun
+  pub word : List ℕ
+  -- the byte at which the open quotes were opened, where quotes are open
+  pub quote : Option ℕ
+  -- the byte of the backslash before here, where an escape has begun
+  pub escape : Option ℕ
+  -- the number of bytes of the line before here
+  pub offset : ℕ
+  -- the bytes of the line from here on
+  pub rest : List ℕ
 
--- the characters that are left, from there on
+-- what was read up to here, and where an escape has begun, up to its backslash
+abbrev pub read_before : ReaderAt → Read
+read_before s =
+    record { words = s.words; word = cond s.has_begun (Some (chars s.word)) None; quote = s.quote; place = unwrap_or s.escape s.offset }
+
+-- the characters that are left from there on: those of the rest, after the backslash where an escape has begun
 abbrev pub unread : Option ℕ → List ℕ → List ℕ
 unread None rest = chars rest
 unread (Some start) rest = 92 ∷ chars rest
 
 -- what was read and what is left give the words of the line
-pub record Reads (line : List ℕ) (words : List (List ℕ)) (has_begun : Bool) (word : List ℕ) (quote escape : Option ℕ) (offset : ℕ) (rest : List ℕ) : Type 0 where
-  pub utf8 : IsUtf8 rest
-  pub empty : has_begun ≡ false → word ≡ []
-  pub begun_at : IfSome escape (λ start. start + 1 ≡ offset)
-  pub told : answer (read_up_to words has_begun word quote escape offset) (parts_of (unread escape rest)) ≡ words_of (chars line)
+pub record Reads (s : ReaderAt) : Type 0 where
+  pub utf8 : IsUtf8 s.rest
+  pub empty : s.has_begun ≡ false → s.word ≡ []
+  pub begun_at : IfSome s.escape (λ start. start + 1 ≡ s.offset)
+  pub told : answer (read_before s) (parts_of (unread s.escape s.rest)) ≡ words_of (chars s.line)
+
+-- the next character of the text, and the offset and the bytes after it
+pub record IsNext (s : ReaderAt) (c offset : ℕ) (rest : List ℕ) : Type 0 where
+  pub bytes : s.rest ≡ encode_utf8 c ++ rest
+  pub step : offset ≡ s.offset + length (encode_utf8 c)
 
 begun_is : (has_begun : Bool) (word : List ℕ) → (has_begun ≡ false → word ≡ []) → begun (cond has_begun (Some (chars word)) None) ≡ chars word
 begun_is true word empty = refl
@@ -42,7 +66,7 @@ chars_push : (word : List ℕ) (c : ℕ) → IsUtf8 word → all_scalars (c ∷ 
 chars_push word c utf8 scalar =
     chars-append word (encode_utf8 c) utf8 ∙ ap (λ (cs : List ℕ). chars word ++ cs) (ap chars (sym (append-nil (encode_utf8 c))) ∙ chars-encodes (c ∷ []) scalar)
 
--- an escape is of two bytes, and stands for a character
+-- an escape has two bytes, and denotes a character
 pub record IsEscape (c d : ℕ) : Type 0 where
   pub ascii : c < 128
   pub scalar : all_scalars (d ∷ []) ≡ true
@@ -94,115 +118,122 @@ pub no_gap_at_letter : (c : ℕ) (quote : Option ℕ) → is_blank c ≡ false �
 no_gap_at_letter c quote other = and_left (is_blank c) (not (is_some quote)) other
 
 -- the end of the text
-module _ (line : List ℕ) (words : List (List ℕ)) (has_begun : Bool) (word : List ℕ) (quote : Option ℕ) (offset : ℕ) (rest : List ℕ) (ended : length rest ≡ 0) where
-  nothing_left : chars rest ≡ []
-  nothing_left = ap chars (nil_from_length rest ended) ∙ chars-nil
+module _ {s : ReaderAt} (reads : Reads s) (ended : length s.rest ≡ 0) where
+  nothing_left : chars s.rest ≡ []
+  nothing_left = ap chars (nil_from_length s.rest ended) ∙ chars-nil
 
-  pub end_in_escape : (start : ℕ) → Reads line words has_begun word quote (Some start) offset rest → words_of (chars line) ≡ Err (BadEscape start)
-  end_in_escape start s =
-      let told = rw nothing_left at s.told in
-      sym told ∙ answer_bad (read_up_to words has_begun word quote (Some start) offset) []
+  pub end_in_escape : (start : ℕ) → s.escape ≡ Some start → words_of (chars s.line) ≡ Err (BadEscape start)
+  end_in_escape start in_escape =
+      let told = rw (in_escape, nothing_left) at reads.told in
+      sym told ∙ answer_bad _ []
 
-  pub end_in_quotes : (mark : ℕ) → quote ≡ Some mark → Reads line words has_begun word quote None offset rest → words_of (chars line) ≡ Err (OpenQuote mark)
-  end_in_quotes mark unclosed s =
-      let told = rw nothing_left at s.told in
-      sym told ∙ answer_open (read_up_to words has_begun word quote None offset) mark unclosed
+  pub end_in_quotes : (mark : ℕ) → s.escape ≡ None → s.quote ≡ Some mark → words_of (chars s.line) ≡ Err (OpenQuote mark)
+  end_in_quotes mark no_escape unclosed =
+      let told = rw (no_escape, nothing_left) at reads.told in
+      sym told ∙ answer_open _ mark unclosed
 
-  pub end_of_words : quote ≡ None → Reads line words has_begun word quote None offset rest
-      → words_of (chars line) ≡ Ok (words ++ option_to_list (cond has_begun (Some (chars word)) None))
-  end_of_words closed s =
-      let told = rw nothing_left at s.told in
-      sym told ∙ answer_end (read_up_to words has_begun word quote None offset) closed
+  pub end_of_words : s.escape ≡ None → s.quote ≡ None
+      → words_of (chars s.line) ≡ Ok (s.words ++ option_to_list (cond s.has_begun (Some (chars s.word)) None))
+  end_of_words no_escape closed =
+      let told = rw (no_escape, nothing_left) at reads.told in
+      sym told ∙ answer_end _ closed
 
 -- one more character of the text
-module _ (line : List ℕ) (words : List (List ℕ)) (has_begun : Bool) (word : List ℕ) (quote : Option ℕ) (offset offset' : ℕ) (rest rest' : List ℕ) (c : ℕ)
-    (bytes : rest ≡ encode_utf8 c ++ rest') (step : offset' ≡ offset + length (encode_utf8 c)) where
-  first_char : IsUtf8 rest → chars rest ≡ c ∷ chars rest'
-  first_char utf8 = chars_past_char rest rest' c utf8 bytes
+module _ {s : ReaderAt} {c offset : ℕ} {rest : List ℕ} (reads : Reads s) (next : IsNext s c offset rest) where
+  first_char : chars s.rest ≡ c ∷ chars rest
+  first_char = chars_past_char s.rest rest c reads.utf8 next.bytes
 
-  rest_utf8 : IsUtf8 rest → IsUtf8 rest'
-  rest_utf8 utf8 = IsUtf8-past_char rest rest' c utf8 bytes
+  rest_utf8 : IsUtf8 rest
+  rest_utf8 = IsUtf8-past_char s.rest rest c reads.utf8 next.bytes
 
-  first_scalar : IsUtf8 rest → all_scalars (c ∷ []) ≡ true
-  first_scalar utf8 =
-      let each = rw (first_char utf8) at (scalars-chars rest utf8) in
+  first_scalar : all_scalars (c ∷ []) ≡ true
+  first_scalar =
+      let each = rw first_char at (scalars-chars s.rest reads.utf8) in
       and_from _ _ ((and_parts _ _ each).0) refl
 
-  step_ascii : c < 128 → offset' ≡ offset + 1
-  step_ascii ascii = omega (arith, length-encode c, len_utf8_ascii c ascii)
+  step_ascii : c < 128 → offset ≡ s.offset + 1
+  step_ascii ascii = omega (arith, next.step, length-encode c, len_utf8_ascii c ascii)
 
-  pub read_backslash : (at : ℕ) → at ≡ offset → c ≡ 92 → Reads line words has_begun word quote None offset rest
-      → Reads line words has_begun word quote (Some at) offset' rest'
-  read_backslash at here is s =
-      let told = rw (first_char s.utf8, is, ← here) at s.told in
+  step_plain : offset ≡ s.offset + len_utf8 c
+  step_plain = rw (← length-encode c) next.step
+
+  pub read_backslash : (at : ℕ) → at ≡ s.offset → c ≡ 92 → s.escape ≡ None
+      → Reads (record s { escape = Some at; offset = offset; rest = rest })
+  read_backslash at here is no_escape =
+      let told = rw (no_escape, first_char, is, ← here) at reads.told in
       record {
-        utf8 = rest_utf8 s.utf8;
-        empty = s.empty;
+        utf8 = rest_utf8;
+        empty = reads.empty;
         begun_at = omega (arith, step_ascii (omega arith));
         told = told;
       }
 
-  pub read_bad : (start : ℕ) → escape_with c ≡ Bad → Reads line words has_begun word quote (Some start) offset rest
-      → words_of (chars line) ≡ Err (BadEscape start)
-  read_bad start bad s =
-      let told = rw (first_char s.utf8, bad) at s.told in
-      sym told ∙ answer_bad (read_up_to words has_begun word quote (Some start) offset) (parts_of (chars rest'))
+  pub read_bad : (start : ℕ) → s.escape ≡ Some start → escape_with c ≡ Bad → words_of (chars s.line) ≡ Err (BadEscape start)
+  read_bad start in_escape bad =
+      let told = rw (in_escape, first_char, bad) at reads.told in
+      sym told ∙ answer_bad _ (parts_of (chars rest))
 
-  pub read_escape : (start d : ℕ) (word' : List ℕ) → escape_with c ≡ Escape d → IsUtf8 word → word' ≡ word ++ encode_utf8 d
-      → Reads line words has_begun word quote (Some start) offset rest → Reads line words true word' quote None offset' rest'
-  read_escape start d word' escape utf8 pushed s =
+  pub read_escape : (start d : ℕ) → s.escape ≡ Some start → escape_with c ≡ Escape d → IsUtf8 s.word
+      → Reads (record s { has_begun = true; word = s.word ++ encode_utf8 d; escape = None; offset = offset; rest = rest })
+  read_escape start d in_escape escape utf8 =
       let is = is_escape c d escape in
-      let told = rw (first_char s.utf8, escape) at s.told in
-      let letters = ap chars pushed ∙ chars_push word d utf8 is.scalar ∙ ap (λ (w : List ℕ). w ++ d ∷ []) (sym (begun_is has_begun word s.empty)) in
-      let place : offset' ≡ start + 2 = omega (arith, step_ascii is.ascii, s.begun_at) in
+      let told = rw (in_escape, first_char, escape) at reads.told in
+      let letters = chars_push s.word d utf8 is.scalar ∙ ap (λ (w : List ℕ). w ++ d ∷ []) (sym (begun_is s.has_begun s.word reads.empty)) in
+      let begun_at : start + 1 ≡ s.offset = rw in_escape at reads.begun_at in
+      let place : offset ≡ start + 2 = omega (arith, step_ascii is.ascii, begun_at) in
       record {
-        utf8 = rest_utf8 s.utf8;
+        utf8 = rest_utf8;
         empty = λ e. absurd (true≢false e);
         begun_at = tt;
-        told = rw (letters, place) (sym (answer_escape (read_up_to words has_begun word quote (Some start) offset) d (parts_of (chars rest'))) ∙ told);
+        told = rw (letters, place) (sym (answer_escape _ d (parts_of (chars rest))) ∙ told);
       }
 
-  pub read_mark : (quote' : Option ℕ) → quote' ≡ turned quote offset → c ≡ 34 → Reads line words has_begun word quote None offset rest
-      → Reads line words true word quote' None offset' rest'
-  read_mark quote' turns is s =
-      let told = rw (first_char s.utf8, is, parts_of-plain 34 (chars rest') refl) at s.told in
-      let letters = begun_is has_begun word s.empty in
+  pub read_mark : (quote : Option ℕ) → quote ≡ turned s.quote s.offset → c ≡ 34 → s.escape ≡ None
+      → Reads (record s { has_begun = true; quote = quote; offset = offset; rest = rest })
+  read_mark quote turns is no_escape =
+      let told = rw (no_escape, first_char, is, parts_of-plain 34 (chars rest) refl) at reads.told in
+      let letters = begun_is s.has_begun s.word reads.empty in
       record {
-        utf8 = rest_utf8 s.utf8;
+        utf8 = rest_utf8;
         empty = λ e. absurd (true≢false e);
-        begun_at = tt;
-        told = rw (← letters, turns, step_ascii (omega arith)) (sym (answer_mark (read_up_to words has_begun word quote None offset) (parts_of (chars rest'))) ∙ told);
+        begun_at = rw no_escape tt;
+        told = rw (no_escape, ← letters, turns, step_ascii (omega arith)) (sym (answer_mark _ (parts_of (chars rest))) ∙ told);
       }
 
-  pub read_letter : (word' : List ℕ) → (c == 92) ≡ false → (c == 34) ≡ false → (is_blank c && not (is_some quote)) ≡ false → IsUtf8 word → word' ≡ word ++ encode_utf8 c
-      → Reads line words has_begun word quote None offset rest → Reads line words true word' quote None offset' rest'
-  read_letter word' backslash mark gap utf8 pushed s =
-      let told = rw (first_char s.utf8, parts_of-plain c (chars rest') backslash) at s.told in
-      let letters = ap chars pushed ∙ chars_push word c utf8 (first_scalar s.utf8) ∙ ap (λ (w : List ℕ). w ++ c ∷ []) (sym (begun_is has_begun word s.empty)) in
-      let place : offset' ≡ offset + len_utf8 c = rw (← length-encode c) step in
+  pub read_letter : (c == 92) ≡ false → (c == 34) ≡ false → (is_blank c && not (is_some s.quote)) ≡ false → IsUtf8 s.word → s.escape ≡ None
+      → Reads (record s { has_begun = true; word = s.word ++ encode_utf8 c; offset = offset; rest = rest })
+  read_letter backslash mark gap utf8 no_escape =
+      let told = rw (no_escape, first_char, parts_of-plain c (chars rest) backslash) at reads.told in
+      let letters = chars_push s.word c utf8 first_scalar ∙ ap (λ (w : List ℕ). w ++ c ∷ []) (sym (begun_is s.has_begun s.word reads.empty)) in
       record {
-        utf8 = rest_utf8 s.utf8;
+        utf8 = rest_utf8;
         empty = λ e. absurd (true≢false e);
-        begun_at = tt;
-        told = rw (letters, place) (sym (answer_letter (read_up_to words has_begun word quote None offset) c (parts_of (chars rest')) mark gap) ∙ told);
+        begun_at = rw no_escape tt;
+        told = rw (no_escape, letters, step_plain) (sym (answer_letter _ c (parts_of (chars rest)) mark gap) ∙ told);
       }
 
-  pub read_gap : (words' : List (List ℕ)) (word' : List ℕ) → is_blank c ≡ true → quote ≡ None → words' ≡ words ++ option_to_list (cond has_begun (Some (chars word)) None) → word' ≡ []
-      → Reads line words has_begun word quote None offset rest → Reads line words' false word' quote None offset' rest'
-  read_gap words' word' blank closed added cleared s =
+  pub read_gap : is_blank c ≡ true → s.quote ≡ None → s.escape ≡ None
+      → Reads (record s {
+        words = s.words ++ option_to_list (cond s.has_begun (Some (chars s.word)) None);
+        has_begun = false;
+        word = [];
+        offset = offset;
+        rest = rest;
+      })
+  read_gap blank closed no_escape =
       let not_backslash = blank_is_not c 92 blank (lit≤ tt) in
       let not_mark = blank_is_not c 34 blank (lit≤ tt) in
-      let told = rw (first_char s.utf8, parts_of-plain c (chars rest') not_backslash) at s.told in
-      let place : offset' ≡ offset + len_utf8 c = rw (← length-encode c) step in
+      let told = rw (no_escape, first_char, parts_of-plain c (chars rest) not_backslash) at reads.told in
       record {
-        utf8 = rest_utf8 s.utf8;
-        empty = λ _. cleared;
-        begun_at = tt;
-        told = rw (added, place) (sym (answer_gap (read_up_to words has_begun word quote None offset) c (parts_of (chars rest')) not_mark blank closed) ∙ told);
+        utf8 = rest_utf8;
+        empty = λ _. refl;
+        begun_at = rw no_escape tt;
+        told = rw (no_escape, step_plain) (sym (answer_gap _ c (parts_of (chars rest)) not_mark blank closed) ∙ told);
       }
 
 -- the start of the text
-pub read_nothing : (line : List ℕ) → IsUtf8 line → Reads line [] false [] None None 0 line
+pub read_nothing : (line : List ℕ) → IsUtf8 line
+    → Reads (record { line = line; words = []; has_begun = false; word = []; quote = None; escape = None; offset = 0; rest = line })
 read_nothing line utf8 = record {
   utf8 = utf8;
   empty = λ _. refl;

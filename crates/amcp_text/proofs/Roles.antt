@@ -1,4 +1,4 @@
--- The roles of a line's parts, from its front.
+-- The roles of a line's parts, one after another.
 use Rattle.std.proofs.Common.{◌≡◌, ℕ, ◌+◌, ◌%◌, Bool, true, false, cond, not, List, [], ◌∷◌, ◌++◌, map, take, length, refl, arith, inl, inr, append_assoc, zero-add}
 use Rattle.std.specs.Prelude.{◌==◌, count_by}
 use Rattle.std.specs.List.{enumerate_from, list_any}

@@ -16,7 +16,7 @@ use Rattle.amcp_text.proofs.FirstEnd.{cut_at_first, before_first_none}
 pub bytes_of_chars : (bytes cs : List ℕ) → IsUtf8 bytes → chars bytes ≡ cs → bytes ≡ encode_utf8_all cs
 bytes_of_chars bytes cs utf8 e = sym (encodes-chars bytes utf8) ∙ ap encode_utf8_all e
 
--- the same where they are ASCII
+-- the bytes of a text whose characters are known and are ASCII
 pub ascii_of_chars : (bytes cs : List ℕ) → IsUtf8 bytes → chars bytes ≡ cs → IsAscii cs → bytes ≡ cs
 ascii_of_chars bytes cs utf8 e ascii = bytes_of_chars bytes cs utf8 e ∙ encodes-IsAscii cs ascii
 

@@ -5,3 +5,4 @@ pub mod Words
 pub mod Tokens
 pub mod Numbers
 pub mod Micros
+pub mod Worked

@@ -23,7 +23,7 @@ line_of_text text = if nat_lt MAX_LINE_BYTES (length text) then TooLong else (if
 abbrev pub line_of : List ℕ → Line
 line_of bytes = line_of_text (strip_carriage_return bytes)
 
--- what stands before each line end, since the one before it: the part after the last line end is no line
+-- the bytes before each line end, from the line end before it on: the part after the last line end is no line
 abbrev pub ended_parts : List ℕ → List (List ℕ)
 ended_parts stream = let parts = slice_split is_line_end stream in take (length parts - 1) parts
 
@@ -31,6 +31,6 @@ ended_parts stream = let parts = slice_split is_line_end stream in take (length 
 abbrev pub lines_of : List ℕ → List Line
 lines_of stream = map line_of (ended_parts stream)
 
--- the stream is cut at a line's end: it is nothing, or its last byte is LF
+-- the stream ends where a line ends: it is empty, or its last byte is LF
 abbrev pub IsEnded : List ℕ → Type 0
-IsEnded stream = (stream ≡ []) ⊎ ((front : List ℕ) × (stream ≡ front ++ 10 ∷ []))
+IsEnded stream = (stream ≡ []) ⊎ ((prefix : List ℕ) × (stream ≡ prefix ++ 10 ∷ []))

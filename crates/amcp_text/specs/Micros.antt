@@ -13,7 +13,7 @@ is_wide value = nat_le (unsigned_abs value) 1000000000
 abbrev pub micro_of : List ℕ → Option ℤ
 micro_of text = option_and_then (λ value. if is_wide value then Some value else None) (decimal_micro text)
 
--- the last so many digits of a number, with zeros in front where it has fewer
+-- the last `count` digits of a number, with zeros before them where it has fewer
 unfoldable pub last_digits : ℕ → ℕ → List ℕ
 last_digits zero n = []
 last_digits (suc count) n = (48 + (n / 10 ^ count) % 10) ∷ last_digits count n

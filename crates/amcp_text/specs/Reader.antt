@@ -1,4 +1,4 @@
--- The bytes that a line reader stands for.
+-- The bytes that a line reader represents, and the lines that it returns.
 use Rattle.std.specs.Prelude.{◌≡◌, ℕ, ◌+◌, nat_lt, min, Bool, ◌||◌, if◌then◌else◌, Option, Some, None, List, [], ◌∷◌, ◌++◌, length, take}
 use Rattle.std.specs.List.{before_first, after_first, position_or_len, list_any}
 use Rattle.std.specs.Str.{chars}
@@ -8,7 +8,7 @@ use Rattle.amcp_text.specs.declared.line_reader.TheConstants.{MAX_LINE_BYTES}
 use Rattle.amcp_text.specs.declared.line_reader.LineEvent.{LineEvent}
 use Rattle.amcp_text.specs.declared.line_reader.LineEvent.TheVariants as event
 
--- the reader stands for these bytes, taken since the line before
+-- the reader represents these bytes, which it took since it dropped the line before
 pub record Represents (reader : ReaderState) (bytes : List ℕ) : Type 0 where
   -- nothing follows a line end
   pub one_line : after_first is_line_end bytes ≡ []
@@ -20,13 +20,13 @@ pub record Represents (reader : ReaderState) (bytes : List ℕ) : Type 0 where
 abbrev pub taken_len : Bool → List ℕ → ℕ
 taken_len held piece = if held then 0 else min (position_or_len is_line_end piece + 1) (length piece)
 
--- the line that an event tells
+-- the line of an event
 abbrev pub line_view : LineEvent → Line
 line_view (event.Line text) = Text (chars text.now)
 line_view event.TooLong = TooLong
 line_view event.NotUtf8 = NotUtf8
 
--- what a reader tells of the bytes that it stands for: no line, or their line, which stands first whatever follows them
+-- what a reader returns for the bytes that it represents: no line, or their line, which comes first whatever bytes follow
 abbrev pub IsLineOf : Option LineEvent → List ℕ → Type 0
 IsLineOf None bytes = lines_of bytes ≡ []
 IsLineOf (Some event) bytes = (rest : List ℕ) → lines_of (bytes ++ rest) ≡ line_view event ∷ lines_of rest
@@ -42,3 +42,7 @@ with_text reader text = record {
 -- the line that is kept, once its end has come
 abbrev pub line_kept : ReaderState → Line
 line_kept reader = if reader.over then TooLong else line_of reader.kept
+
+-- of a stream these bytes were taken and these lines were returned, and the reader represents the bytes after those lines
+pub record HasTold (taken : List ℕ) (lines : List Line) (bytes : List ℕ) : Type 0 where
+  pub first : (rest : List ℕ) → lines_of (taken ++ rest) ≡ lines ++ lines_of (bytes ++ rest)

@@ -3,7 +3,8 @@ use Rattle.std.specs.Prelude.{ℕ, ◌%◌, ◌==◌, nat_lt, Bool, true, false,
 use Rattle.std.specs.List.{slice_split, filter_map, enumerate_from}
 use Rattle.std.specs.Char.{len_utf8}
 
--- a part of a line: a character as it stands, an escape by the character that it stands for, or a backslash that begins no escape
+-- a part of a line: a character that denotes itself, an escape, given by the character that it denotes, or a backslash
+-- that begins no escape
 pub data Part : Type 0 where
   Plain : ℕ → Part
   Escape : ℕ → Part
@@ -13,7 +14,7 @@ pub data Part : Type 0 where
 abbrev pub escape_with : ℕ → Part
 escape_with c = if c == 34 then Escape 34 else (if c == 92 then Escape 92 else (if c == 110 then Escape 10 else Bad))
 
--- the parts of a line: a backslash takes the character after it
+-- the parts of a line: a backslash and the character after it are one part
 abbrev pub parts_of : List ℕ → List Part
 parts_of [] = []
 parts_of (c ∷ []) = (if c == 92 then Bad else Plain c) ∷ []
@@ -40,17 +41,18 @@ is_bad Bad = true
 abbrev pub is_blank : ℕ → Bool
 is_blank c = (c == 32) || (c == 9)
 
--- the quotation marks are odd in number
+-- whether the parts leave quotes open: their quotation marks are odd in number
 abbrev pub is_unclosed : List Part → Bool
 is_unclosed parts = count_by is_mark parts % 2 == 1
 
--- what a part is to the words: a gap between them, a quotation mark, or a character of a word
+-- what a part is for the words of its line: a gap between them, a quotation mark, or a character of a word
 pub data Role : Type 0 where
   Gap : Role
   Mark : Role
   Letter : ℕ → Role
 
--- a blank parts words outside quotes alone (a bad escape gives no character, since its line has no words)
+-- the role of a part, by whether it is in quotes: a blank parts words only outside them. A bad escape gives no
+-- character, since its line has no words
 abbrev pub role_of : Part → Bool → Role
 role_of (Plain c) quoted = if c == 34 then Mark else (if is_blank c && not quoted then Gap else Letter c)
 role_of (Escape c) quoted = Letter c
@@ -71,6 +73,6 @@ letter_of Gap = None
 letter_of Mark = None
 letter_of (Letter c) = Some c
 
--- the words: what stands between gaps, where anything does
+-- the words: the characters between gaps, where there is anything between them
 abbrev pub words_between : List Role → List (List ℕ)
 words_between roles = map (filter_map letter_of) (filter (λ group. nat_lt 0 (length group)) (slice_split is_gap roles))

@@ -1,10 +1,14 @@
 //! A client's bytes as lines, and a line as words.
 //!
 //! A line ends at LF, and one CR directly before that LF belongs to the end. A `LineReader` takes a stream in pieces
-//! of any size and gives its lines one by one; however the stream is cut, they are the same. The definitions of
-//! lines, words, whole numbers and decimals stand here, in `specs/`.
+//! of any size and gives its lines one by one. Which lines it gives does not depend on the sizes of the pieces.
+//!
+//! The definitions of lines, words, whole numbers and decimals stand in `specs/`. The modules `examples` and `laws` show
+//! what they say.
 #![tactic(auto)]
 
+pub mod examples;
+pub mod laws;
 mod line_reader;
 mod number;
 mod token;

@@ -66,7 +66,7 @@ impl Model for LineReader {
 }
 
 impl LineReader {
-    /// A reader that has taken nothing. It takes the room for one line.
+    /// Creates a reader that has taken nothing. It takes the memory for one line.
     pub fn new(alloc: Global) -> Result<LineReader, AllocError>
         ensures { IfOk result (λ reader. Represents reader []) }
     {
@@ -78,8 +78,8 @@ impl LineReader {
         })
     }
 
-    /// Takes the bytes up to and with the first LF, and answers how many: 0 exactly where a whole line is held or
-    /// the piece is empty. It takes no memory.
+    /// Takes the bytes of `piece` up to and with its first LF, and returns how many these are: 0 exactly where a whole
+    /// line is held or the piece is empty. It takes no memory.
     pub fn feed(&mut self, piece: &[u8]) -> usize
         ensures count { result ≡ taken_len self.old.held piece.now }
         ensures stands { (bytes : List ℕ)
@@ -101,7 +101,7 @@ impl LineReader {
         }
     }
 
-    /// The line that is held: `None` exactly where no whole line is held.
+    /// Returns the line that is held: `None` exactly where no whole line is held.
     pub fn line(&self) -> Option<LineEvent<'_>>
         ensures held { is_some result ≡ self.now.held }
         ensures line { (bytes : List ℕ) → Represents self.now bytes → IsLineOf result bytes }
@@ -128,7 +128,7 @@ impl LineReader {
         self.held = false;
     }
 
-    /// Keeps as much of the text of a line as there is room for.
+    /// Keeps as much of `text` as there is room for, and whether some of it found no room.
     fn keep(&mut self, text: &[u8])
         ensures { self.new ≡ with_text self.old text.now }
     {
@@ -140,7 +140,7 @@ impl LineReader {
         }
     }
 
-    /// The line whose end has come.
+    /// Returns the line that is held, from what is kept of it.
     fn whole_line(&self) -> LineEvent<'_>
         ensures { line_view result ≡ line_kept self.now }
     {
@@ -151,14 +151,14 @@ impl LineReader {
     }
 }
 
-/// Where the first LF of a piece is.
+/// Returns the position of the first LF of a piece.
 fn line_end(piece: &[u8]) -> Option<usize>
     ensures { result ≡ position is_line_end piece.now }
 {
     piece.iter().position(|byte| *byte == LINE_END)
 }
 
-/// Returns a line, whose LF is left out, without the one CR at its end, where there is one.
+/// Returns the text of a line that is given without its LF: a CR at its end is left out, one at most.
 pub fn without_carriage_return(line: &[u8]) -> &[u8]
     ensures { result.now ≡ strip_carriage_return line.now }
 {

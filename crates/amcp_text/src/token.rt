@@ -45,12 +45,14 @@ impl From<AllocError> for TokenFault {
     }
 }
 
-/// The words of a line, each the list of its characters.
+/// Cuts a line into its words.
 ///
 /// Spaces and tabs outside quotes part words. A quotation mark that is not escaped opens or closes quotes at any place
 /// of a word, and is no part of it, so `""` is the empty word. The escapes, inside quotes and outside, are `\"`, `\\`
-/// and `\n`, the new line. A line of blanks has no word. The first bad escape from the left is answered, and open
-/// quotes only where there is none.
+/// and `\n`, the new line. A line of blanks has no word.
+///
+/// Where a line has bad escapes, the fault is the first of them. Quotes that are left open are the fault only where no
+/// escape is bad.
 pub fn tokens(alloc: Global, line: &str) -> Result<WordList, TokenFault>
     ensures { AreTokens (chars line.now) result }
 {
@@ -95,9 +97,9 @@ pub fn tokens(alloc: Global, line: &str) -> Result<WordList, TokenFault>
     Ok(words)
 }
 
-/// The character that a backslash stands for together with this one, if they form an escape.
+/// Returns the character that a backslash and `c` after it denote, if the two form an escape.
 fn escaped(c: char) -> Option<char>
-    ensures { MatchOption result (escape_with c ≡ Bad) (λ stands_for. escape_with c ≡ Escape stands_for) }
+    ensures { MatchOption result (escape_with c ≡ Bad) (λ denoted. escape_with c ≡ Escape denoted) }
 {
     match c {
         '"' => Some('"'),
@@ -107,6 +109,7 @@ fn escaped(c: char) -> Option<char>
     }
 }
 
+/// Returns whether a character is the space or the tab.
 fn is_blank(c: char) -> bool
     ensures { result ≡ is_blank c }
 {

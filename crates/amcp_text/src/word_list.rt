@@ -23,7 +23,7 @@ impl Model for WordList {
 }
 
 impl WordList {
-    /// No words. It takes no memory.
+    /// Creates a list without words. It takes no memory.
     pub fn new(alloc: Global) -> WordList
         ensures { result ≡ [] }
     {
@@ -32,7 +32,7 @@ impl WordList {
         }
     }
 
-    /// Adds a copy of a word at the end. At want of memory the list is as before.
+    /// Adds a copy of a word at the end. Where memory runs out, the list stays as it was.
     pub fn push(&mut self, word: &str) -> Result<(), AllocError>
         ensures ok { OnOk result (self.new ≡ self.old ++ chars word.now ∷ []) }
         ensures err { OnErr result (self.new ≡ self.old) }
@@ -42,12 +42,14 @@ impl WordList {
         Ok(())
     }
 
+    /// Returns the number of words.
     pub fn len(&self) -> usize
         ensures { result ≡ length self.now }
     {
         self.words.len()
     }
 
+    /// Returns whether there are no words.
     pub fn is_empty(&self) -> bool
         ensures { result ≡ (length self.now == 0) }
     {
@@ -61,7 +63,7 @@ impl WordList {
         self.words.iter()
     }
 
-    /// `None` exactly where `at` is not below the length.
+    /// Returns the word at position `at`, counted from 0: `None` exactly where `at` is not below the length.
     pub fn get(&self, at: usize) -> Option<&str>
         ensures { option_map (λ word. chars word.now) result ≡ slice_get self.now at }
     {

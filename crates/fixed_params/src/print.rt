@@ -64,6 +64,7 @@ impl MicroText {
         &self.bytes[..self.len]
     }
 
+    /// Adds a byte.
     fn push(&mut self, byte: u8)
         requires { length self.old < 12 }
         ensures { self.new ≡ self.old ++ byte ∷ [] }
@@ -72,7 +73,7 @@ impl MicroText {
         self.len += 1;
     }
 
-    /// Adds a number of millionths, at most 1000.
+    /// Adds a number that is given in millionths, at most 1000.
     fn push_unsigned(&mut self, micros: u32)
         requires room { length self.old ≤ 1 }
         requires small { micros ≤ 1000000000 }
@@ -97,7 +98,7 @@ impl MicroText {
         self.push(b'0' + (number % 10) as u8);
     }
 
-    /// Adds the six places after a point, without the zeros at their end.
+    /// Adds the six places after a point, `rest` in millionths, without the zeros at their end.
     fn push_places(&mut self, mut rest: u32)
         requires room { length self.old + 6 ≤ 12 }
         requires places { rest < 1000000 }

@@ -9,10 +9,10 @@ ghost use Rattle.amcp_text.specs.Micros.{micro_of};
 /// The greatest value without its sign, in millionths.
 const LIMIT: u32 = 1_000_000_000;
 
-/// The value of a decimal in millionths. Digits after the sixth place are dropped before the range is tested.
+/// Reads the value of a decimal, in millionths. Digits after the sixth place are dropped before the range is tested.
 ///
-/// A decimal is an optional sign, digits, and optionally a point and digits, with at least one digit in all. `None`
-/// exactly where the text is no decimal, or its value is outside -1000 to 1000. It takes no memory.
+/// A decimal is an optional sign, digits, and optionally a point and digits, with at least one digit in all. The result is
+/// `None` exactly where the text is no decimal, or its value is outside -1000 to 1000. It takes no memory.
 pub fn read_micro(text: &str) -> Option<i64>
     ensures value { result ≡ micro_of (chars text.now) }
     ensures range { IfSome result
@@ -23,7 +23,7 @@ pub fn read_micro(text: &str) -> Option<i64>
     Some(if is_negative(text) { -micros } else { micros })
 }
 
-/// The value of a decimal without a sign, where it is at most 1000.
+/// Reads the value of a decimal without a sign, in millionths, where it is at most 1000.
 fn read_unsigned(text: &[u8]) -> Option<u32>
     ensures { let micros = unsigned_micro text.now in
         result ≡ (if is_unsigned_decimal text.now && nat_le micros 1000000000 then Some micros else None) }
@@ -39,12 +39,14 @@ fn read_unsigned(text: &[u8]) -> Option<u32>
     Some(micros)
 }
 
+/// Returns whether the text begins with a minus.
 fn is_negative(text: &[u8]) -> bool
     ensures { result ≡ starts_with_minus text.now }
 {
     matches!(text, [b'-', ..])
 }
 
+/// Returns the text without the sign that it begins with, where it does.
 fn without_sign(text: &[u8]) -> &[u8]
     ensures { result.now ≡ without_leading_sign text.now }
 {
@@ -54,7 +56,8 @@ fn without_sign(text: &[u8]) -> &[u8]
     }
 }
 
-/// What stands before the first point, or all, and what stands after it, or nothing.
+/// Returns the text before the first point and the text after it. Where there is no point, they are the whole text and an
+/// empty one.
 fn split_at_point(text: &[u8]) -> (&[u8], &[u8])
     ensures whole { result.0.now ≡ before_first is_point text.now }
     ensures places { result.1.now ≡ after_first is_point text.now }
@@ -65,20 +68,21 @@ fn split_at_point(text: &[u8]) -> (&[u8], &[u8])
     }
 }
 
-/// Where the first point is.
+/// Returns the position of the first point.
 fn point(text: &[u8]) -> Option<usize>
     ensures { result ≡ position is_point text.now }
 {
     text.iter().position(|byte| *byte == b'.')
 }
 
+/// Returns whether each byte is a digit.
 fn all_digits(text: &[u8]) -> bool
     ensures { result ≡ are_digits text.now }
 {
     text.iter().all(|byte| byte.is_ascii_digit())
 }
 
-/// The number that the digits write, and 1001 for each greater one.
+/// Reads the number that digits write, and returns 1001 for each number that is greater.
 fn capped_whole(digits: &[u8]) -> u32
     requires { IsTrue (are_digits digits.now) }
     ensures { result ≡ min (digits_value 10 digits.now) 1001 }
@@ -90,7 +94,7 @@ fn capped_whole(digits: &[u8]) -> u32
     value
 }
 
-/// The millionths that the digits after a point write.
+/// Reads the millionths that the digits after a point write.
 fn millionths(digits: &[u8]) -> u32
     requires { IsTrue (are_digits digits.now) }
     ensures value { result ≡ digits_value 10 (six_places digits.now) }

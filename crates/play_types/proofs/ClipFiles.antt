@@ -4,12 +4,12 @@ use Rattle.std.proofs.lemmas.Nat.{from_be_bytes-to_be_bytes_2, from_be_bytes-to_
 use Rattle.std.specs.Int.{w16, w32, to_be_bytes, from_be_bytes}
 use Rattle.play_types.specs.ClipFile.{ClipView, IsClip, clip_bytes}
 
--- two numbers of the same two bytes are one
+-- two numbers with equal two bytes are equal
 to_be_bytes_same_2 : (m n : ℕ) → m < 2 ^ 16 → n < 2 ^ 16 → to_be_bytes w16 m ≡ to_be_bytes w16 n → m ≡ n
 to_be_bytes_same_2 m n p q e =
     sym (from_be_bytes-to_be_bytes_2 m p) ∙ ap (from_be_bytes w16) e ∙ from_be_bytes-to_be_bytes_2 n q
 
--- two numbers of the same four bytes are one
+-- two numbers with equal four bytes are equal
 to_be_bytes_same_4 : (m n : ℕ) → m < 2 ^ 32 → n < 2 ^ 32 → to_be_bytes w32 m ≡ to_be_bytes w32 n → m ≡ n
 to_be_bytes_same_4 m n p q e =
     sym (from_be_bytes-to_be_bytes_4 m p) ∙ ap (from_be_bytes w32) e ∙ from_be_bytes-to_be_bytes_4 n q

@@ -44,7 +44,7 @@ one_place_on p n =
 pub stop_at-other : (event : Event) (events : List Event) → is_stop event ≡ false → stop_at (event ∷ events) ≡ option_map (λ n. 1 + n) (stop_at events)
 stop_at-other event events h = rw h (one_place_on (position_or_len is_stop events) (length events))
 
--- a stop at the front is the first stop
+-- a stop that begins a history is its first stop
 pub stop_at-stop : (tag : Tag) (events : List Event) → stop_at (Stop tag ∷ events) ≡ Some 0
 stop_at-stop tag events = rw (lt-ltb 0 (suc (length events)) (omega arith))
 

@@ -1,20 +1,17 @@
 -- Texts that differ in the case of their ASCII letters alone.
-use Rattle.std.proofs.Common.{◌≡◌, ℕ, ◌+◌, ◌<◌, ◌≤◌, Bool, true, false, List, [], ◌∷◌, ◌++◌, map, take, drop, length, get_or, refl, sym, ap, ◌∙◌, arith, inl, inr, suc, zero}
-use lib.Utf8.{scalar}
-use Rattle.std.specs.Prelude.{encode_utf8, encode_utf8_all, IsTrue, ◌↔◌, nat_lt, ◌==◌}
-use Rattle.std.specs.List.{list_any, before_first, after_first, position_or_len}
+use Rattle.std.proofs.Common.{◌≡◌, ℕ, ◌<◌, ◌≤◌, Bool, true, List, [], ◌∷◌, ◌++◌, map, length, get_or, refl, sym, ap, ◌∙◌, arith, inl, inr, suc}
+use Rattle.std.specs.Prelude.{encode_utf8, encode_utf8_all, IsTrue, ◌↔◌, nat_lt}
 use Rattle.std.specs.Char.{to_ascii_uppercase, to_ascii_lowercase}
-use Rattle.std.specs.Str.{IsUtf8, IsAscii, all_scalars, chars, bytes_eq}
-use Rattle.std.proofs.lemmas.Str.{IsUtf8-from_ascii, encodes-chars, chars-encodes, scalars-chars, chars-IsAscii, encode_ascii, encodes_same, encodes-append, inside_one}
+use Rattle.std.specs.Str.{IsUtf8, IsAscii, chars, bytes_eq}
+use Rattle.std.proofs.lemmas.Str.{encodes-chars, chars-IsAscii, encode_ascii, encodes_same, inside_one}
 use Rattle.std.proofs.lemmas.Str.Ascii.{lowercase-uppercase, uppercase_is, uppercase_ascii, IsAscii-nil, IsAscii-cons}
-use Rattle.std.proofs.lemmas.List.Folds.{list_any_none, list_any-append}
-use Rattle.std.proofs.lemmas.Bool.{cases_lt, and_parts, ltb-true, eqb-true}
-use Rattle.std.proofs.lemmas.List.{append-nil, map-append, get_or_default}
+use Rattle.std.proofs.lemmas.Bool.{cases_lt, and_parts, ltb-true}
+use Rattle.std.proofs.lemmas.List.{append-nil, map-append}
 use Rattle.std.proofs.lemmas.Slice.Eq.{bytes_eq-Decides}
 use Rattle.std.proofs.lemmas.Bool.Decides.{nat_tests, same_from_decides}
 use Rattle.play_types.specs.Words.{are_capitals, is_word, is_same_name}
 
--- the bytes of a character that is no ASCII are none either
+-- the bytes of a character that is not ASCII are not ASCII either
 pub high_bytes : (c k : ℕ) → 128 ≤ c → k < length (encode_utf8 c) → 128 ≤ get_or (encode_utf8 c) k 0
 high_bytes c k high inside = elim (cases_lt (get_or (encode_utf8 c) k 0) 128) [
   | inl low ↦
@@ -24,11 +21,11 @@ high_bytes c k high inside = elim (cases_lt (get_or (encode_utf8 c) k 0) 128) [
   | inr above ↦ above
 ]
 
--- a byte that is no ASCII has no case
+-- a byte that is not ASCII has no case
 uppercase_above : (b : ℕ) → 128 ≤ b → to_ascii_uppercase b ≡ b
 uppercase_above b high = (uppercase_is b).2 (omega arith)
 
--- nor have such bytes
+-- bytes that are not ASCII have no case
 uppercase_high : (bytes : List ℕ) → ((k : ℕ) → k < length bytes → 128 ≤ get_or bytes k 0) → map to_ascii_uppercase bytes ≡ bytes
 uppercase_high [] high = refl
 uppercase_high (b ∷ bs) high =
@@ -51,7 +48,7 @@ uppercase-encodes (c ∷ cs) =
 uppercase_bytes : (text : List ℕ) → IsUtf8 text → encode_utf8_all (map to_ascii_uppercase (chars text)) ≡ map to_ascii_uppercase text
 uppercase_bytes text utf8 = uppercase-encodes (chars text) ∙ ap (map to_ascii_uppercase) (encodes-chars text utf8)
 
--- two texts in small letters are the same just where they are the same in capitals
+-- a text that is put into capitals and then into small letters is the text in small letters
 pub lowercase_of_uppercase : (text : List ℕ) → map to_ascii_lowercase (map to_ascii_uppercase text) ≡ map to_ascii_lowercase text
 lowercase_of_uppercase [] = refl
 lowercase_of_uppercase (c ∷ cs) = rw (lowercase-uppercase c, lowercase_of_uppercase cs) refl
@@ -59,6 +56,7 @@ lowercase_of_uppercase (c ∷ cs) = rw (lowercase-uppercase c, lowercase_of_uppe
 uppercase-lowercase : (c : ℕ) → to_ascii_uppercase (to_ascii_lowercase c) ≡ to_ascii_uppercase c
 uppercase-lowercase c = grind (arith, nat_tests)
 
+-- a text that is put into small letters and then into capitals is the text in capitals
 pub uppercase_of_lowercase : (text : List ℕ) → map to_ascii_uppercase (map to_ascii_lowercase text) ≡ map to_ascii_uppercase text
 uppercase_of_lowercase [] = refl
 uppercase_of_lowercase (c ∷ cs) = rw (uppercase-lowercase c, uppercase_of_lowercase cs) refl
@@ -79,7 +77,7 @@ same_in_capitals result one other utf8 utf8' h =
     )
     equal
 
--- a word whose characters stand before the small letters is ASCII, and in capitals already
+-- a word whose characters come before the small letters is ASCII, and in capitals already
 pub capitals_are_ascii : (fixed : List ℕ) → are_capitals fixed ≡ true → IsAscii fixed
 capitals_are_ascii [] h = IsAscii-nil
 capitals_are_ascii (c ∷ cs) h =
@@ -92,7 +90,7 @@ uppercase_capitals (c ∷ cs) h =
     let parts = and_parts (nat_lt c 97) (are_capitals cs) h in
     rw ((uppercase_is c).1 (ltb-true c 97 parts.0), uppercase_capitals cs parts.1) refl
 
--- the same of a word and one that is given in capitals
+-- comparing the bytes of a word without their case to a word in capitals compares its characters in capitals
 pub is_word_from_bytes : (result : Bool) (word fixed : List ℕ) → IsUtf8 word → IsUtf8 fixed → are_capitals fixed ≡ true
     → IsTrue result ↔ (map to_ascii_lowercase word ≡ map to_ascii_lowercase fixed) → result ≡ is_word fixed (chars word)
 unfolding is_word is_same_name

@@ -10,7 +10,7 @@ pub encode_utf8_all-chars : (bytes : List ℕ) → IsUtf8 bytes → encode_utf8_
 encode_utf8_all-chars bytes text =
     ap encode_utf8_all (ap chars (sym text.1.1) ∙ chars-encodes text.0 text.1.0) ∙ text.1.1
 
--- two texts of the same characters are the same
+-- two texts with equal characters are equal
 pub chars_same : (xs ys : List ℕ) → IsUtf8 xs → IsUtf8 ys → chars xs ≡ chars ys → xs ≡ ys
 chars_same xs ys x y e =
     sym (encode_utf8_all-chars xs x) ∙ ap encode_utf8_all e ∙ encode_utf8_all-chars ys y

@@ -5,7 +5,7 @@ use Rattle.play_types.specs.declared.place.TheConstants.{MAX_CHANNELS}
 use Rattle.play_types.specs.declared.answer.Status.{Status}
 use Rattle.play_types.specs.declared.answer.Status.TheVariants.{Empty}
 
--- one to four numbers in millionths: the first `count` of the four are meant
+-- at most four numbers in millionths: the first `count` of the four are in use
 pub record MicrosView : Type 0 where
   pub values : List ℤ
   pub count : ℕ
@@ -24,7 +24,7 @@ pub record IsMicros (values : List ℤ) (count : ℕ) : Type 0 where
   pub in_range : All IsWide values
   pub unused : drop count values ≡ replicate (4 - count) (pos 0)
 
--- a status for each channel: the first `count` of the sixteen are meant
+-- a status for each channel: the first `count` of the sixteen are in use
 pub record StatusListView : Type 0 where
   pub channels : List Status
   pub count : ℕ

@@ -2,7 +2,7 @@
 use Rattle.std.specs.Prelude.{ℕ, ℤ, pos, ◌+ℤ◌, ◌-ℤ◌, ◌*ℤ◌, ◌≤ℤ◌, int_div, nat_le, if◌then◌else◌}
 use Rattle.std.specs.Int.{int_min, int_max}
 
--- the value at tick j of d between two values in millionths, the quotient taken toward zero
+-- the value at tick j of d between two values in millionths, rounded toward the first of them
 abbrev pub along : ℤ → ℤ → ℕ → ℕ → ℤ
 along from to j d = if nat_le d j then to else from +ℤ int_div ((to -ℤ from) *ℤ pos j) (pos d)
 

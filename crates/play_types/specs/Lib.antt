@@ -13,3 +13,4 @@ pub mod Geometry
 pub mod ClipFile
 pub mod Media
 pub mod Config
+pub mod Worked

@@ -13,7 +13,7 @@ pub record MediaNameView : Type 0 where
   pub frames : ℕ
   pub pairs : ℕ
 
--- the name of a readable clip of this size, with this many frames
+-- the name of a readable clip of this size, with `frames` frames
 abbrev pub clip_name : List ℕ → Geometry → ℕ → MediaNameView
 clip_name name size frames = record {
   name = name;

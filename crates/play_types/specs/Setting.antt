@@ -16,11 +16,11 @@ prop_number Clip = 2
 prop_number Volume = 3
 prop_number Keyer = 4
 
--- whether two properties are one
+-- whether two properties are equal
 abbrev pub is_same_prop : Prop → Prop → Bool
 is_same_prop one other = prop_number one == prop_number other
 
--- a mixer value that is to be reached in duration ticks, its numbers in millionths
+-- a mixer value that is to be reached in `duration` ticks, its numbers in millionths
 pub record SettingView : Type 0 where
   pub place : PlaceView
   pub prop : Prop
@@ -75,7 +75,7 @@ curve_of Fill curve = curve
 curve_of Clip curve = curve
 curve_of Keyer curve = Linear
 
--- the setting that is kept for these words
+-- the setting that is kept of these parts
 abbrev pub setting_of : PlaceView → Prop → List ℤ → ℕ → Curve → Bool → SettingView
 setting_of place prop values duration curve deferred =
     record { place = place; prop = prop; values = values_of prop values; duration = duration_of prop duration; curve = curve_of prop curve; deferred = deferred }

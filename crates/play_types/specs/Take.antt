@@ -14,7 +14,7 @@ pub record TakeView : Type 0 where
   pub trans : TransView
   pub auto : Bool
 
--- the take that is kept for these words
+-- the take that is kept of these parts
 abbrev pub take_of : Spec → Bool → ℕ → ℕ → TransView → Bool → TakeView
 take_of (Clip id) looped seek length trans auto =
     record { spec = Clip id; looped = looped; seek = seek; length = length; trans = trans; auto = auto }
@@ -25,14 +25,14 @@ take_of (RouteChannel channel) looped seek length trans auto =
 take_of (RouteLayer place) looped seek length trans auto =
     record { spec = RouteLayer place; looped = false; seek = 0; length = 0; trans = trans; auto = auto }
 
--- a clip is played from 1 frame on, and within the first 1,000,000 frames
+-- of a clip at least one frame is played, and none after its first 1,000,000 frames
 abbrev pub IsTake : Spec → ℕ → ℕ → Type 0
 IsTake (Clip id) seek length = (0 < length) × (seek + length ≤ MAX_FRAMES)
 IsTake (Colour value) seek length = Unit {0}
 IsTake (RouteChannel channel) seek length = Unit {0}
 IsTake (RouteLayer place) seek length = Unit {0}
 
--- the frames of a clip are in range, and of another producer none is named
+-- the frames of a clip are in range, and another producer has none
 abbrev pub IsTakeValue : Spec → Bool → ℕ → ℕ → Type 0
 IsTakeValue (Clip id) looped seek length = (0 < length) × (seek + length ≤ MAX_FRAMES)
 IsTakeValue (Colour value) looped seek length = (looped ≡ false) × (seek ≡ 0) × (length ≡ 0)

@@ -17,7 +17,7 @@ pub record TransView : Type 0 where
 abbrev pub cut : TransView
 cut = record { kind = Cut; duration = 0; curve = Linear; leftward = false }
 
--- the transition that is kept for these words
+-- the transition that is kept of these parts
 abbrev pub trans_of : Kind → ℕ → Curve → Bool → TransView
 trans_of Cut duration curve leftward = cut
 trans_of Mix duration curve leftward = record { kind = Mix; duration = duration; curve = curve; leftward = leftward }

@@ -12,7 +12,7 @@ use Rattle.play_types.specs.declared.setting.Prop.TheVariants as prop
 use Rattle.play_types.specs.declared.transition.Kind.{Kind}
 use Rattle.play_types.specs.declared.transition.Kind.TheVariants as kind
 
--- every character stands before the small letters
+-- every character comes before the small letters
 abbrev pub are_capitals : List ℕ → Bool
 are_capitals word = list_all (λ c. nat_lt c 97) word
 

@@ -8,8 +8,8 @@ use crate::place::MAX_CHANNELS;
 use crate::setting::are_wide;
 use std::marker::Model;
 
-/// One to four mixer values, in millionths, each within -1,000,000,000 to 1,000,000,000. Only the first `count` are
-/// meant, and the rest are 0.
+/// At most four mixer values, in millionths, each within -1,000,000,000 to 1,000,000,000. The first `count` are in use,
+/// and the rest are 0.
 #[derive(Clone, Copy, Debug, PartialEq, Eq)]
 pub struct Micros {
     values: [i64; 4],
@@ -29,8 +29,8 @@ impl Model for Micros {
 }
 
 impl Micros {
-    /// `None` exactly where the count is above 4 or one of the first `count` values is out of range. The other values
-    /// are dropped.
+    /// Creates the list of the first `count` values. It returns `None` exactly where the count is above 4 or one of these
+    /// values is out of range. The other values are dropped.
     pub fn new(values: [i64; 4], count: u8) -> Option<Micros>
         ensures exact { IsSome result ↔ AreMicros values count }
         ensures value { IfSome result (λ m. m ≡ micros_of values count) }
@@ -50,7 +50,7 @@ impl Micros {
         })
     }
 
-    /// Those from the count on are 0.
+    /// Returns the values, in millionths. Those from the count on are 0.
     pub fn values(self) -> [i64; 4]
         ensures value { result ≡ self.values }
         ensures range { IsMicros self.values self.count }
@@ -58,7 +58,7 @@ impl Micros {
         self.values
     }
 
-    /// 0 to 4.
+    /// Returns the number of values in use, 0 to 4.
     pub fn count(self) -> u8
         ensures value { result ≡ self.count }
         ensures range { IsMicros self.values self.count }
@@ -91,7 +91,7 @@ impl Status {
     }
 }
 
-/// The status of each channel. Only the first `count` are meant, and the rest are `Empty`.
+/// The status of each channel. The first `count` are in use, and the rest are `Empty`.
 #[derive(Clone, Copy, Debug, PartialEq, Eq)]
 pub struct StatusList {
     channels: [Status; MAX_CHANNELS],
@@ -111,7 +111,8 @@ impl Model for StatusList {
 }
 
 impl StatusList {
-    /// `None` exactly where the count is above 16. The statuses from the count on are dropped.
+    /// Creates the list of the first `count` statuses. It returns `None` exactly where the count is above 16. The other
+    /// statuses are dropped.
     pub fn new(channels: [Status; MAX_CHANNELS], count: u8) -> Option<StatusList>
         ensures exact { IsSome result ↔ (count ≤ MAX_CHANNELS) }
         ensures value { IfSome result (λ s. s ≡ status_list_of channels count) }
@@ -128,7 +129,7 @@ impl StatusList {
         })
     }
 
-    /// Those from the count on are `Empty`.
+    /// Returns the statuses. Those from the count on are `Empty`.
     pub fn channels(self) -> [Status; MAX_CHANNELS]
         ensures value { result ≡ self.channels }
         ensures range { IsStatusList self.channels self.count }
@@ -136,7 +137,7 @@ impl StatusList {
         self.channels
     }
 
-    /// 0 to 16.
+    /// Returns the number of statuses in use, 0 to 16.
     pub fn count(self) -> u8
         ensures value { result ≡ self.count }
         ensures range { IsStatusList self.channels self.count }
@@ -145,7 +146,7 @@ impl StatusList {
     }
 }
 
-/// What the stage answers to a command or a batch.
+/// The answer of the stage to a command or a batch.
 #[derive(Clone, Copy, Debug, PartialEq, Eq)]
 pub enum Answer {
     /// It was done.

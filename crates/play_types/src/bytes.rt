@@ -18,13 +18,14 @@ impl Model for ByteList {
 }
 
 impl ByteList {
-    /// The bytes, without a copy.
+    /// Creates a list of these bytes, without a copy.
     pub fn new(bytes: Vec<u8>) -> ByteList
         ensures { result ≡ bytes.items }
     {
         ByteList { bytes }
     }
 
+    /// Returns the bytes.
     pub fn as_slice(&self) -> &[u8]
         ensures { result.now ≡ self.now }
     {

@@ -31,8 +31,8 @@ impl Model for Clip {
 }
 
 impl Clip {
-    /// `None` exactly where the size is out of range, the frames are not 1 to 1,000,000, or the bytes are not just those
-    /// of the frames.
+    /// Creates a clip. It returns `None` exactly where the size is out of range, the frames are not 1 to 1,000,000, or the
+    /// bytes are not as many as the frames have.
     pub fn new(geometry: Geometry, frames: u32, bytes: ByteList) -> Option<Clip>
         ensures exact { IsSome result
             ↔ IsClip (record { geometry = geometry; frames = frames; bytes = bytes }) }
@@ -52,7 +52,7 @@ impl Clip {
         })
     }
 
-    /// 1 to 4096 columns and rows, and at most 4096 pairs.
+    /// Returns the size: 1 to 4096 columns and rows, and at most 4096 pairs.
     pub fn geometry(&self) -> Geometry
         ensures value { result ≡ self.now.geometry }
         ensures range { IsClip self.now }
@@ -60,7 +60,7 @@ impl Clip {
         self.geometry
     }
 
-    /// 1 to 1,000,000.
+    /// Returns the number of frames, 1 to 1,000,000.
     pub fn frames(&self) -> u32
         ensures value { result ≡ self.now.frames }
         ensures range { IsClip self.now }
@@ -68,7 +68,7 @@ impl Clip {
         self.frames
     }
 
-    /// The bytes of all frames.
+    /// Returns the bytes of all frames.
     pub fn bytes(&self) -> &[u8]
         ensures value { result.now ≡ self.now.bytes }
         ensures range { IsClip self.now }

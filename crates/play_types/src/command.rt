@@ -31,7 +31,7 @@ pub enum Cmd {
     StopLayer(Place),
     /// Removes the foreground and the background.
     ClearLayer(Place),
-    /// Removes those of all layers of a channel.
+    /// Removes the foregrounds and the backgrounds of all layers of a channel.
     ClearChannel(u8),
     /// Exchanges two places, with their mixer values where the last part says so.
     SwapLayers(Place, Place, bool),
@@ -43,7 +43,7 @@ pub enum Cmd {
     CommitMixer(u8),
     /// Sets all mixer values of a place to their defaults.
     ResetLayer(Place),
-    /// Sets those of all places of a channel to their defaults.
+    /// Sets all mixer values of all places of a channel to their defaults.
     ResetChannel(u8),
     /// Asks for a mixer value.
     Value(Place, Prop),
@@ -52,14 +52,14 @@ pub enum Cmd {
 }
 
 impl Cmd {
-    /// A LOAD. Its take is kept with a cut and without `auto`.
+    /// Creates a LOAD, whose take is kept with a cut and without `auto`.
     pub fn load(place: Place, take: Take) -> Cmd
         ensures { result ≡ Cmd.Load place (loaded take) }
     {
         Cmd::Load(place, take.with_cut().without_auto())
     }
 
-    /// A PLAY of a take, which is kept without `auto`.
+    /// Creates a PLAY of a take, which is kept without `auto`.
     pub fn play_take(place: Place, take: Take) -> Cmd
         ensures { result ≡ Cmd.PlayTake place (played take) }
     {
@@ -132,7 +132,7 @@ impl Model for CmdList {
 }
 
 impl CmdList {
-    /// No commands. It takes no memory.
+    /// Creates a list without commands. It takes no memory.
     pub fn new(alloc: Global) -> CmdList
         ensures { result ≡ [] }
     {
@@ -141,7 +141,7 @@ impl CmdList {
         }
     }
 
-    /// Adds a command at the end. At want of memory the list is as before.
+    /// Adds a command at the end. Where memory runs out, the list stays as it was.
     pub fn push(&mut self, cmd: Cmd) -> Result<(), AllocError>
         ensures ok { OnOk result (self.new ≡ self.old ++ cmd ∷ []) }
         ensures err { OnErr result (self.new ≡ self.old) }
@@ -150,12 +150,14 @@ impl CmdList {
         Ok(())
     }
 
+    /// Returns the number of commands.
     pub fn len(&self) -> usize
         ensures { result ≡ length self.now }
     {
         self.cmds.len()
     }
 
+    /// Returns whether there are no commands.
     pub fn is_empty(&self) -> bool
         ensures { result ≡ (length self.now == 0) }
     {
@@ -169,7 +171,7 @@ impl CmdList {
         self.cmds.iter()
     }
 
-    /// `None` exactly where `at` is not below the length.
+    /// Returns the command at position `at`, counted from 0: `None` exactly where `at` is not below the length.
     pub fn get(&self, at: usize) -> Option<&Cmd>
         ensures { option_copied result ≡ slice_get self.now at }
     {

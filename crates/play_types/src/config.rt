@@ -39,7 +39,8 @@ impl Model for Channel {
 }
 
 impl Channel {
-    /// `None` exactly where the width or the height is not 1 to 4096, the pairs are above 4096, or the output is empty.
+    /// Creates a channel. It returns `None` exactly where the width or the height is not 1 to 4096, the pairs are above
+    /// 4096, or the output is empty.
     pub fn new(width: u16, height: u16, pairs: u16, output: Text) -> Option<Channel>
         ensures exact { IsSome result
             ↔ IsChannel (record { width = width; height = height; pairs = pairs; output = output }) }
@@ -62,7 +63,7 @@ impl Channel {
         })
     }
 
-    /// 1 to 4096.
+    /// Returns the width in columns, 1 to 4096.
     pub fn width(&self) -> u16
         ensures value { result ≡ self.now.width }
         ensures range { IsChannel self.now }
@@ -70,7 +71,7 @@ impl Channel {
         self.width
     }
 
-    /// 1 to 4096.
+    /// Returns the height in rows, 1 to 4096.
     pub fn height(&self) -> u16
         ensures value { result ≡ self.now.height }
         ensures range { IsChannel self.now }
@@ -78,7 +79,7 @@ impl Channel {
         self.height
     }
 
-    /// Stereo pairs of sound a frame, at most 4096.
+    /// Returns the stereo pairs of sound of a frame, at most 4096.
     pub fn pairs(&self) -> u16
         ensures value { result ≡ self.now.pairs }
         ensures range { IsChannel self.now }
@@ -86,7 +87,7 @@ impl Channel {
         self.pairs
     }
 
-    /// The name of the file of its frames, which is not empty.
+    /// Returns the name of the file that the frames are written to, which is not empty.
     pub fn output(&self) -> &Text
         ensures value { result.now ≡ self.now.output }
         ensures range { IsChannel self.now }
@@ -94,6 +95,7 @@ impl Channel {
         &self.output
     }
 
+    /// Returns the size of the frames and of their sound.
     pub fn geometry(&self) -> Geometry
         ensures value { result
             ≡ record { width = self.now.width; height = self.now.height; pairs = self.now.pairs } }
@@ -125,7 +127,7 @@ impl Model for ChannelList {
 }
 
 impl ChannelList {
-    /// No channels. It takes no memory.
+    /// Creates a list without channels. It takes no memory.
     pub fn new(alloc: Global) -> ChannelList
         ensures { result ≡ [] }
     {
@@ -134,7 +136,7 @@ impl ChannelList {
         }
     }
 
-    /// Adds a channel at the end. At want of memory the list is as before.
+    /// Adds a channel at the end. Where memory runs out, the list stays as it was.
     pub fn push(&mut self, channel: Channel) -> Result<(), AllocError>
         ensures ok { OnOk result (self.new ≡ self.old ++ channel ∷ []) }
         ensures err { OnErr result (self.new ≡ self.old) }
@@ -145,6 +147,7 @@ impl ChannelList {
         Ok(())
     }
 
+    /// Returns the number of channels.
     pub fn len(&self) -> usize
         ensures value { result ≡ length self.now }
         ensures channels { All IsChannel self.now }
@@ -152,6 +155,7 @@ impl ChannelList {
         self.channels.len()
     }
 
+    /// Returns whether there are no channels.
     pub fn is_empty(&self) -> bool
         ensures { result ≡ (length self.now == 0) }
     {
@@ -165,7 +169,7 @@ impl ChannelList {
         self.channels.iter()
     }
 
-    /// `None` exactly where `at` is not below the length.
+    /// Returns the channel at position `at`, counted from 0: `None` exactly where `at` is not below the length.
     pub fn get(&self, at: usize) -> Option<&Channel>
         ensures { option_copied result ≡ slice_get self.now at }
     {
@@ -195,8 +199,9 @@ impl Model for Config {
 }
 
 impl Config {
-    /// `None` exactly where the address or the media folder is empty, the rate is not 1 to 240, the connections are not
-    /// 1 to 64, the journal's limit is not 1 to 16,777,216, or the channels are not 1 to 16.
+    /// Creates a configuration. It returns `None` exactly where the address or the media folder is empty, the rate is not
+    /// 1 to 240, the connections are not 1 to 64, the journal's limit is not 1 to 16,777,216, or the channels are not 1 to
+    /// 16.
     pub fn new(
         listen: Text,
         media: Text,
@@ -229,7 +234,7 @@ impl Config {
         })
     }
 
-    /// The address to listen on, which is not empty.
+    /// Returns the address to listen on, which is not empty.
     pub fn listen(&self) -> &Text
         ensures value { result.now ≡ self.now.listen }
         ensures range { IsConfig self.now }
@@ -237,7 +242,7 @@ impl Config {
         &self.listen
     }
 
-    /// The folder of the media, which is not empty.
+    /// Returns the folder of the media, which is not empty.
     pub fn media(&self) -> &Text
         ensures value { result.now ≡ self.now.media }
         ensures range { IsConfig self.now }
@@ -245,7 +250,7 @@ impl Config {
         &self.media
     }
 
-    /// Pulses a second, 1 to 240.
+    /// Returns the pulses a second, 1 to 240.
     pub fn rate(&self) -> u32
         ensures value { result ≡ self.now.rate }
         ensures range { IsConfig self.now }
@@ -253,7 +258,7 @@ impl Config {
         self.rate
     }
 
-    /// Connection workers, 1 to 64.
+    /// Returns the number of connection workers, 1 to 64.
     pub fn connections(&self) -> u32
         ensures value { result ≡ self.now.connections }
         ensures range { IsConfig self.now }
@@ -261,7 +266,7 @@ impl Config {
         self.connections
     }
 
-    /// The most commands that the history may hold, 1 to 16,777,216.
+    /// Returns the most commands that the history may hold, 1 to 16,777,216.
     pub fn journal_limit(&self) -> u32
         ensures value { result ≡ self.now.journal_limit }
         ensures range { IsConfig self.now }
@@ -269,7 +274,7 @@ impl Config {
         self.journal_limit
     }
 
-    /// 1 to 16 channels.
+    /// Returns the 1 to 16 channels.
     pub fn channels(&self) -> &ChannelList
         ensures value { result.now ≡ self.now.channels }
         ensures range { IsConfig self.now }

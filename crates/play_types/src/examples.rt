@@ -1,19 +1,27 @@
-//! Worked examples of the definitions in `specs/`, which the checker computes.
+//! Worked examples of the definitions in `specs/`, which the checker computes. Each is the contract of a function that
+//! does nothing.
 ghost use Rattle.std.specs.Prelude.{◌≡◌, ◌≢◌, ◌∷◌, ◌++◌, [], pos, neg_ℤ, true, false, Some, None, replicate};
 ghost use Rattle.play_types.specs.ClipFile.{IsClip, IsClipFile, clip_bytes};
 ghost use Rattle.play_types.specs.Columns.{New, Old, Both, pick};
+ghost use Rattle.play_types.specs.Config.{IsConfig};
 ghost use Rattle.play_types.specs.Curve.{along};
+ghost use Rattle.play_types.specs.Geometry.{IsSize};
 ghost use Rattle.play_types.specs.History.{IsHistory, held, stop_at, ticks};
+ghost use Rattle.play_types.specs.Place.{IsPlace};
 ghost use Rattle.play_types.specs.Playhead.{head};
-ghost use Rattle.play_types.specs.Take.{take_of};
-ghost use Rattle.play_types.specs.Transition.{cut};
+ghost use Rattle.play_types.specs.Setting.{AreValues};
+ghost use Rattle.play_types.specs.Take.{IsTake, take_of};
+ghost use Rattle.play_types.specs.Transition.{IsTrans, cut};
+ghost use Rattle.play_types.specs.Worked.{config};
+ghost use Rattle.play_types.specs.declared.transition.Curve.TheVariants.{Linear};
 
 use crate::command::Cmd;
 use crate::event::{Event, Tag};
+use crate::setting::Prop;
 use crate::take::Spec;
 use crate::transition::Kind;
 
-// A clip that is played from frame 2 on, 5 frames of it.
+/// A clip that is played from frame 2 on, 5 frames of it.
 pub fn playhead_of_a_clip()
     ensures first { head (take_of (Spec.Clip 7) false 2 5 cut false) 0 ≡ 2 }
     ensures stays_on_its_last_frame { head (take_of (Spec.Clip 7) false 2 5 cut false) 9 ≡ 6 }
@@ -22,7 +30,8 @@ pub fn playhead_of_a_clip()
     ensures colour_has_none { head (take_of (Spec.Colour 4278190335) true 2 5 cut false) 9 ≡ 0 }
 {}
 
-// In millionths.
+/// A value between 1 and 0 over four ticks, in millionths, and one over three ticks, where thirds are rounded toward the
+/// value at the start.
 pub fn tween_over_four_ticks()
     ensures before { along (pos 1000000) (pos 0) 0 4 ≡ pos 1000000 }
     ensures one { along (pos 1000000) (pos 0) 1 4 ≡ pos 750000 }
@@ -34,7 +43,7 @@ pub fn tween_over_four_ticks()
     ensures up_toward_zero { along (neg_ℤ (pos 10)) (pos 0) 1 3 ≡ neg_ℤ (pos 7) }
 {}
 
-// Four columns, at step 1 of 4 and at step 2 of 3.
+/// Pictures of four columns, at step 1 of 4 and at step 2 of 3 of a transition.
 pub fn columns_of_transitions()
     ensures mixed { pick Kind.Mix false 1 4 4 3 ≡ Both 3 }
     ensures wiped { pick Kind.Wipe false 1 4 4 0 ≡ New 0 }
@@ -49,6 +58,7 @@ pub fn columns_of_transitions()
     ensures slid_in_leftward { pick Kind.Slide true 2 3 4 2 ≡ New 0 }
 {}
 
+/// A history of two ticks, of a command and of a batch of two.
 pub fn numbers_of_a_history(tag: Tag, cmd: Cmd)
     ensures ticks { ticks
         (Event.Tick ∷ Event.Do tag cmd ∷ Event.Tick ∷ Event.Batch tag (cmd ∷ cmd ∷ []) ∷ [])
@@ -61,6 +71,7 @@ pub fn numbers_of_a_history(tag: Tag, cmd: Cmd)
     ensures not_stopped { stop_at (Event.Tick ∷ Event.Do tag cmd ∷ []) ≡ None }
 {}
 
+/// No batch of a history is empty, and nothing follows a stop.
 pub fn histories(tag: Tag, cmd: Cmd)
     ensures empty { IsHistory [] }
     ensures stopped { IsHistory (Event.Batch tag (cmd ∷ []) ∷ Event.Tick ∷ Event.Stop tag ∷ []) }
@@ -69,7 +80,7 @@ pub fn histories(tag: Tag, cmd: Cmd)
     ensures one_stop { IsHistory (Event.Stop tag ∷ Event.Stop tag ∷ []) → ⊥ }
 {}
 
-// 2x1, one frame, no sound.
+/// Files of clips of two columns and one row, with one frame and without sound.
 pub fn clip_files()
     ensures spelled { clip_bytes (record {
       geometry = record { width = 2; height = 1; pairs = 0 };
@@ -95,4 +106,70 @@ pub fn clip_files()
       frames = 1;
       bytes = 1 ∷ 2 ∷ 3 ∷ 4 ∷ [];
     }) → ⊥ }
+    ensures no_frames { IsClip (record {
+      geometry = record { width = 1; height = 1; pairs = 0 };
+      frames = 0;
+      bytes = [];
+    }) → ⊥ }
+{}
+
+/// A place has a channel from 1 to 16 and a layer from 0 to 9999.
+pub fn limits_of_places()
+    ensures first { IsPlace 1 0 }
+    ensures last { IsPlace 16 9999 }
+    ensures no_channel { IsPlace 0 0 → ⊥ }
+    ensures channel_17 { IsPlace 17 0 → ⊥ }
+    ensures layer_10000 { IsPlace 1 10000 → ⊥ }
+{}
+
+/// A frame has 1 to 4096 columns and rows, and at most 4096 stereo pairs.
+pub fn limits_of_sizes()
+    ensures least { IsSize 1 1 0 }
+    ensures greatest { IsSize 4096 4096 4096 }
+    ensures no_column { IsSize 0 1 0 → ⊥ }
+    ensures no_row { IsSize 1 0 0 → ⊥ }
+    ensures columns { IsSize 4097 1 0 → ⊥ }
+    ensures rows { IsSize 1 4097 0 → ⊥ }
+    ensures pairs { IsSize 1 1 4097 → ⊥ }
+{}
+
+/// A take plays at least one of the first 1,000,000 frames of a clip, and a transition lasts at most 1,000,000 ticks.
+pub fn limits_of_takes()
+    ensures last_frame { IsTake (Spec.Clip 7) 999999 1 }
+    ensures no_frame { IsTake (Spec.Clip 7) 0 0 → ⊥ }
+    ensures frame_too_far { IsTake (Spec.Clip 7) 1000000 1 → ⊥ }
+    ensures no_clip { IsTake (Spec.Colour 4278190335) 4 0 }
+    ensures long_mix { IsTrans Kind.Mix 1000000 Linear true }
+    ensures too_long_a_mix { IsTrans Kind.Mix 1000001 Linear true → ⊥ }
+    ensures cut_with_a_duration { IsTrans Kind.Cut 1 Linear false → ⊥ }
+{}
+
+/// The values of mixer settings, in millionths: an opacity is 0 to 1, a volume 0 to 1000, each number of a fill is within
+/// -1000 to 1000, and a keyer is 0 or 1. Numbers that the property does not use may be any.
+pub fn limits_of_settings()
+    ensures opacity { AreValues Prop.Opacity (pos 1000000 ∷ pos 2000000 ∷ pos 0 ∷ pos 0 ∷ []) }
+    ensures opacity_above_1 { AreValues Prop.Opacity (pos 1000001 ∷ pos 0 ∷ pos 0 ∷ pos 0 ∷ []) → ⊥ }
+    ensures opacity_below_0 { AreValues Prop.Opacity (neg_ℤ (pos 1) ∷ pos 0 ∷ pos 0 ∷ pos 0 ∷ []) → ⊥ }
+    ensures volume { AreValues Prop.Volume (pos 1000000000 ∷ pos 0 ∷ pos 0 ∷ pos 0 ∷ []) }
+    ensures volume_above_1000 { AreValues Prop.Volume (pos 1000000001 ∷ pos 0 ∷ pos 0 ∷ pos 0 ∷ []) → ⊥ }
+    ensures fill { AreValues Prop.Fill (pos 0 ∷ pos 1000000000 ∷ pos 0 ∷ neg_ℤ (pos 1000000000) ∷ []) }
+    ensures fill_below { AreValues Prop.Fill (pos 0 ∷ pos 0 ∷ pos 0 ∷ neg_ℤ (pos 1000000001) ∷ []) → ⊥ }
+    ensures clip_above { AreValues Prop.Clip (pos 0 ∷ pos 1000000001 ∷ pos 0 ∷ pos 0 ∷ []) → ⊥ }
+    ensures keyer { AreValues Prop.Keyer (pos 1000000 ∷ pos 0 ∷ pos 0 ∷ pos 0 ∷ []) }
+    ensures keyer_between { AreValues Prop.Keyer (pos 1 ∷ pos 0 ∷ pos 0 ∷ pos 0 ∷ []) → ⊥ }
+{}
+
+/// A configuration has a rate from 1 to 240, 1 to 64 connection workers, a limit of 1 to 16,777,216 commands for its history,
+/// and 1 to 16 channels.
+pub fn limits_of_configurations()
+    ensures least { IsConfig (config 1 1 1 1) }
+    ensures greatest { IsConfig (config 240 64 16777216 16) }
+    ensures no_rate { IsConfig (config 0 1 1 1) → ⊥ }
+    ensures rate_241 { IsConfig (config 241 1 1 1) → ⊥ }
+    ensures no_connection { IsConfig (config 1 0 1 1) → ⊥ }
+    ensures connection_65 { IsConfig (config 1 65 1 1) → ⊥ }
+    ensures no_command { IsConfig (config 1 1 0 1) → ⊥ }
+    ensures command_16777217 { IsConfig (config 1 1 16777217 1) → ⊥ }
+    ensures no_channel { IsConfig (config 1 1 1 0) → ⊥ }
+    ensures channel_17 { IsConfig (config 1 1 1 17) → ⊥ }
 {}

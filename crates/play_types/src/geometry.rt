@@ -17,7 +17,7 @@ pub struct Geometry {
 }
 
 impl Geometry {
-    /// Whether there are 1 to 4096 columns and rows, and at most 4096 pairs.
+    /// Returns whether there are 1 to 4096 columns and rows, and at most 4096 pairs.
     pub fn is_in_range(self) -> bool
         ensures { IsTrue result ↔ IsSize self.width self.height self.pairs }
     {
@@ -26,7 +26,7 @@ impl Geometry {
             && self.pairs <= MAX_PAIRS
     }
 
-    /// The bytes of one frame: four a pixel, then four a pair.
+    /// Returns the number of bytes of one frame: four a pixel, and four a pair.
     pub fn frame_bytes(self) -> u64
         ensures { result ≡ frame_bytes self }
     {

@@ -32,10 +32,10 @@ impl Model for MediaName {
 }
 
 impl MediaName {
-    /// The name of a readable clip, with its size and the number of its frames.
+    /// Creates the name of a readable clip, with its size and the number of its frames.
     ///
-    /// `None` exactly where the width or the height is not 1 to 4096, the pairs are above 4096, or the frames are not 1
-    /// to 1,000,000.
+    /// It returns `None` exactly where the width or the height is not 1 to 4096, the pairs are above 4096, or the frames
+    /// are not 1 to 1,000,000.
     pub fn clip(name: Text, size: Geometry, frames: u32) -> Option<MediaName>
         ensures exact { IsSome result ↔ AreClipNumbers size frames }
         ensures value { IfSome result (λ m. m ≡ clip_name name size frames) }
@@ -53,7 +53,7 @@ impl MediaName {
         })
     }
 
-    /// The name of a clip that cannot be read.
+    /// Creates the name of a clip that cannot be read.
     pub fn unreadable(name: Text) -> MediaName
         ensures { result ≡ unreadable_name name }
     {
@@ -67,19 +67,21 @@ impl MediaName {
         }
     }
 
+    /// Returns the name.
     pub fn name(&self) -> &Text
         ensures { result.now ≡ self.now.name }
     {
         &self.name
     }
 
+    /// Returns whether the clip can be read.
     pub fn is_readable(&self) -> bool
         ensures { result ≡ self.now.readable }
     {
         self.readable
     }
 
-    /// 1 to 4096 for a readable clip.
+    /// Returns the width in columns: 1 to 4096 for a readable clip, and else 0.
     pub fn width(&self) -> u16
         ensures value { result ≡ self.now.width }
         ensures range { IsMediaName self.now }
@@ -87,7 +89,7 @@ impl MediaName {
         self.width
     }
 
-    /// 1 to 4096 for a readable clip.
+    /// Returns the height in rows: 1 to 4096 for a readable clip, and else 0.
     pub fn height(&self) -> u16
         ensures value { result ≡ self.now.height }
         ensures range { IsMediaName self.now }
@@ -95,7 +97,7 @@ impl MediaName {
         self.height
     }
 
-    /// 1 to 1,000,000 for a readable clip.
+    /// Returns the number of frames: 1 to 1,000,000 for a readable clip, and else 0.
     pub fn frames(&self) -> u32
         ensures value { result ≡ self.now.frames }
         ensures range { IsMediaName self.now }
@@ -103,7 +105,7 @@ impl MediaName {
         self.frames
     }
 
-    /// Stereo pairs of sound a frame, at most 4096.
+    /// Returns the stereo pairs of sound of a frame, at most 4096.
     pub fn pairs(&self) -> u16
         ensures value { result ≡ self.now.pairs }
         ensures range { IsMediaName self.now }
@@ -130,7 +132,7 @@ impl Model for MediaNames {
 }
 
 impl MediaNames {
-    /// No names. It takes no memory.
+    /// Creates a list without names. It takes no memory.
     pub fn new(alloc: Global) -> MediaNames
         ensures { result ≡ [] }
     {
@@ -139,7 +141,7 @@ impl MediaNames {
         }
     }
 
-    /// Adds a name at the end. At want of memory the list is as before.
+    /// Adds a name at the end. Where memory runs out, the list stays as it was.
     pub fn push(&mut self, name: MediaName) -> Result<(), AllocError>
         requires { length self.old < 4294967295 }
         ensures ok { OnOk result (self.new ≡ self.old ++ name ∷ []) }
@@ -151,7 +153,7 @@ impl MediaNames {
         Ok(())
     }
 
-    /// At most 4,294,967,295.
+    /// Returns the number of names, at most 4,294,967,295.
     pub fn len(&self) -> usize
         ensures value { result ≡ length self.now }
         ensures range { length self.now ≤ 4294967295 }
@@ -160,6 +162,7 @@ impl MediaNames {
         self.names.len()
     }
 
+    /// Returns whether there are no names.
     pub fn is_empty(&self) -> bool
         ensures { result ≡ (length self.now == 0) }
     {
@@ -173,7 +176,7 @@ impl MediaNames {
         self.names.iter()
     }
 
-    /// `None` exactly where `at` is not below the length.
+    /// Returns the name at position `at`, counted from 0: `None` exactly where `at` is not below the length.
     pub fn get(&self, at: usize) -> Option<&MediaName>
         ensures { option_copied result ≡ slice_get self.now at }
     {

@@ -33,7 +33,7 @@ impl Model for Place {
 }
 
 impl Place {
-    /// `None` exactly where the channel is not 1 to 16 or the layer is above 9999.
+    /// Creates a place. It returns `None` exactly where the channel is not 1 to 16 or the layer is above 9999.
     pub fn new(channel: u8, layer: u16) -> Option<Place>
         ensures exact { IsSome result ↔ IsPlace channel layer }
         ensures value { IfSome result (λ p. p ≡ record { channel = channel; layer = layer }) }
@@ -45,7 +45,7 @@ impl Place {
         }
     }
 
-    /// 1 to 16.
+    /// Returns the channel, 1 to 16.
     pub fn channel(self) -> u8
         ensures value { result ≡ self.channel }
         ensures range { IsPlace self.channel self.layer }
@@ -53,7 +53,7 @@ impl Place {
         self.channel
     }
 
-    /// 0 to 9999.
+    /// Returns the layer, 0 to 9999.
     pub fn layer(self) -> u16
         ensures value { result ≡ self.layer }
         ensures range { IsPlace self.channel self.layer }

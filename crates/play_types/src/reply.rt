@@ -1,4 +1,4 @@
-//! What a client is answered.
+//! Replies to a client.
 ghost use Rattle.std.specs.Prelude.{◌≡◌, IsTrue};
 ghost use Rattle.std.specs.Str.{chars};
 ghost use Rattle.play_types.specs.Commands.{answer_reply};
@@ -90,7 +90,7 @@ impl Name {
     }
 }
 
-/// The answer to a line of a client.
+/// The reply to a line of a client.
 #[derive(Debug, Drop)]
 pub enum Reply {
     /// The command was done, or waits in a batch: 202.
@@ -106,10 +106,10 @@ pub enum Reply {
     /// The line is no command: 400, and the line. It is empty where the line was too long or no UTF-8.
     Unknown(Text),
     /// The command was refused, with one of these codes: 401 for its channel, 402 where a word is missing, 403 where a
-    /// word is wrong or the stage refused it, 404 where there is no such clip, 501 for want of memory, 502 where the
+    /// word is wrong or the stage refused it, 404 where there is no such clip, 501 where memory ran out, 502 where the
     /// clip is unreadable, 503 where the journal is full.
     Refused(u16, Name),
-    /// The line was given up for want of memory: 500.
+    /// The line was given up because memory ran out: 500.
     NoMemory,
 }
 

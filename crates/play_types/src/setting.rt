@@ -96,8 +96,9 @@ impl Model for Setting {
 }
 
 impl Setting {
-    /// `None` exactly where the duration is above 1,000,000 or a value that the property uses is out of its range.
-    /// Values that it does not use are dropped, and so are the duration and the curve of a keyer.
+    /// Creates a setting. It returns `None` exactly where the duration is above 1,000,000 or a value that the property uses
+    /// is out of its range. Values that the property does not use are dropped, and so are the duration and the curve of a
+    /// keyer.
     pub fn new(
         place: Place,
         prop: Prop,
@@ -128,19 +129,21 @@ impl Setting {
         })
     }
 
+    /// Returns the place whose mixer value is set.
     pub fn place(self) -> Place
         ensures { result ≡ self.place }
     {
         self.place
     }
 
+    /// Returns the property that is set.
     pub fn prop(self) -> Prop
         ensures { result ≡ self.prop }
     {
         self.prop
     }
 
-    /// In millionths. Those that the property does not use are 0.
+    /// Returns the values in millionths. Those that the property does not use are 0.
     pub fn values(self) -> [i64; 4]
         ensures value { result ≡ self.values }
         ensures range { IsSetting self }
@@ -148,7 +151,7 @@ impl Setting {
         self.values
     }
 
-    /// In ticks, 0 to 1,000,000.
+    /// Returns the duration in ticks, 0 to 1,000,000.
     pub fn duration(self) -> u32
         ensures value { result ≡ self.duration }
         ensures range { self.duration ≤ MAX_DURATION }
@@ -156,12 +159,14 @@ impl Setting {
         self.duration
     }
 
+    /// Returns the curve that the value follows.
     pub fn curve(self) -> Curve
         ensures { result ≡ self.curve }
     {
         self.curve
     }
 
+    /// Returns whether the setting waits for a MIXER COMMIT.
     pub fn deferred(self) -> bool
         ensures { result ≡ self.deferred }
     {
@@ -169,7 +174,7 @@ impl Setting {
     }
 }
 
-/// Whether each number, in millionths, is within -1000 to 1000.
+/// Returns whether each number, in millionths, is within -1000 to 1000.
 pub(crate) fn are_wide(values: &[i64]) -> bool
     ensures { IsTrue result ↔ All IsWide values.now }
 {
@@ -178,7 +183,7 @@ pub(crate) fn are_wide(values: &[i64]) -> bool
         .all(|value| (-MAX_MICROS..=MAX_MICROS).contains(value))
 }
 
-/// Whether the values that the property uses are in its range.
+/// Returns whether the values that the property uses are in its range.
 fn are_values(prop: Prop, values: [i64; 4]) -> bool
     ensures { IsTrue result ↔ AreValues prop values }
 {

@@ -48,8 +48,8 @@ impl Model for Take {
 }
 
 impl Take {
-    /// `None` exactly where the producer is a clip and its length is 0, or its seek and length together are above
-    /// 1,000,000. For other producers looped, seek and length are dropped.
+    /// Creates a take. It returns `None` exactly where the producer is a clip and its length is 0, or its seek and length
+    /// together are above 1,000,000. For other producers `looped`, `seek` and `length` are dropped.
     pub fn new(
         spec: Spec,
         looped: bool,
@@ -86,7 +86,7 @@ impl Take {
         }
     }
 
-    /// The take with a cut for its transition.
+    /// Returns the take with a cut for its transition.
     pub fn with_cut(self) -> Take
         ensures { result ≡ record self { trans = cut } }
     {
@@ -96,7 +96,7 @@ impl Take {
         }
     }
 
-    /// The take, which does not start by itself.
+    /// Returns the take without its automatic start.
     pub fn without_auto(self) -> Take
         ensures { result ≡ record self { auto = false } }
     {
@@ -106,19 +106,21 @@ impl Take {
         }
     }
 
+    /// Returns the producer.
     pub fn spec(self) -> Spec
         ensures { result ≡ self.spec }
     {
         self.spec
     }
 
+    /// Returns whether the part of the clip is played again and again.
     pub fn looped(self) -> bool
         ensures { result ≡ self.looped }
     {
         self.looped
     }
 
-    /// In frames.
+    /// Returns the frame of the clip that is played first, counted from 0.
     pub fn seek(self) -> u32
         ensures value { result ≡ self.seek }
         ensures range { IsTakeValue self.spec self.looped self.seek self.length }
@@ -126,7 +128,7 @@ impl Take {
         self.seek
     }
 
-    /// In frames.
+    /// Returns the number of frames of the clip that are played.
     pub fn length(self) -> u32
         ensures value { result ≡ self.length }
         ensures range { IsTakeValue self.spec self.looped self.seek self.length }
@@ -134,12 +136,14 @@ impl Take {
         self.length
     }
 
+    /// Returns the transition that brings the take in.
     pub fn trans(self) -> Trans
         ensures { result ≡ self.trans }
     {
         self.trans
     }
 
+    /// Returns whether the take starts by itself where the foreground ends.
     pub fn auto(self) -> bool
         ensures { result ≡ self.auto }
     {

@@ -23,7 +23,7 @@ impl Model for Text {
 }
 
 impl Text {
-    /// A copy of the text.
+    /// Creates a copy of `text`.
     pub fn copy(alloc: Global, text: &str) -> Result<Text, AllocError>
         ensures { IfOk result (λ t. t ≡ chars text.now) }
     {
@@ -31,26 +31,28 @@ impl Text {
         Ok(Text { text })
     }
 
+    /// Returns the text.
     pub fn as_str(&self) -> &str
         ensures { chars result.now ≡ self.now }
     {
         self.text.as_str()
     }
 
+    /// Returns whether the text has no character.
     pub fn is_empty(&self) -> bool
         ensures { result ≡ (length self.now == 0) }
     {
         self.as_str().is_empty()
     }
 
-    /// Whether the two have the same characters.
+    /// Returns whether the text and `other` have equal characters.
     pub fn is_same(&self, other: &str) -> bool
         ensures { IsTrue result ↔ (self.now ≡ chars other.now) }
     {
         self.as_str() == other
     }
 
-    /// The text itself, without a copy.
+    /// Hands the text out, without a copy.
     pub fn into_string(self) -> String
         ensures { chars (string_bytes result) ≡ self }
     {

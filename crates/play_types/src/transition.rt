@@ -85,7 +85,8 @@ impl Model for Trans {
 }
 
 impl Trans {
-    /// `None` exactly where the duration is above 1,000,000. A cut is kept with duration 0, linear and not leftward.
+    /// Creates a transition. It returns `None` exactly where the duration is above 1,000,000. A cut is kept with duration
+    /// 0, linear and not leftward.
     pub fn new(kind: Kind, duration: u32, curve: Curve, leftward: bool) -> Option<Trans>
         ensures exact { IsSome result ↔ (duration ≤ MAX_DURATION) }
         ensures value { IfSome result (λ t. t ≡ trans_of kind duration curve leftward) }
@@ -104,7 +105,7 @@ impl Trans {
         }
     }
 
-    /// The transition that takes no time.
+    /// Creates the transition that takes no time.
     pub fn cut() -> Trans
         ensures { result ≡ cut }
     {
@@ -116,13 +117,14 @@ impl Trans {
         }
     }
 
+    /// Returns the kind.
     pub fn kind(self) -> Kind
         ensures { result ≡ self.kind }
     {
         self.kind
     }
 
-    /// In ticks, 0 to 1,000,000.
+    /// Returns the duration in ticks, 0 to 1,000,000.
     pub fn duration(self) -> u32
         ensures value { result ≡ self.duration }
         ensures range { self.duration ≤ MAX_DURATION }
@@ -130,12 +132,14 @@ impl Trans {
         self.duration
     }
 
+    /// Returns the curve.
     pub fn curve(self) -> Curve
         ensures { result ≡ self.curve }
     {
         self.curve
     }
 
+    /// Returns whether the transition goes leftward.
     pub fn leftward(self) -> bool
         ensures { result ≡ self.leftward }
     {

@@ -21,7 +21,7 @@ loop-at-init c = record {
 pub returns-in-None-escaped : goal.returns-in-None-escaped
 returns-in-None-escaped c =
     let steps = c.in-Some.ensures.steps in
-    read_bad c.args.line.now _ _ _ _ _ _ _ _ _ steps.1 steps.2 c.in-Some-escape.start c.in-None-escaped.ensures (rw c.in-Some-escape.is at c.loop-at.invariant.reads)
+    read_bad c.loop-at.invariant.reads (record { bytes = steps.1; step = steps.2 }) c.in-Some-escape.start c.in-Some-escape.is c.in-None-escaped.ensures
 
 pub loop-at-preserved-in-Some-escape : goal.loop-at-preserved-in-Some-escape
 loop-at-preserved-in-Some-escape c =
@@ -29,9 +29,9 @@ loop-at-preserved-in-Some-escape c =
     record {
       can_next = search rules;
       is_finite = search rules;
-      reads =
-          read_escape c.args.line.now _ _ _ _ _ _ _ _ _ steps.1 steps.2 c.in-Some-escape.start c.in-Some-escaped.c _ c.in-Some-escaped.ensures (IsUtf8-string_bytes c.loop-at.word)
-          c.in_ok-push-in-Some-escaped.ensures.bytes (rw c.in-Some-escape.is at c.loop-at.invariant.reads);
+      reads = rw c.in_ok-push-in-Some-escaped.ensures.bytes
+          (read_escape c.loop-at.invariant.reads (record { bytes = steps.1; step = steps.2 }) c.in-Some-escape.start c.in-Some-escaped.c c.in-Some-escape.is
+          c.in-Some-escaped.ensures (IsUtf8-string_bytes c.loop-at.word));
     }
 
 pub loop-at-preserved-then-c-eq92 : goal.loop-at-preserved-then-c-eq92
@@ -40,7 +40,7 @@ loop-at-preserved-then-c-eq92 c =
     record {
       can_next = search rules;
       is_finite = search rules;
-      reads = read_backslash c.args.line.now _ _ _ _ _ _ _ _ _ steps.1 steps.2 c.in-Some.at steps.0 c.if-c-eq92.true (rw c.in_default.is at c.loop-at.invariant.reads);
+      reads = read_backslash c.loop-at.invariant.reads (record { bytes = steps.1; step = steps.2 }) c.in-Some.at steps.0 c.if-c-eq92.true c.in_default.is;
     }
 
 pub loop-at-preserved-then-is_none : goal.loop-at-preserved-then-is_none
@@ -50,7 +50,7 @@ loop-at-preserved-then-is_none c =
     record {
       can_next = search rules;
       is_finite = search rules;
-      reads = rw c.in_default.is (read_mark c.args.line.now _ _ _ _ _ _ _ _ _ steps.1 steps.2 _ turns c.if-c-eq34.true (rw c.in_default.is at c.loop-at.invariant.reads));
+      reads = read_mark c.loop-at.invariant.reads (record { bytes = steps.1; step = steps.2 }) _ turns c.if-c-eq34.true c.in_default.is;
     }
 
 pub loop-at-preserved-else-is_none : goal.loop-at-preserved-else-is_none
@@ -60,7 +60,7 @@ loop-at-preserved-else-is_none c =
     record {
       can_next = search rules;
       is_finite = search rules;
-      reads = rw c.in_default.is (read_mark c.args.line.now _ _ _ _ _ _ _ _ _ steps.1 steps.2 _ turns c.if-c-eq34.true (rw c.in_default.is at c.loop-at.invariant.reads));
+      reads = read_mark c.loop-at.invariant.reads (record { bytes = steps.1; step = steps.2 }) _ turns c.if-c-eq34.true c.in_default.is;
     }
 
 pub loop-at-preserved-then-is_none-2 : goal.loop-at-preserved-then-is_none-2
@@ -75,7 +75,8 @@ loop-at-preserved-then-is_none-2 c =
     record {
       can_next = search rules;
       is_finite = search rules;
-      reads = rw c.in_default.is (read_gap c.args.line.now _ _ _ _ _ _ _ _ _ steps.1 steps.2 _ _ (sym c.is_blank.ensures ∙ c.if-is_blank.true) closed added c.clear.ensures.bytes (rw c.in_default.is at c.loop-at.invariant.reads));
+      reads = rw (added, c.clear.ensures.bytes)
+          (read_gap c.loop-at.invariant.reads (record { bytes = steps.1; step = steps.2 }) (sym c.is_blank.ensures ∙ c.if-is_blank.true) closed c.in_default.is);
     }
 
 pub loop-at-preserved : goal.loop-at-preserved
@@ -89,16 +90,18 @@ loop-at-preserved c =
     record {
       can_next = search rules;
       is_finite = search rules;
-      reads = rw c.in_default.is (read_letter c.args.line.now _ _ _ _ _ _ _ _ _ steps.1 steps.2 _ (ne_eqb c.in-Some.c 92 c.if-c-eq92.false) (ne_eqb c.in-Some.c 34 c.if-c-eq34.false) gap (IsUtf8-string_bytes c.loop-at.word) c.in_ok-push-2.ensures.bytes (rw c.in_default.is at c.loop-at.invariant.reads));
+      reads = rw c.in_ok-push-2.ensures.bytes
+          (read_letter c.loop-at.invariant.reads (record { bytes = steps.1; step = steps.2 }) (ne_eqb c.in-Some.c 92 c.if-c-eq92.false)
+          (ne_eqb c.in-Some.c 34 c.if-c-eq34.false) gap (IsUtf8-string_bytes c.loop-at.word) c.in_default.is);
     }
 
 pub returns-in-Some-escape-2 : goal.returns-in-Some-escape-2
 returns-in-Some-escape-2 c =
-    end_in_escape c.args.line.now _ _ _ _ _ _ c.in-None.ensures.steps.0 c.in-Some-escape-2.at (rw c.in-Some-escape-2.is at c.loop-at.invariant.reads)
+    end_in_escape c.loop-at.invariant.reads c.in-None.ensures.steps.0 c.in-Some-escape-2.at c.in-Some-escape-2.is
 
 pub returns-in-Some-open : goal.returns-in-Some-open
 returns-in-Some-open c =
-    end_in_quotes c.args.line.now _ _ _ _ _ _ c.in-None.ensures.steps.0 c.in-Some-open.at c.in-Some-open.is (rw c.in_default-escape.is at c.loop-at.invariant.reads)
+    end_in_quotes c.loop-at.invariant.reads c.in-None.ensures.steps.0 c.in-Some-open.at c.in_default-escape.is c.in-Some-open.is
 
 pub returns : goal.returns
 returns c =
@@ -107,4 +110,4 @@ returns c =
       | then-begun-2+in_ok-push-3 w ↦ w.words-is ∙ w.in_ok-push-3.ensures.ok ∙ rw (w.if-begun-2.true, w.as_str-then-begun-2.ensures.value) refl
       | else-begun-2 w ↦ w.words-is ∙ rw w.if-begun-2.false (sym (append-nil c.loop-at.words))
     ] in
-    end_of_words c.args.line.now _ _ _ _ _ _ c.in-None.ensures.steps.0 c.in_default-open.is (rw c.in_default-escape.is at c.loop-at.invariant.reads) ∙ ap Ok (sym added)
+    end_of_words c.loop-at.invariant.reads c.in-None.ensures.steps.0 c.in_default-escape.is c.in_default-open.is ∙ ap Ok (sym added)

@@ -7,5 +7,14 @@ abbrev pub invariant-loop-at : goal.invariant-loop-at
 invariant-loop-at l = record {
   can_next : (goal.iterator-loop-at).can_next l.at-iterator;
   is_finite : (goal.iterator-loop-at).is_finite l.at-iterator;
-  reads : Reads l.line l.words l.begun (string_bytes l.word) l.open l.escape (char_indices_offset l.at-iterator) (char_indices_rest l.at-iterator);
+  reads : Reads (record {
+    line = l.line;
+    words = l.words;
+    has_begun = l.begun;
+    word = string_bytes l.word;
+    quote = l.open;
+    escape = l.escape;
+    offset = char_indices_offset l.at-iterator;
+    rest = char_indices_rest l.at-iterator;
+  });
 }

@@ -47,7 +47,7 @@ colour_of_bytes text utf8 = elim (cases_Bool (list_all is_ascii_hexdigit text)) 
   ]
 ]
 
--- so many digits write a smaller number than the next power
+-- hexadecimal digits write a number below 16 to the power of their number
 pub hexadecimal_below : (text : List ℕ) → list_all is_ascii_hexdigit text ≡ true → digits_value 16 text < 16 ^ length text
 hexadecimal_below text digits = digits_value-lt 16 text (all_hexadecimal text digits)
 

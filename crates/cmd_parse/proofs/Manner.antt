@@ -25,7 +25,7 @@ word_next [] rest (suc at) h = ap (λ xs. slice_get xs 1) h
 word_next (word ∷ words) rest (suc at) h =
     let e : suc at + 1 ≡ suc (at + 1) = omega arith in rw e (word_next words rest at h)
 
--- a word that is one fixed word is no other
+-- a word that is one fixed word is not another one
 pub other_word : (one other word : List ℕ) → bytes_eq one other ≡ false → is_word one word ≡ true → is_word other word ≡ false
 unfolding is_word
 other_word one other word differ is =
@@ -36,7 +36,7 @@ curve_not_leftward : (word : List ℕ) → is_curve word ≡ true → is_leftwar
 curve_not_leftward word h =
     rw (other_word (codes "LINEAR") (codes "LEFT") word refl h, other_word (codes "LINEAR") (codes "FROMRIGHT") word refl h) refl
 
--- whether a word that may be missing is such a one
+-- whether there is a word that passes a test
 abbrev is_one : (List ℕ → Bool) → Option (List ℕ) → Bool
 is_one test word = option_map_or test word false
 
@@ -47,7 +47,7 @@ manner_of one two =
     else if is_one is_direction one then (if is_one is_curve two then 2 else 1, is_one is_leftward one)
     else (0, false)
 
--- whether a fixed word is written where a word may be missing
+-- whether there is a word and it is this fixed one
 abbrev stands : List ℕ → Option (List ℕ) → Bool
 stands fixed word = is_one (is_word fixed) word
 
@@ -57,30 +57,20 @@ leftward word = stands (codes "LEFT") word || stands (codes "FROMRIGHT") word
 abbrev direction : Option (List ℕ) → Bool
 direction word = leftward word || (stands (codes "RIGHT") word || stands (codes "FROMLEFT") word)
 
-leftward_is : (word : Option (List ℕ)) → leftward word ≡ is_one is_leftward word
-leftward_is None = refl
-leftward_is (Some word) = refl
-
-direction_is : (word : Option (List ℕ)) → direction word ≡ is_one is_direction word
-direction_is None = refl
-direction_is (Some word) = refl
-
-abbrev manner_by : Bool → Bool → Bool → Bool → Bool → Bool → ℕ × Bool
-manner_by curve curve' left left' directed directed' =
-    if curve then (if directed' then (2, left') else (1, false))
-    else if directed then (if curve' then 2 else 1, left)
-    else (0, false)
+-- whether fixed words stand there may be asked of each word that there is
+manner_words : (one two : Option (List ℕ))
+    → (if stands (codes "LINEAR") one then (if direction two then (2, leftward two) else (1, false))
+    else if direction one then (if stands (codes "LINEAR") two then 2 else 1, leftward one)
+    else (0, false))
+    ≡ manner_of one two
+manner_words None None = refl
+manner_words None (Some two) = refl
+manner_words (Some one) None = refl
+manner_words (Some one) (Some two) = refl
 
 manner_at-words : (line : Line) (at : ℕ) → manner_at line at ≡ manner_of (slice_get line.words at) (slice_get line.words (at + 1))
 unfolding manner_at
-manner_at-words line at =
-    let one = slice_get line.words at in
-    let two = slice_get line.words (at + 1) in
-    let by = manner_by (is_one is_curve one) (is_one is_curve two) in
-    ap (λ left. by left (leftward two) (direction one) (direction two)) (leftward_is one)
-    ∙ ap (λ left. by (is_one is_leftward one) left (direction one) (direction two)) (leftward_is two)
-    ∙ ap (λ directed. by (is_one is_leftward one) (is_one is_leftward two) directed (direction two)) (direction_is one)
-    ∙ ap (λ directed. by (is_one is_leftward one) (is_one is_leftward two) (is_one is_direction one) directed) (direction_is two)
+manner_at-words line at = manner_words (slice_get line.words at) (slice_get line.words (at + 1))
 
 -- the curve and the direction by the first two words that are left
 manner_left : (rest : List (List ℕ)) → manner_of (slice_get rest 0) (slice_get rest 1) ≡ (manner_len rest, list_any is_leftward (take (manner_len rest) rest))

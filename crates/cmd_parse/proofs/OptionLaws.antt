@@ -2,30 +2,32 @@
 use Rattle.std.proofs.Common.{◌≡◌, ℕ, ◌+◌, zero, suc, Bool, true, false, cond, ◌&&◌, not, List, [], ◌∷◌, ◌++◌, take, drop, length, get_or, drop-cons, ◌<◌, ◌≤◌, refl, sym, ap, ◌∙◌, add-one, add-zero, inl, inr, arith}
 use Rattle.std.specs.Prelude.{Option, Some, None, Result, Ok, Err, is_some, is_none, option_map, option_and_then, unwrap_or, ok_or, slice_get, codes, ◌==◌, if◌then◌else◌}
 use Rattle.std.specs.Option.{option_map_or, option_or}
+use Rattle.std.specs.List.{find}
 use Rattle.std.proofs.Math.Numerals.{one-add}
-use Rattle.std.proofs.lemmas.Bool.{cases_Bool, and_parts}
+use Rattle.std.proofs.lemmas.Bool.{cases_Bool, and_parts, eqb-true}
 use Rattle.std.proofs.lemmas.List.{drop-drop, drop_all, append-nil, append_assoc}
 use Rattle.std.proofs.lemmas.List.Folds.{find-append}
 use Rattle.amcp_text.specs.Numbers.{whole_number}
 use Rattle.play_types.specs.Transition.{TransView, trans_of}
 use Rattle.play_types.specs.declared.transition.Kind.{Kind}
-use Rattle.play_types.specs.declared.transition.Kind.TheVariants.{Cut, Mix, Push, Slide, Wipe}
+use Rattle.play_types.specs.declared.transition.Kind.TheVariants.{Cut}
 use Rattle.play_types.specs.declared.transition.Curve.TheVariants.{Linear}
 use Rattle.play_types.specs.declared.transition.TheConstants.{MAX_DURATION}
 use Rattle.play_types.specs.declared.parsed.Refusal.{Refusal}
 use Rattle.play_types.specs.declared.parsed.Refusal.TheVariants.{Illegal, Missing}
 use Rattle.history_model.specs.commands.Line.{Line, ◌>>=◌, legal, number_at}
 use Rattle.play_types.specs.Words.{is_word, kind_of}
-use Rattle.history_model.specs.commands.Options.{OptionName, Written, option_of, number_len, option_len, manner_len, is_leftward, is_same_option, is_option, given, written_number, number_refusal, option_refusal, options_refusal, options_after, options_from, options_of, options_at, transition_of, unless_refused, least_number, most_number, option_value}
+use Rattle.history_model.specs.commands.Options.{OptionName, Written, option_of, number_len, option_len, manner_len, is_same_option, option_number, is_option, given, written_number, number_refusal, option_refusal, options_refusal, options_after, options_from, options_of, options_at, transition_of, unless_refused, least_number, most_number, option_value}
 use Rattle.history_model.specs.commands.Options as meant
 use Rattle.cmd_parse.specs.inner.Keyword.{keyword_of, option_named, is_cut}
 use Rattle.cmd_parse.specs.inner.Options.{result_view, no_options, has_option, duration_at, transition_at, manner_at, with_given, with_keyword, with_word, with_option, is_number_at}
 use Rattle.cmd_parse.specs.declared.keyword.Keyword.{Keyword}
 use Rattle.cmd_parse.specs.declared.keyword.Keyword.TheVariants.{Loop, Seek, Length, Auto, Transition}
 use Rattle.cmd_parse.specs.declared.options.Given.{Given}
+use Rattle.cmd_parse.proofs.Keywords.{keyword_named, keyword_kind, cut_word, cut_kind}
 use Rattle.cmd_parse.proofs.Manner.{word_here, manner_from}
 
--- what options that are written make of the options that are read
+-- the options that are read where these are written
 abbrev pub read_of : List Written → Given
 read_of all = record {
   looped = is_some (given meant.Loop all);
@@ -47,79 +49,9 @@ has_given all Seek = is_some-map (written_number meant.Seek) (given meant.Seek a
 has_given all Length = is_some-map (written_number meant.Length) (given meant.Length all)
 has_given all (Transition kind) = is_some-map transition_of (given meant.Transition all)
 
--- the option that a word begins, with the kind of a transition and without
-kind_named : (kind : Option Kind) → cond (is_some kind) (Some meant.Transition) None ≡ option_map option_named (option_map Transition kind)
-kind_named None = refl
-kind_named (Some kind) = refl
-
-keyword_named : (word : List ℕ) → option_of word ≡ option_map option_named (keyword_of word)
-keyword_named word = elim (cases_Bool (is_word (codes "LOOP") word)) [
-  | inl is ↦ rw is refl
-  | inr no_loop ↦ elim (cases_Bool (is_word (codes "SEEK") word)) [
-    | inl is ↦ rw (no_loop, is) refl
-    | inr no_seek ↦ elim (cases_Bool (is_word (codes "LENGTH") word)) [
-      | inl is ↦ rw (no_loop, no_seek, is) refl
-      | inr no_length ↦ elim (cases_Bool (is_word (codes "AUTO") word)) [
-        | inl is ↦ rw (no_loop, no_seek, no_length, is) refl
-        | inr no_auto ↦ rw (no_loop, no_seek, no_length, no_auto) (kind_named (kind_of word))
-      ]
-    ]
-  ]
-]
-
--- the kind of a transition that a word begins
-kind_from : (found : Option Kind) (kind : Kind) → option_map Transition found ≡ Some (Transition kind) → found ≡ Some kind
-kind_from None kind h = cc
-kind_from (Some found) kind h = cc
-
-keyword_kind : (word : List ℕ) (kind : Kind) → keyword_of word ≡ Some (Transition kind) → kind_of word ≡ Some kind
-keyword_kind word kind h = elim (cases_Bool (is_word (codes "LOOP") word)) [
-  | inl is ↦ let e = rw is at h in cc
-  | inr no_loop ↦ elim (cases_Bool (is_word (codes "SEEK") word)) [
-    | inl is ↦ let e = rw (no_loop, is) at h in cc
-    | inr no_seek ↦ elim (cases_Bool (is_word (codes "LENGTH") word)) [
-      | inl is ↦ let e = rw (no_loop, no_seek, is) at h in cc
-      | inr no_length ↦ elim (cases_Bool (is_word (codes "AUTO") word)) [
-        | inl is ↦ let e = rw (no_loop, no_seek, no_length, is) at h in cc
-        | inr no_auto ↦ kind_from (kind_of word) kind (rw (no_loop, no_seek, no_length, no_auto) at h)
-      ]
-    ]
-  ]
-]
-
--- only CUT names a cut
-no_cut : (word : List ℕ) (kind : Kind) → kind_of word ≡ Some kind → is_cut kind ≡ false → is_word (codes "CUT") word ≡ false
-unfolding kind_of
-no_cut word kind h other = elim (cases_Bool (is_word (codes "CUT") word)) [
-  | inl is ↦
-      let e : Some Cut ≡ Some kind = rw is at h in
-      let cut : is_cut kind ≡ true = ap (λ o. is_cut (unwrap_or o kind)) (sym e) in
-      cc
-  | inr not_cut ↦ not_cut
-]
-
-cut_word : (word : List ℕ) (kind : Kind) → kind_of word ≡ Some kind → is_word (codes "CUT") word ≡ is_cut kind
-unfolding kind_of
-cut_word word Cut h = elim (cases_Bool (is_word (codes "CUT") word)) [
-  | inl is ↦ is
-  | inr no_cut ↦ elim (cases_Bool (is_word (codes "MIX") word)) [
-    | inl is ↦ let e = rw (no_cut, is) at h in cc
-    | inr no_mix ↦ elim (cases_Bool (is_word (codes "PUSH") word)) [
-      | inl is ↦ let e = rw (no_cut, no_mix, is) at h in cc
-      | inr no_push ↦ elim (cases_Bool (is_word (codes "SLIDE") word)) [
-        | inl is ↦ let e = rw (no_cut, no_mix, no_push, is) at h in cc
-        | inr no_slide ↦ elim (cases_Bool (is_word (codes "WIPE") word)) [
-          | inl is ↦ let e = rw (no_cut, no_mix, no_push, no_slide, is) at h in cc
-          | inr no_wipe ↦ let e = rw (no_cut, no_mix, no_push, no_slide, no_wipe) at h in cc
-        ]
-      ]
-    ]
-  ]
-]
-cut_word word Mix h = no_cut word Mix h refl
-cut_word word Push h = no_cut word Push h refl
-cut_word word Slide h = no_cut word Slide h refl
-cut_word word Wipe h = no_cut word Wipe h refl
+-- an option after one more is written of the name `found`, which was not given before
+abbrev chosen : List Written → Written → OptionName → OptionName → Option Written
+chosen before written found option = cond (is_same_option option found) (Some written) (given option before)
 
 -- an option among those that are written, after one more
 or_none : {A : Type 0} (o : Option A) → option_or o None ≡ o
@@ -140,15 +72,23 @@ given_new : (option : OptionName) (before : List Written) (written : Written) �
 given_new option before written h is =
     find-append (is_option option) before (written ∷ []) ∙ rw is (or_new (given option before) written h)
 
--- an option that begins with this word is none of another name
+-- an option that is written has the name that its first word says
 is_option_of : (option : OptionName) (written : Written) (found : OptionName) → option_of written.word ≡ Some found → is_option option written ≡ is_same_option option found
 is_option_of option written found h = ap (λ o. option_map_or (is_same_option option) o false) h
 
--- the options that are read, after one more is written
-abbrev Found : Type 0
-Found = Option Written
+given_push : (before : List Written) (written : Written) (found : OptionName) → option_of written.word ≡ Some found → is_some (given found before) ≡ false → (option : OptionName)
+    → given option (before ++ written ∷ []) ≡ chosen before written found option
+given_push before written found is absent option = elim (cases_Bool (is_same_option option found)) [
+  | inl same ↦
+      let number = eqb-true (option_number option) (option_number found) same in
+      let absent_too : is_some (given option before) ≡ false =
+      ap (λ n. is_some (find (λ w. option_map_or (λ other. n == option_number other) (option_of w.word) false) before)) number ∙ absent in
+      rw same (given_new option before written absent_too (is_option_of option written found is ∙ same))
+  | inr other ↦ rw other (given_other option before written (is_option_of option written found is ∙ other))
+]
 
-abbrev read_by : Found → Found → Found → Found → Found → Given
+-- the options that are read, by what is written of each
+abbrev read_by : Option Written → Option Written → Option Written → Option Written → Option Written → Given
 read_by looped transition seek length auto = record {
   looped = is_some looped;
   transition = option_map transition_of transition;
@@ -157,7 +97,7 @@ read_by looped transition seek length auto = record {
   auto = is_some auto;
 }
 
--- an option that was not given, as it is given
+-- the options that are read, after one more is written that was not given before
 abbrev read_with : List Written → Written → OptionName → Given
 read_with before written meant.Loop = record (read_of before) { looped = true }
 read_with before written meant.Transition = record (read_of before) { transition = Some (transition_of written) }
@@ -165,30 +105,20 @@ read_with before written meant.Seek = record (read_of before) { seek = Some (wri
 read_with before written meant.Length = record (read_of before) { length = Some (written_number meant.Length written) }
 read_with before written meant.Auto = record (read_of before) { auto = true }
 
-module _ (before : List Written) (written : Written) (found : OptionName) (is : option_of written.word ≡ Some found) where
-  other : (option : OptionName) → is_same_option option found ≡ false → given option (before ++ written ∷ []) ≡ given option before
-  other option differ = given_other option before written (is_option_of option written found is ∙ differ)
-
-  new : (option : OptionName) → is_some (given option before) ≡ false → is_same_option option found ≡ true → given option (before ++ written ∷ []) ≡ Some written
-  new option absent same = given_new option before written absent (is_option_of option written found is ∙ same)
+read_chosen : (before : List Written) (written : Written) (found : OptionName)
+    → read_by (chosen before written found meant.Loop) (chosen before written found meant.Transition) (chosen before written found meant.Seek) (chosen before written found meant.Length) (chosen before written found meant.Auto)
+    ≡ read_with before written found
+read_chosen before written meant.Loop = refl
+read_chosen before written meant.Transition = refl
+read_chosen before written meant.Seek = refl
+read_chosen before written meant.Length = refl
+read_chosen before written meant.Auto = refl
 
 read_push : (before : List Written) (written : Written) (found : OptionName) → option_of written.word ≡ Some found → is_some (given found before) ≡ false
     → read_of (before ++ written ∷ []) ≡ read_with before written found
-read_push before written meant.Loop is absent =
-    let h = other before written meant.Loop is in
-    rw (new before written meant.Loop is meant.Loop absent refl, h meant.Transition refl, h meant.Seek refl, h meant.Length refl, h meant.Auto refl) refl
-read_push before written meant.Transition is absent =
-    let h = other before written meant.Transition is in
-    rw (new before written meant.Transition is meant.Transition absent refl, h meant.Loop refl, h meant.Seek refl, h meant.Length refl, h meant.Auto refl) refl
-read_push before written meant.Seek is absent =
-    let h = other before written meant.Seek is in
-    rw (new before written meant.Seek is meant.Seek absent refl, h meant.Transition refl, h meant.Loop refl, h meant.Length refl, h meant.Auto refl) refl
-read_push before written meant.Length is absent =
-    let h = other before written meant.Length is in
-    rw (new before written meant.Length is meant.Length absent refl, h meant.Transition refl, h meant.Seek refl, h meant.Loop refl, h meant.Auto refl) refl
-read_push before written meant.Auto is absent =
-    let h = other before written meant.Auto is in
-    rw (new before written meant.Auto is meant.Auto absent refl, h meant.Transition refl, h meant.Seek refl, h meant.Length refl, h meant.Loop refl) refl
+read_push before written found is absent =
+    let h = given_push before written found is absent in
+    rw (h meant.Loop, h meant.Transition, h meant.Seek, h meant.Length, h meant.Auto) (read_chosen before written found)
 
 -- a value, unless it is refused
 abbrev pub unless : {A : Type 0} → Option Refusal → A → Result A Refusal
@@ -227,13 +157,13 @@ first_taken len (x ∷ xs) = refl
 abbrev written_at : ℕ → List ℕ → Option OptionName → List (List ℕ) → Written
 written_at at word option rest = record { at = at; word = word; more = take (option_len word option rest) rest }
 
--- what reading an option gives that a word begins, or none: the options with it, and how many words after its first
--- belong to it
+-- what reading an option gives that a word begins, or none: the options with it, and the number of words after its first
+-- that belong to it
 abbrev one_step : Line → List Written → Written → Option OptionName → ℕ → Result (Given × ℕ) Refusal
 one_step line before written option len =
     unless (option_refusal line.name before written option) (read_of (before ++ written ∷ []), len)
 
--- options, and that one word after its first belongs to the last of them
+-- options of which the last one has one word after its first
 abbrev with_one : Given → Given × ℕ
 with_one options = (options, 1)
 
@@ -252,7 +182,7 @@ not_some : {A : Type 0} (o : Option A) → not (is_some o) ≡ is_none o
 not_some None = refl
 not_some (Some a) = refl
 
--- a cut stands without a number
+-- whether the word is CUT and no number follows it
 abbrev has_no_number : List ℕ → List (List ℕ) → Bool
 has_no_number word rest = is_word (codes "CUT") word && is_none (option_and_then whole_number (slice_get rest 0))
 
@@ -270,7 +200,7 @@ transition_more line at word rest =
     unless (if number_len word meant.Transition written.more == 0 then None else number_refusal line.name at meant.Transition (slice_get written.more 0))
     (transition_of written, option_len word (Some meant.Transition) rest)
 
--- a transition with this duration, to which as many words belong as the second number says
+-- a transition of this duration, which `duration.1` words write
 abbrev timed : Line → ℕ → Kind → ℕ × ℕ → TransView × ℕ
 timed line at kind duration =
     let manner = manner_at line (at + duration.1) in (trans_of kind duration.0 Linear manner.1, duration.1 + manner.0)
@@ -315,13 +245,6 @@ transition_read_cut line rest at word h is none =
     let left = manner_from line rest (at + 1) h in
     let still = number_unread (0 + manner_len rest) rest (λ first. is_none (option_and_then whole_number first)) refl parts.1 in
     rw (no_number_test line rest at word Cut h is, none, add-zero (at + 1), left, parts.0, still) refl
-
-cut_kind : (kind : Kind) → is_cut kind ≡ true → kind ≡ Cut
-cut_kind Cut h = refl
-cut_kind Mix h = cc
-cut_kind Push h = cc
-cut_kind Slide h = cc
-cut_kind Wipe h = cc
 
 transition_read : (line : Line) (rest : List (List ℕ)) (at : ℕ) (word : List ℕ) (kind : Kind) → drop (at + 1) line.words ≡ rest → kind_of word ≡ Some kind
     → transition_at line (at + 1) kind ≡ transition_more line at word rest
@@ -389,13 +312,13 @@ one_read line before at word rest h =
     ∙ one_found line before at word rest (keyword_of word) (words_after line.words rest word at h) refl
     ∙ ap (λ option. one_step line before (written_at at word option rest) option (option_len word option rest)) (sym (keyword_named word))
 
--- the options that are read from the words that are left, of which the first ones are passed over
+-- the options that are read from the words that are left, without the first `passed` of them
 abbrev pub run : Line → ℕ → ℕ → List (List ℕ) → Given → Result Given Refusal
 run line passed at [] options = Ok options
 run line (suc passed) at (word ∷ rest) options = run line passed (at + 1) rest options
 run line zero at (word ∷ rest) options = with_option line at options >>= λ read. run line read.1 (at + 1) rest read.0
 
--- words that are passed over may be left out
+-- reading without the first `passed` words is reading from the word after them
 run_passed : (line : Line) (passed at : ℕ) (rest : List (List ℕ)) (options : Given)
     → run line passed at rest options ≡ run line 0 (at + passed) (drop passed rest) options
 run_passed line zero at rest options = rw (add-zero at) refl
@@ -410,7 +333,7 @@ run_step : (line : Line) (at : ℕ) (rest : List (List ℕ)) (one : Given × ℕ
 run_step line at rest one None later all h = h
 run_step line at rest one (Some refusal) later all h = refl
 
--- what is read one after another is what is written
+-- options that are read one after another are those that are written, or their first refusal
 run_is : (line : Line) (passed at : ℕ) (rest : List (List ℕ)) (before : List Written) → drop at line.words ≡ rest
     → run line passed at rest (read_of before) ≡ unless (options_refusal line.name before (options_after passed at rest)) (read_of (before ++ options_after passed at rest))
 run_is line passed at [] before h = ap (λ all. Ok (read_of all)) (sym (append-nil before))
@@ -436,7 +359,7 @@ run_options line at =
     let all = options_from at (drop at line.words) in
     ap result_view (run_is line 0 at (drop at line.words) [] refl) ∙ view_unless (options_refusal line.name [] all) all
 
--- one option, and what follows it
+-- one option is read, and then those after its words
 abbrev pub then_run : Line → ℕ → Result (Given × ℕ) Refusal → Result Given Refusal
 then_run line at step = step >>= λ read. run line 0 (at + 1 + read.1) (drop (at + 1 + read.1) line.words) read.0
 

@@ -50,50 +50,51 @@ ascii_of_uppercase : (text : List ℕ) → IsAscii (map to_ascii_uppercase text)
 ascii_of_uppercase [] h = IsAscii-nil
 ascii_of_uppercase (c ∷ cs) h = IsAscii-cons c cs (low_of_uppercase c (h 0)) (ascii_of_uppercase cs (λ i. h (suc i)))
 
--- a front of a word that is `route://`
+-- the prefix of a route, in capitals
 abbrev route_mark : List ℕ
 route_mark = codes "ROUTE://"
 
-pub record IsRoute (front : List ℕ) : Type 0 where
-  pub capitals : map to_ascii_uppercase front ≡ route_mark
-  pub ascii : IsAscii front
-  pub len : length front ≡ 8
+-- this prefix of a word is `route://`, in any case
+pub record IsRoute (prefix : List ℕ) : Type 0 where
+  pub capitals : map to_ascii_uppercase prefix ≡ route_mark
+  pub ascii : IsAscii prefix
+  pub len : length prefix ≡ 8
 
-route_from_capitals : (front : List ℕ) → map to_ascii_uppercase front ≡ route_mark → IsRoute front
-route_from_capitals front h = record {
+route_from_capitals : (prefix : List ℕ) → map to_ascii_uppercase prefix ≡ route_mark → IsRoute prefix
+route_from_capitals prefix h = record {
   capitals = h;
-  ascii = ascii_of_uppercase front (rw h (capitals_are_ascii route_mark refl));
-  len = sym (length-map front to_ascii_uppercase) ∙ ap length h;
+  ascii = ascii_of_uppercase prefix (rw h (capitals_are_ascii route_mark refl));
+  len = sym (length-map prefix to_ascii_uppercase) ∙ ap length h;
 }
 
-pub route_from_bytes : (front : List ℕ) → map to_ascii_lowercase front ≡ codes "route://" → IsRoute front
-route_from_bytes front h = route_from_capitals front (sym (uppercase_of_lowercase front) ∙ ap (map to_ascii_uppercase) h)
+pub route_from_bytes : (prefix : List ℕ) → map to_ascii_lowercase prefix ≡ codes "route://" → IsRoute prefix
+route_from_bytes prefix h = route_from_capitals prefix (sym (uppercase_of_lowercase prefix) ∙ ap (map to_ascii_uppercase) h)
 
--- the characters after it
+-- the characters after the prefix of a route
 pub route_prefix : (word : List ℕ) → IsUtf8 word → IsRoute (take 8 word)
     → (is_route_word (chars word) ≡ true) × (drop 8 (chars word) ≡ chars (drop 8 word))
 unfolding is_word
 route_prefix word utf8 route =
-    let front = take 8 word in
+    let prefix = take 8 word in
     let back = drop 8 word in
-    let whole : chars word ≡ front ++ chars back =
-    ap chars (sym (take-append-drop 8 word)) ∙ chars-append front back (IsUtf8-from_ascii front route.ascii) ∙ ap (λ cs. cs ++ chars back) (chars-IsAscii front route.ascii) in
-    let taken : take 8 (chars word) ≡ front = ap (take 8) whole ∙ take_at front (chars back) 8 route.len in
-    let left : drop 8 (chars word) ≡ chars back = ap (drop 8) whole ∙ drop_at front (chars back) 8 route.len in
-    (ap (λ cs. bytes_eq (map to_ascii_uppercase cs) route_mark) taken ∙ (bytes_eq-Decides (map to_ascii_uppercase front) route_mark).1 route.capitals, left)
+    let whole : chars word ≡ prefix ++ chars back =
+    ap chars (sym (take-append-drop 8 word)) ∙ chars-append prefix back (IsUtf8-from_ascii prefix route.ascii) ∙ ap (λ cs. cs ++ chars back) (chars-IsAscii prefix route.ascii) in
+    let taken : take 8 (chars word) ≡ prefix = ap (take 8) whole ∙ take_at prefix (chars back) 8 route.len in
+    let left : drop 8 (chars word) ≡ chars back = ap (drop 8) whole ∙ drop_at prefix (chars back) 8 route.len in
+    (ap (λ cs. bytes_eq (map to_ascii_uppercase cs) route_mark) taken ∙ (bytes_eq-Decides (map to_ascii_uppercase prefix) route_mark).1 route.capitals, left)
 
--- a word whose bytes begin otherwise
+-- a word whose bytes do not begin with `route://` is no route
 pub no_route : (word : List ℕ) → IsUtf8 word → (8 ≤ length word → map to_ascii_lowercase (take 8 word) ≡ codes "route://" → ⊥) → is_route_word (chars word) ≡ false
 unfolding is_word
 no_route word utf8 other =
     false_from_ne_true (is_route_word (chars word))
     (λ is.
     let cs = chars word in
-    let front = take 8 cs in
-    let route = route_from_capitals front ((bytes_eq-Decides (map to_ascii_uppercase front) route_mark).0 is) in
-    let whole : word ≡ front ++ encode_utf8_all (drop 8 cs) =
-    sym (encodes-chars word utf8) ∙ ap encode_utf8_all (sym (take-append-drop 8 cs)) ∙ encodes-append front (drop 8 cs)
-    ∙ ap (λ bytes. bytes ++ encode_utf8_all (drop 8 cs)) (encodes-IsAscii front route.ascii) in
-    let taken : take 8 word ≡ front = ap (take 8) whole ∙ take_at front (encode_utf8_all (drop 8 cs)) 8 route.len in
-    let long : 8 ≤ length word = omega (arith, ap length whole, length-append front (encode_utf8_all (drop 8 cs)), route.len) in
-    other long (ap (map to_ascii_lowercase) taken ∙ sym (lowercase_of_uppercase front) ∙ ap (map to_ascii_lowercase) route.capitals))
+    let prefix = take 8 cs in
+    let route = route_from_capitals prefix ((bytes_eq-Decides (map to_ascii_uppercase prefix) route_mark).0 is) in
+    let whole : word ≡ prefix ++ encode_utf8_all (drop 8 cs) =
+    sym (encodes-chars word utf8) ∙ ap encode_utf8_all (sym (take-append-drop 8 cs)) ∙ encodes-append prefix (drop 8 cs)
+    ∙ ap (λ bytes. bytes ++ encode_utf8_all (drop 8 cs)) (encodes-IsAscii prefix route.ascii) in
+    let taken : take 8 word ≡ prefix = ap (take 8) whole ∙ take_at prefix (encode_utf8_all (drop 8 cs)) 8 route.len in
+    let long : 8 ≤ length word = omega (arith, ap length whole, length-append prefix (encode_utf8_all (drop 8 cs)), route.len) in
+    other long (ap (map to_ascii_lowercase) taken ∙ sym (lowercase_of_uppercase prefix) ∙ ap (map to_ascii_lowercase) route.capitals))

@@ -14,11 +14,11 @@ use Rattle.amcp_text.proofs.FirstEnd.{before_first_at, before_first_none, after_
 use Rattle.play_types.proofs.Texts.{bytes_eq-chars}
 use Rattle.play_types.proofs.Letters.{high_bytes}
 
--- an ASCII character is looked for
+-- a character is the one that is looked for
 abbrev pub is_char : ℕ → ℕ → Bool
 is_char sought c = c == sought
 
--- a character that is no ASCII is not that one, and none of its bytes is
+-- a character beyond ASCII is not that one, and none of its bytes is
 not_high : (sought c : ℕ) → sought < 128 → 128 ≤ c → is_char sought c ≡ false
 not_high sought c low high = grind (arith, nat_tests)
 
@@ -30,7 +30,7 @@ other_bytes sought c low high =
     omega (arith, get_or_default (encode_utf8 c) k d 0 inside, high_bytes c k high inside) in
     not_high sought (get_or (encode_utf8 c) k d) low above)
 
--- a text has an ASCII character where its bytes have it
+-- a text has an ASCII character exactly where its bytes have it
 pub list_any-encodes : (sought : ℕ) → sought < 128 → (cs : List ℕ) → list_any (is_char sought) (encode_utf8_all cs) ≡ list_any (is_char sought) cs
 list_any-encodes sought low [] = refl
 list_any-encodes sought low (c ∷ cs) = elim (cases_lt c 128) [
@@ -39,7 +39,7 @@ list_any-encodes sought low (c ∷ cs) = elim (cases_lt c 128) [
       rw (list_any-append (is_char sought) (encode_utf8 c) (encode_utf8_all cs), other_bytes sought c low high, list_any-encodes sought low cs, not_high sought c low high) refl
 ]
 
--- what stands before the first such character, and after it, by the bytes
+-- what stands before the first ASCII character that is looked for, and after it, by the bytes
 record Halves (sought : ℕ) (cs : List ℕ) : Type 0 where
   before : before_first (is_char sought) (encode_utf8_all cs) ≡ encode_utf8_all (before_first (is_char sought) cs)
   after : after_first (is_char sought) (encode_utf8_all cs) ≡ encode_utf8_all (after_first (is_char sought) cs)
@@ -48,16 +48,16 @@ halves : (sought : ℕ) → sought < 128 → (cs : List ℕ) → list_any (is_ch
 halves sought low cs some =
     let p = is_char sought in
     let cut = cut_at_first p cs some in
-    let front = before_first p cs in
+    let prefix = before_first p cs in
     let back = after_first p cs in
     let ascii : cut.at < 128 = omega (arith, eqb-true cut.at sought cut.passes) in
-    let whole : encode_utf8_all cs ≡ encode_utf8_all front ++ cut.at ∷ encode_utf8_all back =
-    ap encode_utf8_all cut.whole ∙ encodes-append front (cut.at ∷ back)
-    ∙ ap (λ bs. encode_utf8_all front ++ (bs ++ encode_utf8_all back)) (encode_ascii cut.at ascii) in
-    let none = list_any-encodes sought low front ∙ list_any-before_first p cs in
+    let whole : encode_utf8_all cs ≡ encode_utf8_all prefix ++ cut.at ∷ encode_utf8_all back =
+    ap encode_utf8_all cut.whole ∙ encodes-append prefix (cut.at ∷ back)
+    ∙ ap (λ bs. encode_utf8_all prefix ++ (bs ++ encode_utf8_all back)) (encode_ascii cut.at ascii) in
+    let none = list_any-encodes sought low prefix ∙ list_any-before_first p cs in
     record {
-      before = ap (before_first p) whole ∙ before_first_at p (encode_utf8_all front) cut.at (encode_utf8_all back) none cut.passes;
-      after = ap (after_first p) whole ∙ after_first_at p (encode_utf8_all front) cut.at (encode_utf8_all back) none cut.passes;
+      before = ap (before_first p) whole ∙ before_first_at p (encode_utf8_all prefix) cut.at (encode_utf8_all back) none cut.passes;
+      after = ap (after_first p) whole ∙ after_first_at p (encode_utf8_all prefix) cut.at (encode_utf8_all back) none cut.passes;
     }
 
 -- parts of a text's characters are characters
@@ -73,7 +73,7 @@ scalars-drop (suc n) [] h = refl
 scalars-drop (suc n) (c ∷ cs) h =
     let parts = and_parts (scalar c) (all_scalars cs) h in scalars-drop n cs parts.1
 
--- a text without an ASCII character
+-- a text without the ASCII character that is looked for
 pub chars_without : (sought : ℕ) → sought < 128 → (text : List ℕ) → IsUtf8 text → list_any (is_char sought) text ≡ false
     → (list_any (is_char sought) (chars text) ≡ false) × (before_first (is_char sought) (chars text) ≡ chars text)
 chars_without sought low text utf8 none =
@@ -81,7 +81,7 @@ chars_without sought low text utf8 none =
     sym (list_any-encodes sought low (chars text)) ∙ ap (list_any (is_char sought)) (encodes-chars text utf8) ∙ none in
     (without, before_first_none (is_char sought) (chars text) without)
 
--- the characters of a text, cut at the first such one
+-- the characters of a text, cut at the first ASCII character that is looked for
 pub record CutText (sought : ℕ) (text : List ℕ) : Type 0 where
   pub has : list_any (is_char sought) (chars text) ≡ true
   pub before : before_first (is_char sought) (chars text) ≡ chars (before_first (is_char sought) text)
@@ -102,7 +102,7 @@ cut_text sought low text utf8 some =
           ∙ ap chars (sym parts.after ∙ ap (after_first p) same);
     }
 
--- a text is one ASCII character where it is its one byte
+-- a text is one ASCII character exactly where its bytes are that one byte
 pub one_char : (c : ℕ) → c < 128 → (text : List ℕ) → IsUtf8 text → bytes_eq (chars text) (c ∷ []) ≡ bytes_eq text (c ∷ [])
 one_char c ascii text utf8 =
     let one = IsAscii-cons c [] ascii IsAscii-nil in

@@ -32,7 +32,7 @@ media =
     record { name = codes "BAD"; readable = false; width = 0; height = 0; frames = 0; pairs = 0 }
     ∷ record { name = codes "THREE"; readable = true; width = 1; height = 1; frames = 3; pairs = 0 } ∷ []
 
--- what a line asks for whose words are parted by one space
+-- what a line asks for whose words have one space between them
 abbrev pub asks : String → Result Parsed Refusal
 asks text = parsed two media (slice_split (λ c. c == 32) (codes text))
 
@@ -55,7 +55,7 @@ leftward kind duration = record { kind = kind; duration = duration; curve = Line
 abbrev pub plain : Spec → TransView → Bool → TakeView
 plain spec trans auto = record { spec = spec; looped = false; seek = 0; length = 0; trans = trans; auto = auto }
 
--- so many frames of the clip THREE from a frame on, with a cut
+-- `length` frames of the clip THREE from frame `seek` on, with a cut
 abbrev pub three : ℕ → ℕ → Bool → TakeView
 three seek length looped = record { spec = Clip 1; looped = looped; seek = seek; length = length; trans = cut; auto = false }
 

@@ -32,14 +32,14 @@ impl Model for Area {
 }
 
 impl Area {
-    /// Returns the place that is meant: layer 0 where no layer is written.
+    /// Returns the place of the area: layer 0 where no layer is written.
     pub fn place(self) -> Place
         ensures { result ≡ place_of self }
     {
         Place::new(self.channel, self.layer.unwrap_or(0)).unwrap()
     }
 
-    /// Returns the channel, from 1 to `MAX_CHANNELS`.
+    /// Returns the channel, 1 to `MAX_CHANNELS`.
     pub fn channel(self) -> u8
         ensures { result ≡ self.channel }
     {
@@ -57,7 +57,8 @@ impl Area {
 impl Line<'_> {
     /// Returns the area that the word at a position names: `c`, or `c-l`, split at its first dash.
     ///
-    /// Refused are a channel that is not configured, and then a layer that is no whole number up to `MAX_LAYER`.
+    /// A channel that is not configured is refused as `Channel`, and after it a layer that is no whole number up to
+    /// `MAX_LAYER` as `Illegal`.
     pub fn area(&self, at: usize) -> Result<Area, Refusal>
         ensures { result ≡ area_at self.now at }
     {
@@ -65,7 +66,8 @@ impl Line<'_> {
         self.area_of(at, word)
     }
 
-    /// Returns the area that a word names, which stands at a position.
+    /// Returns the area that a text names, which is the word at a position or the end of it. Its refusals are those of
+    /// `area`.
     pub fn area_of(&self, at: usize, word: &str) -> Result<Area, Refusal>
         ensures { result ≡ area_of self.now at (chars word.now) }
     {
@@ -81,7 +83,7 @@ impl Line<'_> {
         Ok(Area { channel, layer })
     }
 
-    /// Returns the configured channel that a word names.
+    /// Returns the configured channel that a text names.
     fn channel(&self, word: &str) -> Result<u8, Refusal>
         ensures value { result
             ≡ ok_or (number_within 1 (length self.now.config.channels) (chars word.now)) (Refusal.Channel self.now.name) }
@@ -94,7 +96,8 @@ impl Line<'_> {
         }
     }
 
-    /// Returns the layer that a word writes, which stands at a position.
+    /// Returns the layer that a text names, which is a part of the word at a position. A text that names none is refused
+    /// as `Illegal` at that position.
     fn layer(&self, at: usize, word: &str) -> Result<u16, Refusal>
         ensures value { result ≡ legal self.now at (number_within 0 MAX_LAYER (chars word.now)) }
         ensures range { IfOk result (λ layer. layer ≤ MAX_LAYER) }

@@ -33,7 +33,7 @@ pub fn parse(words: &WordList, config: &Config, media: &MediaNames) -> Result<Pa
     meaning(&line)
 }
 
-/// Returns the least number of words that a command needs after its name.
+/// Returns the least number of words that have to follow the name of a command.
 fn least_words(name: Name) -> usize
     ensures { result ≡ least_words name }
 {
@@ -76,7 +76,7 @@ fn meaning(line: &Line<'_>) -> Result<Parsed, Refusal>
     }
 }
 
-/// Returns what is asked for by a name that stands alone.
+/// Returns what is asked for by a name that stands alone. A word after it is refused.
 fn only_name(line: &Line<'_>, asked: Parsed) -> Result<Parsed, Refusal>
     ensures { result ≡ ended line.now 1 asked }
 {
@@ -84,7 +84,7 @@ fn only_name(line: &Line<'_>, asked: Parsed) -> Result<Parsed, Refusal>
     Ok(asked)
 }
 
-/// Reads a VERSION, with its one word or without it.
+/// Reads a VERSION, which may be followed by the word SERVER.
 fn version(line: &Line<'_>) -> Result<Parsed, Refusal>
     ensures { result ≡ version line.now }
 {
@@ -92,7 +92,7 @@ fn version(line: &Line<'_>) -> Result<Parsed, Refusal>
     Ok(Parsed::Version)
 }
 
-/// Returns the place that stands alone after a name.
+/// Returns the place that stands alone after a name. A word after it is refused.
 fn only_place(line: &Line<'_>) -> Result<Place, Refusal>
     ensures { result ≡ only_place line.now }
 {
@@ -111,7 +111,7 @@ fn load_bg(line: &Line<'_>) -> Result<Cmd, Refusal>
     Ok(Cmd::LoadBg(area.place(), take))
 }
 
-/// Reads a LOAD. Its take is kept with a cut and without AUTO.
+/// Reads a LOAD. Its take has a cut and no AUTO, whatever its options say.
 #[tactic(auto, unfolding(history_model::specs::commands::Command::load))]
 fn load(line: &Line<'_>) -> Result<Cmd, Refusal>
     ensures { result ≡ load line.now }
@@ -121,7 +121,7 @@ fn load(line: &Line<'_>) -> Result<Cmd, Refusal>
     Ok(Cmd::load(area.place(), take))
 }
 
-/// Reads a PLAY of the background, or of a take, which is kept without AUTO.
+/// Reads a PLAY of the background, or of a take, which has no AUTO, whatever its options say.
 #[tactic(auto, unfolding(history_model::specs::commands::Command::play))]
 fn play(line: &Line<'_>) -> Result<Cmd, Refusal>
     ensures { result ≡ play line.now }

@@ -131,6 +131,20 @@ pub fn mixer()
     ensures few { asks "MIXER 2" ≡ Err (Missing name.Mixer) }
 {}
 
+/// Both sides of the bounds of numbers.
+pub fn bounds()
+    ensures longest { asks "LOADBG 1 RED MIX 1000000" ≡ does (cmd.LoadBg (at 1 0) (plain (Colour 0xFFFF0000) (rightward Mix 1000000) false)) }
+    ensures too_long { asks "LOADBG 1 RED MIX 1000001" ≡ Err (Illegal name.LoadBg 4) }
+    ensures greatest_seek { asks "PLAY 1 RED SEEK 1000000" ≡ does (cmd.PlayTake (at 1 0) (plain (Colour 0xFFFF0000) cut false)) }
+    ensures great_seek { asks "PLAY 1 RED SEEK 1000001" ≡ Err (Illegal name.Play 4) }
+    ensures great_length { asks "PLAY 1 RED LENGTH 1000001" ≡ Err (Illegal name.Play 4) }
+    ensures opacity { asks "MIXER 1-3 OPACITY 1" ≡ does (set prop.Opacity (pos 1000000 ∷ pos 0 ∷ pos 0 ∷ pos 0 ∷ []) 0 false) }
+    ensures great_opacity { asks "MIXER 1-3 OPACITY 1.000001" ≡ Err (Illegal name.Mixer 3) }
+    ensures great_volume { asks "MIXER 1-3 VOLUME 1000.000001" ≡ Err (Illegal name.Mixer 3) }
+    ensures small_fill { asks "MIXER 1-3 FILL 0 0 1 -1000.000001" ≡ Err (Illegal name.Mixer 6) }
+    ensures great_duration { asks "MIXER 1-3 OPACITY 1 1000001" ≡ Err (Illegal name.Mixer 4) }
+{}
+
 /// Commands without a place.
 pub fn sessions()
     ensures begin { asks "BEGIN" ≡ Ok parsed.Begin }

@@ -28,7 +28,7 @@ impl<'a> Model for Line<'a> {
 }
 
 impl<'a> Line<'a> {
-    /// Returns how many words the line has, the name with them.
+    /// Returns the number of words of the line, the name with them.
     pub fn len(&self) -> usize
         ensures { result ≡ length self.now.words }
     {
@@ -42,7 +42,7 @@ impl<'a> Line<'a> {
         Refusal::Illegal(self.name, at)
     }
 
-    /// Returns the word at a position, which the line may not leave out.
+    /// Returns the word at a position. A line that ends before it is refused as `Missing`.
     pub fn word(&self, at: usize) -> Result<&'a str, Refusal>
         ensures value { MatchResult result
             (λ word. word_at self.now at ≡ Ok (chars word.now))
@@ -52,7 +52,8 @@ impl<'a> Line<'a> {
         self.words.get(at).ok_or(Refusal::Missing(self.name))
     }
 
-    /// Returns the whole number at a position, which lies from `least` to `most`.
+    /// Returns the whole number at a position, from `least` to `most`. Another word is refused as `Illegal`, and a line
+    /// that ends before it as `Missing`.
     pub fn number(&self, at: usize, least: u32, most: u32) -> Result<u32, Refusal>
         ensures value { result ≡ number_at self.now at least most }
         ensures range { IfOk result (λ number. (least ≤ number) × (number ≤ most)) }
@@ -73,7 +74,7 @@ impl<'a> Line<'a> {
         }
     }
 
-    /// Refuses a word at a position, where the line has to end.
+    /// Returns nothing where the line ends before a position. A word there is refused as `Illegal`.
     pub fn end(&self, at: usize) -> Result<(), Refusal>
         ensures { result ≡ ended self.now at tt }
     {
@@ -83,8 +84,8 @@ impl<'a> Line<'a> {
         Ok(())
     }
 
-    /// Returns whether the fixed word, which is given in capitals, stands at a position. No other word may stand there,
-    /// and none after it.
+    /// Returns whether the fixed word, which is given in capitals, stands at a position. Another word there, or a word after
+    /// it, is refused as `Illegal`.
     pub fn flag(&self, at: usize, fixed: &str) -> Result<bool, Refusal>
         requires capitals { IsTrue (are_capitals fixed.now) }
         requires fits { at + 1 < 2 ^ 64 }

@@ -14,7 +14,7 @@ use play_types::{
 };
 use std::marker::Model;
 
-/// Reads a MIXER: its area stands at position 1, what is asked of it at 2.
+/// Reads a MIXER: its area stands at position 1, and at position 2 a property, COMMIT or CLEAR.
 #[tactic(auto, unfolding(history_model::specs::commands::Mixer::mixer))]
 pub fn mixer(line: &Line<'_>) -> Result<Cmd, Refusal>
     ensures { result ≡ mixer line.now }
@@ -24,7 +24,7 @@ pub fn mixer(line: &Line<'_>) -> Result<Cmd, Refusal>
     mixer_command(line, area, word)
 }
 
-/// Returns the command of a MIXER whose words name an area and then this word.
+/// Returns the command of a MIXER with this area, and with this word at position 2.
 fn mixer_command(line: &Line<'_>, area: Area, word: &str) -> Result<Cmd, Refusal>
     ensures { result ≡ mixer_command line.now area (chars word.now) }
 {
@@ -53,7 +53,7 @@ fn reset(area: Area) -> Cmd
     }
 }
 
-/// Returns the command that asks for a value, or sets it where words follow.
+/// Returns the command that asks for the value of a property, or that sets the property where words follow.
 fn property_command(line: &Line<'_>, place: Place, property: Prop) -> Result<Cmd, Refusal>
     ensures { result ≡ property_command line.now place property }
 {
@@ -73,7 +73,8 @@ fn property_command(line: &Line<'_>, place: Place, property: Prop) -> Result<Cmd
     Ok(Cmd::Set(setting.unwrap()))
 }
 
-/// Returns the numbers of a property, which stand from position 3 on, in millionths. Those that it has not are 0.
+/// Returns the four numbers of a property in millionths, which stand from position 3 on. A property of one number has 0
+/// for the other three.
 #[tactic(auto, unfolding(history_model::specs::commands::Mixer::numbers_of))]
 fn numbers_of(line: &Line<'_>, property: Prop) -> Result<[i64; 4], Refusal>
     ensures value { result ≡ numbers_of line.now property }
@@ -116,7 +117,7 @@ fn number_of(property: Prop, word: &str) -> Option<i64>
     }
 }
 
-/// Returns a number that is not negative and not above the most.
+/// Returns the number where it is from 0 to `most`.
 fn up_to(most: i64, number: i64) -> Option<i64>
     ensures value { result ≡ up_to most number }
     ensures range { IfSome result (IsWithin (pos 0) most) }
@@ -128,7 +129,7 @@ fn up_to(most: i64, number: i64) -> Option<i64>
     }
 }
 
-/// Returns off or on, by the word `0` or `1`.
+/// Returns the number of a keyer in millionths: 0 for the word `0`, which is off, and `MICROS_PER_UNIT` for the word `1`.
 fn keyer(word: &str) -> Option<i64>
     ensures { result ≡ number_of Prop.Keyer (chars word.now) }
 {
@@ -139,7 +140,7 @@ fn keyer(word: &str) -> Option<i64>
     }
 }
 
-/// In how many ticks a value is reached, at most `MAX_DURATION`, and whether it waits.
+/// The ticks after which a value is reached, at most `MAX_DURATION`, and whether the value waits for a MIXER COMMIT.
 #[derive(Clone, Copy)]
 struct Timing {
     duration: u32,
@@ -160,7 +161,7 @@ impl Model for Timing {
     ghost inverse = { λ v. record { duration = v.duration; deferred = v.deferred } };
 }
 
-/// Returns what stands after the numbers of a property. A keyer has no duration.
+/// Returns the timing that stands after the numbers of a property. A keyer has no duration.
 fn timing_of(line: &Line<'_>, property: Prop) -> Result<Timing, Refusal>
     ensures { result ≡ timing_of line.now property }
 {
@@ -171,7 +172,8 @@ fn timing_of(line: &Line<'_>, property: Prop) -> Result<Timing, Refusal>
     }
 }
 
-/// Returns what stands from a position to the end of the line: at most a duration, a curve after it, and DEFER.
+/// Returns the timing that stands from a position to the end of the line: a duration or none, a curve after it or none,
+/// and DEFER or not.
 #[tactic(auto, unfolding(history_model::specs::commands::Mixer::timing_at))]
 fn timing_at(line: &Line<'_>, at: usize) -> Result<Timing, Refusal>
     requires { at < 100 }
@@ -188,7 +190,7 @@ fn timing_at(line: &Line<'_>, at: usize) -> Result<Timing, Refusal>
     }
 }
 
-/// Returns what stands from a position to the end of the line: at most DEFER.
+/// Returns the timing of this duration, where DEFER or nothing stands from a position to the end of the line.
 fn deferral_at(line: &Line<'_>, at: usize, duration: u32) -> Result<Timing, Refusal>
     requires short { duration ≤ MAX_DURATION }
     requires early { at < 200 }

@@ -34,7 +34,7 @@ impl Model for Options {
 }
 
 impl Options {
-    /// Returns whether a clip begins anew at its end.
+    /// Returns whether a clip begins again at its end.
     pub fn looped(self) -> bool
         ensures { result ≡ self.looped }
     {
@@ -48,14 +48,14 @@ impl Options {
         self.transition
     }
 
-    /// Returns the first frame that is played, 0 where none was given.
+    /// Returns the number of the first frame that is played, from 0: 0 where none was given.
     pub fn seek(self) -> u32
         ensures { result ≡ self.seek }
     {
         self.seek
     }
 
-    /// Returns how many frames are played, at least 1. Without a length a clip is played to its end.
+    /// Returns the most frames of a clip that are played, at least 1. Without a length a clip is played to its end.
     pub fn length(self) -> Option<u32>
         ensures value { result ≡ self.length }
         ensures range { IfSome result (λ frames. 1 ≤ frames) }
@@ -63,7 +63,7 @@ impl Options {
         self.length
     }
 
-    /// Returns whether the take starts by itself.
+    /// Returns whether the take starts by itself, as AUTO asks for.
     pub fn auto(self) -> bool
         ensures { result ≡ self.auto }
     {
@@ -124,7 +124,7 @@ impl Given {
         }
     }
 
-    /// Returns no options.
+    /// Returns the options of a line that gives none.
     fn none() -> Given
         ensures { result ≡ no_options }
     {
@@ -177,10 +177,7 @@ impl Given {
                 let looped = true;
                 Ok((Given { looped, ..self }, 0))
             }
-            Keyword::Auto => {
-                let auto = true;
-                Ok((Given { auto, ..self }, 0))
-            }
+            Keyword::Auto => Ok((Given { auto: true, ..self }, 0)),
             Keyword::Seek => {
                 let seek = Some(line.number(at + 1, 0, MAX_FRAMES)?);
                 Ok((Given { seek, ..self }, 1))
@@ -211,7 +208,7 @@ impl Given {
     }
 }
 
-/// Returns the transition of this kind whose words stand from a position on, and how many they are.
+/// Returns the transition of this kind whose words stand from a position on, and the number of these words.
 #[tactic(auto, unfolding(crate::specs::inner::Options::transition_at))]
 fn transition_at(line: &Line<'_>, at: usize, kind: Kind) -> Result<(Trans, usize), Refusal>
     requires inside { at ≤ length line.now.words }
@@ -225,7 +222,8 @@ fn transition_at(line: &Line<'_>, at: usize, kind: Kind) -> Result<(Trans, usize
     Ok((transition, numbers + manner))
 }
 
-/// Returns the duration of a transition, and how many words it takes. A cut may have none.
+/// Returns the duration of a transition in ticks, at most `MAX_DURATION`, and the number of words that write it: 1, or 0
+/// for a cut without a duration.
 #[tactic(auto, unfolding(crate::specs::inner::Options::duration_at))]
 fn duration_at(line: &Line<'_>, at: usize, kind: Kind) -> Result<(u32, usize), Refusal>
     requires { at ≤ length line.now.words }
@@ -240,8 +238,8 @@ fn duration_at(line: &Line<'_>, at: usize, kind: Kind) -> Result<(u32, usize), R
     Ok((duration, 1))
 }
 
-/// Returns how many words from a position on are a curve and a direction, in either order, and whether the transition
-/// goes leftward.
+/// Returns the number of words from a position on that are a curve and a direction, in either order, and whether the
+/// transition goes leftward.
 #[tactic(auto, unfolding(crate::specs::inner::Options::manner_at))]
 fn manner_at(line: &Line<'_>, at: usize) -> (usize, bool)
     requires inside { at ≤ length line.now.words }
@@ -280,7 +278,7 @@ fn is_direction_at(line: &Line<'_>, at: usize) -> bool
     is_leftward_at(line, at) || line.stands(at, "RIGHT") || line.stands(at, "FROMLEFT")
 }
 
-/// Returns whether a whole number stands at a position, of any size.
+/// Returns whether a whole number of any size stands at a position.
 fn is_number_at(line: &Line<'_>, at: usize) -> bool
     ensures { result ≡ is_number_at line.now at }
 {

@@ -12,7 +12,7 @@ use crate::line::Line;
 use play_types::{Refusal, Spec, is_same_name, is_word};
 use std::marker::Model;
 
-/// A producer, and how many frames a clip has, at most `MAX_FRAMES`, or 0 for another producer.
+/// A producer, and the number of frames of a clip, at most `MAX_FRAMES`, or 0 for another producer.
 #[derive(Clone, Copy)]
 pub struct Producer {
     spec: Spec,
@@ -41,14 +41,14 @@ impl Producer {
         Producer { spec, frames: 0 }
     }
 
-    /// Returns what is played.
+    /// Returns what is played: a colour, a route or a clip.
     pub fn spec(self) -> Spec
         ensures { result ≡ self.spec }
     {
         self.spec
     }
 
-    /// Returns how many frames a clip has, at most `MAX_FRAMES`, or 0 for another producer.
+    /// Returns the number of frames of a clip, at most `MAX_FRAMES`, or 0 for another producer.
     pub fn frames(self) -> u32
         ensures value { result ≡ self.frames }
         ensures range { self.frames ≤ MAX_FRAMES }
@@ -61,7 +61,8 @@ impl Line<'_> {
     /// Returns the producer that the word at a position names: a colour, a route, a named colour or a clip, tried in
     /// this order.
     ///
-    /// Refused are a word that begins as a colour or a route and is none, and a clip that is missing or unreadable.
+    /// A word that begins as a colour or a route and is none is refused as `Illegal`, a clip that is missing as `NotFound`,
+    /// and one that is unreadable as `Unreadable`.
     #[tactic(auto, unfolding(history_model::specs::commands::Producer::producer_of))]
     pub fn producer(&self, at: usize, word: &str) -> Result<Producer, Refusal>
         ensures { result ≡ producer_of self.now at (chars word.now) }
@@ -80,7 +81,7 @@ impl Line<'_> {
         }
     }
 
-    /// Returns the first clip of this name in the media table.
+    /// Returns the first clip of this name in the media table, in any case of its ASCII letters.
     fn clip(&self, word: &str) -> Result<Producer, Refusal>
         ensures { result ≡ clip_producer self.now (clip_named self.now.media (chars word.now)) }
     {

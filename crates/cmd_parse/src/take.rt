@@ -9,8 +9,8 @@ use crate::producer::Producer;
 use play_types::{Refusal, Spec, Take};
 
 impl Line<'_> {
-    /// Returns the take of the producer at a position and the options after it. The options are judged before the
-    /// producer.
+    /// Returns the take of the producer at a position and the options after it. A refusal of the options comes before one
+    /// of the producer.
     #[tactic(auto, unfolding(history_model::specs::commands::Producer::take_at))]
     pub fn take(&self, at: usize) -> Result<Take, Refusal>
         requires { at + 1 < 2 ^ 64 }
@@ -23,8 +23,8 @@ impl Line<'_> {
     }
 }
 
-/// Returns the take of a producer with these options. There is none where the first frame that is played lies past the
-/// end of a clip.
+/// Returns the take of a producer with these options. There is none where the first frame that is played lies at or past
+/// the end of a clip.
 fn take_with(options: Options, producer: Producer) -> Option<Take>
     ensures { result ≡ take_with options producer.frames producer.spec }
 {
@@ -43,7 +43,8 @@ fn take_with(options: Options, producer: Producer) -> Option<Take>
     }
 }
 
-/// Returns how many frames of a clip are played, with which `rest` frames are left: at most `length` frames.
+/// Returns the number of frames of a clip that are played where `rest` frames are left: at most `length` of them, or all
+/// where no length was given.
 fn played_length(length: Option<u32>, rest: u32) -> u32
     ensures { result ≡ played_length length rest }
 {
@@ -53,7 +54,7 @@ fn played_length(length: Option<u32>, rest: u32) -> u32
     }
 }
 
-/// Returns the take of a producer with these options, of which `length` frames are played.
+/// Returns the take of a producer with these options and this length in frames, which is 0 where the producer is no clip.
 fn take_for(spec: Spec, options: Options, length: u32) -> Take
     requires { IsTake spec options.seek length }
     ensures { result ≡ take_for spec options length }

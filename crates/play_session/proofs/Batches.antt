@@ -1,4 +1,4 @@
--- The open batch after one ask more.
+-- The open batch after one more ask.
 use Rattle.std.proofs.Common.{◌≡◌, ℕ, ◌+◌, ◌-◌, Bool, true, false, cond, not, ◌||◌, List, [], ◌∷◌, ◌++◌, take, length, refl, sym, ap, ◌∙◌, subst, arith, inl, inr, append-nil}
 use Rattle.std.specs.Prelude.{Option, None, nat_lt, filter_map}
 use Rattle.std.specs.List.{list_any, suffix_len, after_first, after_last, position_or_len, cons_option}
@@ -19,7 +19,7 @@ use Rattle.history_model.specs.sessions.Session as model
 use Rattle.history_model.proofs.Sessions.{position_or_len-append}
 use Rattle.play_session.specs.inner.BatchState.{BatchState, with_command, after_outside, after_inside, after_meaning, step_for}
 
--- what stands after the last element that passes, in a list with one more at its end
+-- what stands after the last element that passes, in a list with one more element at its end
 after_last-passes : {X : Type 0} (p : X → Bool) (xs : List X) (x : X) → p x ≡ true → after_last p (xs ++ x ∷ []) ≡ []
 after_last-passes p xs x passes =
     let none : suffix_len (λ y. not (p y)) (xs ++ x ∷ []) ≡ 0 = rw (reverse-append xs (x ∷ []), passes) refl in
@@ -32,13 +32,13 @@ after_last-fails p xs x fails =
     let same : length (xs ++ x ∷ []) - (1 + k) ≡ length xs - k = omega (arith, length-append xs (x ∷ [])) in
     rw (more, same) (drop-append-le (length xs - k) xs (x ∷ []) (omega arith))
 
--- what stands after the first element that passes, in a list with more at its end
+-- what stands after the first element that passes, in a list with more elements at its end
 after_first-append : {X : Type 0} (p : X → Bool) (xs ys : List X) → list_any p xs ≡ true → after_first p (xs ++ ys) ≡ after_first p xs ++ ys
 after_first-append p xs ys h =
     let within = position_or_len_some p xs h in
     rw (position_or_len-append p xs ys h) (drop-append-le (position_or_len p xs + 1) xs ys (omega arith))
 
--- the front of a list with one more at its end
+-- a prefix of a list with one more element at its end
 take-snoc : {X : Type 0} (n : ℕ) (xs : List X) (x : X)
     → cond (nat_lt (length (take n xs)) n) (take n xs ++ x ∷ []) (take n xs) ≡ take n (xs ++ x ∷ [])
 take-snoc n xs x = elim (cases_lt (length xs) n) [
@@ -52,7 +52,7 @@ take-snoc n xs x = elim (cases_lt (length xs) n) [
       rw (take-append-le n xs (x ∷ []) long, le-ltb (length (take n xs)) n (omega (arith, length-take n xs))) refl
 ]
 
--- whether a batch is open after one ask more
+-- whether a batch is open after one more ask
 is_open-closing : (asked : List Parsed) (ask : Parsed) → is_closing ask ≡ true → is_open (asked ++ ask ∷ []) ≡ false
 is_open-closing asked ask closes = ap (list_any is_begin) (after_last-passes is_closing asked ask closes)
 
@@ -62,7 +62,7 @@ is_open-other asked ask other =
     ap (list_any is_begin) (after_last-fails is_closing asked ask other)
     ∙ list_any-append is_begin (since_closing asked) (ask ∷ [])
 
--- the commands of the open batch after one ask more
+-- the commands of the open batch after one more ask
 batch-other : (asked : List Parsed) (ask : Parsed) → is_closing ask ≡ false → is_open asked ≡ true
     → batch (asked ++ ask ∷ [])
     ≡ take MAX_BATCH_COMMANDS (filter_map batched (after_first is_begin (since_closing asked)) ++ filter_map batched (ask ∷ []))
@@ -95,12 +95,12 @@ batch-begin asked closed =
     sym (ap (λ (since : List Parsed). take MAX_BATCH_COMMANDS (filter_map batched (after_first is_begin since))) (after_last-fails is_closing asked Begin refl)
     ∙ ap (λ (since : List Parsed). take MAX_BATCH_COMMANDS (filter_map batched since)) (after_first_at is_begin (since_closing asked) Begin [] closed refl))
 
--- this is the batch after these asks
+-- the batch is open where the asks leave one open, and then it holds their commands
 pub record IsBatchOf (b : BatchState) (asked : List Parsed) : Type 0 where
   pub opened : b.is_open ≡ is_open asked
   pub commands : b.is_open ≡ true → b.commands ≡ batch asked
 
--- an open batch after an ask that leaves it as it is
+-- an ask that leaves an open batch as it is
 kept_inside : (b : BatchState) (asked : List Parsed) (ask : Parsed) → IsBatchOf b asked → b.is_open ≡ true → is_closing ask ≡ false → batched ask ≡ None
     → IsBatchOf b (asked ++ ask ∷ [])
 kept_inside b asked ask is opened other none =
@@ -131,7 +131,7 @@ IsBatchOf-inside b asked Version is opened = kept_inside b asked Version is open
 IsBatchOf-inside b asked Bye is opened = kept_inside b asked Bye is opened refl refl
 IsBatchOf-inside b asked Kill is opened = kept_inside b asked Kill is opened refl refl
 
--- a closed batch after an ask that does not open one
+-- an ask that leaves a closed batch closed
 kept_outside : (b : BatchState) (asked : List Parsed) (ask : Parsed) → IsBatchOf b asked → b.is_open ≡ false
     → is_open (asked ++ ask ∷ []) ≡ false → IsBatchOf b (asked ++ ask ∷ [])
 kept_outside b asked ask is closed still =
@@ -159,7 +159,7 @@ IsBatchOf-outside b asked Version is closed = kept_outside b asked Version is cl
 IsBatchOf-outside b asked Bye is closed = kept_outside b asked Bye is closed (still_closed b asked Bye is closed refl refl)
 IsBatchOf-outside b asked Kill is closed = kept_outside b asked Kill is closed (still_closed b asked Kill is closed refl refl)
 
--- the batch after the next line
+-- the batch after a line of this meaning
 pub IsBatchOf-line : (b : BatchState) (asked : List Parsed) (meaning : LineMeaning) → IsBatchOf b asked
     → IsBatchOf (after_meaning b meaning) (asked ++ cons_option (asked_by meaning) [])
 IsBatchOf-line b asked Blank is = rw (append-nil asked) is
@@ -173,7 +173,7 @@ IsBatchOf-line b asked (Asks ask) is = elim (cases_Bool b.is_open) [
       subst (λ (s : BatchState). IsBatchOf s (asked ++ ask ∷ [])) (sym same) (IsBatchOf-outside b asked ask is closed)
 ]
 
--- what is done for the next line
+-- the step of a line of this meaning
 pub step_for_line : (b : BatchState) (asked : List Parsed) (meaning : LineMeaning) → IsBatchOf b asked
     → step_for b meaning ≡ step_of_meaning asked meaning
 step_for_line b asked Blank is = refl
@@ -187,7 +187,7 @@ step_for_line b asked (Asks ask) is = elim (cases_Bool b.is_open) [
       rw (closed, closed_before) refl
 ]
 
--- no ask is answered as if memory ran out
+-- no ask has the step of a line that is given up, out of memory
 no_memory_outside : (ask : Parsed) → step_outside ask ≡ model.Local reply.NoMemory → ⊥
 no_memory_outside (Stage command) e = cc
 no_memory_outside Begin e = cc
@@ -220,7 +220,7 @@ no_memory_inside commands Version e = cc
 no_memory_inside commands Bye e = cc
 no_memory_inside commands Kill e = cc
 
--- a line that is answered as if memory ran out leaves the batch as it was
+-- a line with the step of one that is given up, out of memory, leaves the batch as it was
 pub kept_at_no_memory : (b : BatchState) (meaning : LineMeaning) → step_for b meaning ≡ model.Local reply.NoMemory → after_meaning b meaning ≡ b
 kept_at_no_memory b Blank e = refl
 kept_at_no_memory b (Wrong answer) e = refl

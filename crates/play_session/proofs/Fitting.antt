@@ -20,11 +20,13 @@ use Rattle.play_session.specs.Session.{Fits}
 use Rattle.play_session.specs.declared.step.Step.{Step}
 use Rattle.play_session.specs.declared.step.Step.TheVariants as step
 
+-- the step of a line is one that the definition gives
 step_given : (config : ConfigView) (media : List MediaNameView) (batch : BatchState) (meant : LineMeaning) → IsMeant config media meant → IsGiven config media (step_for batch meant)
 step_given config media batch Blank is = tt
 step_given config media batch (Wrong answer) is = is
 step_given config media batch (Asks asked) is = asked_given config media batch.is_open batch.commands is.0 asked is.1
 
+-- a step that the definition gives fits
 given_fits : (config : ConfigView) (media : List MediaNameView) (found : Step) (commands : List Cmd) (given : model.Step) → viewed found commands ≡ Some given → IsGiven config media given → Fits config found
 given_fits config media (step.Local answer) commands given is fits = subst (IsGiven config media) (sym (same_Some (model.Local answer) given is)) fits
 given_fits config media (step.Ask command) commands given is fits =

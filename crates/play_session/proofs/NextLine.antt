@@ -39,7 +39,7 @@ pub record TookLine (before after : SessionState) (line : Line) : Type 0 where
   pub tells : (bytes : List ℕ) → reader.Represents before.reader bytes → (rest : List ℕ) → lines_of (bytes ++ rest) ≡ line ∷ lines_of rest
   pub dropped : reader.Represents after.reader []
 
--- the step that stands after some steps
+-- the element after those of a list
 slice_get_after : {X : Type 0} (xs : List X) (x : X) → slice_get (xs ++ x ∷ []) (length xs) ≡ Some x
 slice_get_after [] x = refl
 slice_get_after (y ∷ ys) x = slice_get_after ys x
@@ -47,7 +47,7 @@ slice_get_after (y ∷ ys) x = slice_get_after ys x
 until_end_one : (s : model.Step) → until_end (s ∷ []) ≡ s ∷ []
 until_end_one s = elim (cases_Bool (is_end s)) [ inl ends_it ↦ rw ends_it refl | inr goes ↦ rw goes refl ]
 
--- whether a step ends the connection, in the code and in the definition
+-- a step of the code ends the connection where the step of the definition does
 ends-viewed : (result : Step) (commands : List Cmd) (s : model.Step) → viewed result commands ≡ Some s → ends result ≡ is_end s
 ends-viewed (step.Local answer) commands s e = let same : model.Local answer ≡ s = cc in ap is_end same
 ends-viewed (step.Ask command) commands s e = let same : model.Ask command ≡ s = cc in ap is_end same
@@ -57,7 +57,7 @@ ends-viewed step.Bye commands s e = let same : model.EndConnection ≡ s = cc in
 ends-viewed step.Skip commands s e = let same : model.Skip ≡ s = cc in ap is_end same
 ends-viewed step.NeedMore commands s e = cc
 
--- a line whose number is known to be given up, or to be none of those
+-- the number that stands last among those that were given up is one of them, and a greater number than all is none
 given_up-last : (given_up : List ℕ) (number : ℕ) → is_given_up (given_up ++ number ∷ []) number ≡ true
 given_up-last given_up number =
     let last : list_any (λ k. k == number) (number ∷ []) ≡ true = rw (eq-eqb number number refl) refl in
@@ -67,91 +67,132 @@ given_up-none : (given_up : List ℕ) (number : ℕ) → All (λ k. k < number) 
 given_up-none given_up number known =
     list_any_none (λ k. k == number) given_up (λ k d inside. ne_eqb _ number (λ e. omega (arith, known k d inside, e)))
 
--- what the step of the next line is, and what the lines ask for with it
-pub record LineStep (config : ConfigView) (media : List MediaNameView) (given_up later : List ℕ) (lines : List Line) (line : Line) (s : model.Step) (asked : List Parsed) : Type 0 where
-  pub is : step_of_line config media (given_up ++ later) lines (length lines, line) ≡ s
-  pub asks_is : asks config media (given_up ++ later) (lines ++ line ∷ []) ≡ asked
+-- the lines of a stream before its next line
+pub record LinesBefore : Type 0 where
+  -- the configuration with which lines are read
+  pub config : ConfigView
+  -- the media table with which lines are read
+  pub media : List MediaNameView
+  -- the numbers of the lines that were given up, out of memory
+  pub given_up : List ℕ
+  -- the lines
+  pub lines : List Line
 
--- how far a session has come with one step more, the lines of these numbers with those that were given up
+-- the next line of a stream, and what becomes of it
+pub record NextLine : Type 0 where
+  -- the line
+  pub line : Line
+  -- the number of the line, where it is given up, and else none
+  pub later : List ℕ
+  -- the step of the line
+  pub step : model.Step
+  -- what the lines up to and with this one ask for
+  pub asked : List Parsed
+
+-- the step of the next line and what is asked for with it are those of the definition
+pub record LineStep (earlier : LinesBefore) (next : NextLine) : Type 0 where
+  pub is : step_of_line earlier.config earlier.media (earlier.given_up ++ next.later) earlier.lines (length earlier.lines, next.line) ≡ next.step
+  pub asks_is : asks earlier.config earlier.media (earlier.given_up ++ next.later) (earlier.lines ++ next.line ∷ []) ≡ next.asked
+
+-- the lines whose steps a session gave
+abbrev lines_before : ConfigView → List MediaNameView → Progress → List Line → LinesBefore
+lines_before config media progress lines = record { config = config; media = media; given_up = progress.given_up; lines = lines }
+
+-- the next line, where it is read
+abbrev line_read : LinesBefore → Line → NextLine
+line_read earlier line =
+    let asked = asks earlier.config earlier.media earlier.given_up earlier.lines in
+    let meaning = line_meaning earlier.config earlier.media line in
+    record { line = line; later = []; step = step_of_meaning asked meaning; asked = asked ++ cons_option (asked_by meaning) [] }
+
+-- the next line, where it is given up
+abbrev line_given_up : LinesBefore → Line → NextLine
+line_given_up earlier line = record {
+  line = line;
+  later = length earlier.lines ∷ [];
+  step = model.Local reply.NoMemory;
+  asked = asks earlier.config earlier.media earlier.given_up earlier.lines;
+}
+
+-- how far a session has come with one more step, the lines of these numbers with those that were given up
 abbrev one_further : Progress → List ℕ → Progress
 one_further progress later = record progress { given_up = progress.given_up ++ later; given = progress.given + 1 }
 
 -- the state after a line, for each step that the line may have
-module _ (config : ConfigView) (media : List MediaNameView) (before after : SessionState) (line : Line) (took : TookLine before after line) where
+module _ (config : ConfigView) (media : List MediaNameView) (before after : SessionState) (next : NextLine) (took : TookLine before after next.line) where
   lines_with : (progress : Progress) (s : Represents config media before progress)
-      → lines_of progress.stream ≡ lines_of s.before ++ line ∷ []
+      → lines_of progress.stream ≡ lines_of s.before ++ next.line ∷ []
   lines_with progress s =
       ap lines_of s.parts ∙ lines_of-append s.before s.rest s.whole
       ∙ ap (λ (ls : List Line). lines_of s.before ++ ls) (ap lines_of (sym (append-nil s.rest)) ∙ took.tells s.rest s.reads [])
 
-  steps_with : (progress : Progress) (later : List ℕ) (s : Represents config media before progress) (one : model.Step) (asked : List Parsed)
-      → All (λ k. length (lines_of s.before) ≤ k) later → LineStep config media progress.given_up later (lines_of s.before) line one asked
-      → line_steps config media (progress.given_up ++ later) (lines_of s.before ++ line ∷ []) ≡ line_steps config media progress.given_up (lines_of s.before) ++ one ∷ []
-  steps_with progress later s one asked high l =
+  steps_with : (progress : Progress) (s : Represents config media before progress)
+      → All (λ k. length (lines_of s.before) ≤ k) next.later → LineStep (lines_before config media progress (lines_of s.before)) next
+      → line_steps config media (progress.given_up ++ next.later) (lines_of s.before ++ next.line ∷ []) ≡ line_steps config media progress.given_up (lines_of s.before) ++ next.step ∷ []
+  steps_with progress s high l =
       let given_up = progress.given_up in
-      rw (line_steps-snoc config media (given_up ++ later) (lines_of s.before) line, line_steps-later config media given_up later (lines_of s.before) high, l.is) refl
+      rw (line_steps-snoc config media (given_up ++ next.later) (lines_of s.before) next.line, line_steps-later config media given_up next.later (lines_of s.before) high, l.is) refl
 
   -- the step of the line is the next one of the stream
-  next_step : (progress : Progress) (later : List ℕ) (s : Represents config media before progress) (one : model.Step) (asked : List Parsed)
-      → All (λ k. length (lines_of s.before) ≤ k) later → LineStep config media progress.given_up later (lines_of s.before) line one asked
-      → slice_get (steps config media (progress.given_up ++ later) progress.stream) progress.given ≡ Some one
+  next_step : (progress : Progress) (s : Represents config media before progress)
+      → All (λ k. length (lines_of s.before) ≤ k) next.later → LineStep (lines_before config media progress (lines_of s.before)) next
+      → slice_get (steps config media (progress.given_up ++ next.later) progress.stream) progress.given ≡ Some next.step
   unfolding steps
-  next_step progress later s one asked high l =
+  next_step progress s high l =
       let given_up = progress.given_up in
+      let one = next.step in
       let earlier = line_steps config media given_up (lines_of s.before) in
-      let all : until_end (line_steps config media (given_up ++ later) (lines_of progress.stream)) ≡ earlier ++ one ∷ [] =
-      ap (λ (ls : List Line). until_end (line_steps config media (given_up ++ later) ls)) (lines_with progress s)
-      ∙ ap until_end (steps_with progress later s one asked high l)
+      let all : until_end (line_steps config media (given_up ++ next.later) (lines_of progress.stream)) ≡ earlier ++ one ∷ [] =
+      ap (λ (ls : List Line). until_end (line_steps config media (given_up ++ next.later) ls)) (lines_with progress s)
+      ∙ ap until_end (steps_with progress s high l)
       ∙ until_end-going earlier (one ∷ []) (sym s.ended ∙ took.going) ∙ ap (λ (ss : List model.Step). earlier ++ ss) (until_end_one one) in
       let place : length earlier ≡ progress.given = length-line_steps config media given_up (lines_of s.before) ∙ s.count in
       rw (all, ← place) (slice_get_after earlier one)
 
   -- the session has come one step further
-  represents_next : (progress : Progress) (later : List ℕ) (s : Represents config media before progress) (one : model.Step) (asked : List Parsed)
-      → All (λ k. progress.given ≤ k) later → All (λ k. k < progress.given + 1) later → LineStep config media progress.given_up later (lines_of s.before) line one asked
-      → IsBatchOf (batch_of after) asked → after.ended ≡ is_end one
-      → Represents config media after (one_further progress later)
-  represents_next progress later s one asked high low l is ends_so =
+  represents_next : (progress : Progress) (s : Represents config media before progress)
+      → All (λ k. progress.given ≤ k) next.later → All (λ k. k < progress.given + 1) next.later → LineStep (lines_before config media progress (lines_of s.before)) next
+      → IsBatchOf (batch_of after) next.asked → after.ended ≡ is_end next.step
+      → Represents config media after (one_further progress next.later)
+  represents_next progress s high low l is ends_so =
       let given_up = progress.given_up in
       let given = progress.given in
       let whole = lines_held before.reader s.rest s.reads took.held in
-      let same : lines_of (s.before ++ s.rest) ≡ lines_of s.before ++ line ∷ [] = ap lines_of (sym s.parts) ∙ lines_with progress s in
+      let same : lines_of (s.before ++ s.rest) ≡ lines_of s.before ++ next.line ∷ [] = ap lines_of (sym s.parts) ∙ lines_with progress s in
       let earlier = line_steps config media given_up (lines_of s.before) in
       record {
         before = s.before ++ s.rest;
         rest = [];
         parts = s.parts ∙ sym (append-nil (s.before ++ s.rest));
         whole = IsEnded-append s.before s.rest s.whole whole.ended;
-        count = rw same (omega (arith, length-append (lines_of s.before) (line ∷ []), s.count));
-        known = All-append (λ k. k < given + 1) given_up later (λ k d inside. omega (arith, s.known k d inside)) low;
+        count = rw same (omega (arith, length-append (lines_of s.before) (next.line ∷ []), s.count));
+        known = All-append (λ k. k < given + 1) given_up next.later (λ k d inside. omega (arith, s.known k d inside)) low;
         reads = took.dropped;
         batch_open = rw (same, l.asks_is) is.opened;
         batch = λ e. rw (same, l.asks_is) (is.commands e);
-        ended = rw (same, steps_with progress later s one asked (subst (λ (n : ℕ). All (λ k. n ≤ k) later) (sym s.count) high) l, list_any-append is_end earlier (one ∷ []), ← s.ended, took.going, ends_so) (sym (or-false (is_end one)));
+        ended = rw (same, steps_with progress s (subst (λ (n : ℕ). All (λ k. n ≤ k) next.later) (sym s.count) high) l, list_any-append is_end earlier (next.step ∷ []), ← s.ended, took.going, ends_so) (sym (or-false (is_end next.step)));
       }
 
--- the step of a line that was not given up
-LineStep-read : (config : ConfigView) (media : List MediaNameView) (given_up : List ℕ) (lines : List Line) (line : Line)
-    → All (λ k. k < length lines) given_up
-    → LineStep config media given_up [] lines line (step_of_meaning (asks config media given_up lines) (line_meaning config media line))
-    (asks config media given_up lines ++ cons_option (asked_by (line_meaning config media line)) [])
-LineStep-read config media given_up lines line known =
-    let none = given_up-none given_up (length lines) known in
+-- the step of a line that was read
+LineStep-read : (earlier : LinesBefore) (line : Line) → All (λ k. k < length earlier.lines) earlier.given_up → LineStep earlier (line_read earlier line)
+LineStep-read earlier line known =
+    let none = given_up-none earlier.given_up (length earlier.lines) known in
     record {
-      is = rw (append-nil given_up, none, take_all (length lines) lines (omega arith)) refl;
-      asks_is = rw (append-nil given_up, asks-append config media given_up lines (line ∷ []), none) refl;
+      is = rw (append-nil earlier.given_up, none, take_all (length earlier.lines) earlier.lines (omega arith)) refl;
+      asks_is = rw (append-nil earlier.given_up, asks-append earlier.config earlier.media earlier.given_up earlier.lines (line ∷ []), none) refl;
     }
 
 -- the step of a line that was given up
-LineStep-given_up : (config : ConfigView) (media : List MediaNameView) (given_up : List ℕ) (lines : List Line) (line : Line)
-    → LineStep config media given_up (length lines ∷ []) lines line (model.Local reply.NoMemory) (asks config media given_up lines)
-LineStep-given_up config media given_up lines line =
-    let last = given_up-last given_up (length lines) in
-    let high = All-cons (λ k. length lines ≤ k) (length lines) [] (omega arith) (All-nil (λ k. length lines ≤ k)) in
+LineStep-given_up : (earlier : LinesBefore) (line : Line) → LineStep earlier (line_given_up earlier line)
+LineStep-given_up earlier line =
+    let number : List ℕ = length earlier.lines ∷ [] in
+    let all = earlier.given_up ++ number in
+    let last = given_up-last earlier.given_up (length earlier.lines) in
+    let high = All-cons (λ k. length earlier.lines ≤ k) (length earlier.lines) [] (omega arith) (All-nil (λ k. length earlier.lines ≤ k)) in
     record {
       is = rw last refl;
-      asks_is = asks-append config media (given_up ++ length lines ∷ []) lines (line ∷ [])
-          ∙ rw last (append-nil (asks config media (given_up ++ length lines ∷ []) lines) ∙ asks-later config media given_up (length lines ∷ []) lines high);
+      asks_is = asks-append earlier.config earlier.media all earlier.lines (line ∷ [])
+          ∙ rw last (append-nil (asks earlier.config earlier.media all earlier.lines) ∙ asks-later earlier.config earlier.media earlier.given_up number earlier.lines high);
     }
 
 -- where a step was given, what a caller learns of it
@@ -203,20 +244,20 @@ pub Gives-given_up : (config : ConfigView) (media : List MediaNameView) (result 
 Gives-given_up config media result before after line took none kept ends_so progress s =
     let given = progress.given in
     let lines = lines_of s.before in
-    let number : List ℕ = length lines ∷ [] in
-    let asked = asks config media progress.given_up lines in
-    let l = LineStep-given_up config media progress.given_up lines line in
+    let earlier = lines_before config media progress lines in
+    let next = line_given_up earlier line in
+    let l = LineStep-given_up earlier line in
     let high_lines = All-cons (λ k. length lines ≤ k) (length lines) [] (omega arith) (All-nil (λ k. length lines ≤ k)) in
     let high = All-cons (λ k. given ≤ k) (length lines) [] (omega (arith, s.count)) (All-nil (λ k. given ≤ k)) in
     let low = All-cons (λ k. k < given + 1) (length lines) [] (omega (arith, s.count)) (All-nil (λ k. k < given + 1)) in
-    let was : IsBatchOf (batch_of before) asked = record { opened = s.batch_open; commands = s.batch } in
-    let is : IsBatchOf (batch_of after) asked = rw kept was in
-    let further : after_step progress result ≡ one_further progress number = rw (none, s.count) refl in
-    let told : viewed result after.batch ≡ Some (model.Local reply.NoMemory) = rw none refl in
-    let next = next_step config media before after line took progress number s (model.Local reply.NoMemory) asked high_lines l in
-    let represents = represents_next config media before after line took progress number s (model.Local reply.NoMemory) asked high low l is (ends_so ∙ ap ends none) in
-    Gives-step config media result after progress (model.Local reply.NoMemory) told
-    (gives_step config media result after progress (one_further progress number) (sym further) (next ∙ sym told) represents)
+    let was : IsBatchOf (batch_of before) next.asked = record { opened = s.batch_open; commands = s.batch } in
+    let is : IsBatchOf (batch_of after) next.asked = rw kept was in
+    let further : after_step progress result ≡ one_further progress next.later = rw (none, s.count) refl in
+    let told : viewed result after.batch ≡ Some next.step = rw none refl in
+    let step_is = next_step config media before after next took progress s high_lines l in
+    let represents = represents_next config media before after next took progress s high low l is (ends_so ∙ ap ends none) in
+    Gives-step config media result after progress next.step told
+    (gives_step config media result after progress (one_further progress next.later) (sym further) (step_is ∙ sym told) represents)
 
 -- a line was read, and the step is that of its meaning
 pub Gives-read : (config : ConfigView) (media : List MediaNameView) (result : Step) (before after : SessionState) (line : Line)
@@ -234,18 +275,18 @@ Gives-read config media result before after line took told became ends_so progre
   | inr keeps ↦
       let lines = lines_of s.before in
       let meaning = line_meaning config media line in
-      let before_it = asks config media progress.given_up lines in
-      let asked = before_it ++ cons_option (asked_by meaning) [] in
-      let one = step_of_meaning before_it meaning in
-      let l = LineStep-read config media progress.given_up lines line (rw s.count s.known) in
-      let was : IsBatchOf (batch_of before) before_it = record { opened = s.batch_open; commands = s.batch } in
-      let is : IsBatchOf (batch_of after) asked = rw became (IsBatchOf-line (batch_of before) before_it meaning was) in
-      let told_one : viewed result after.batch ≡ Some one = told ∙ ap (λ (m : model.Step). Some m) (step_for_line (batch_of before) before_it meaning was) in
-      let further : after_step progress result ≡ one_further progress [] = rw (keeps, append-nil progress.given_up) refl in
-      let next = next_step config media before after line took progress [] s one asked (All-nil (λ k. length lines ≤ k)) l in
-      let represents = represents_next config media before after line took progress [] s one asked (All-nil (λ k. progress.given ≤ k)) (All-nil (λ k. k < progress.given + 1)) l is (ends_so ∙ ends-viewed result after.batch one told_one) in
-      Gives-step config media result after progress one told_one
-      (gives_step config media result after progress (one_further progress []) (sym further) (next ∙ sym told_one) represents)
+      let asked = asks config media progress.given_up lines in
+      let earlier = lines_before config media progress lines in
+      let next = line_read earlier line in
+      let l = LineStep-read earlier line (rw s.count s.known) in
+      let was : IsBatchOf (batch_of before) asked = record { opened = s.batch_open; commands = s.batch } in
+      let is : IsBatchOf (batch_of after) next.asked = rw became (IsBatchOf-line (batch_of before) asked meaning was) in
+      let told_one : viewed result after.batch ≡ Some next.step = told ∙ ap (λ (m : model.Step). Some m) (step_for_line (batch_of before) asked meaning was) in
+      let further : after_step progress result ≡ one_further progress next.later = rw (keeps, append-nil progress.given_up) refl in
+      let step_is = next_step config media before after next took progress s (All-nil (λ k. length lines ≤ k)) l in
+      let represents = represents_next config media before after next took progress s (All-nil (λ k. progress.given ≤ k)) (All-nil (λ k. k < progress.given + 1)) l is (ends_so ∙ ends-viewed result after.batch next.step told_one) in
+      Gives-step config media result after progress next.step told_one
+      (gives_step config media result after progress (one_further progress next.later) (sym further) (step_is ∙ sym told_one) represents)
 ]
 
 -- a line was taken, and what it means was followed, or it was given up

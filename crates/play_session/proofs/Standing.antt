@@ -28,7 +28,7 @@ Represents-nothing config media session reads closed going = record {
   ended = going;
 }
 
--- more bytes were taken
+-- a session whose reader took more bytes
 pub Represents-fed : (config : ConfigView) (media : List MediaNameView) (before after : SessionState) (progress : Progress) (taken : List ℕ)
     → Represents config media before progress
     → ((bytes : List ℕ) → reader.Represents before.reader bytes → reader.Represents after.reader (bytes ++ taken))

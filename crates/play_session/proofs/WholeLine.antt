@@ -27,7 +27,7 @@ use Rattle.play_session.proofs.Standing.{Represents-fed}
 abbrev fed_reader : ReaderState → List ℕ → ReaderState
 fed_reader r text = record { kept = (with_text r (text ++ 13 ∷ [])).kept; over = (with_text r (text ++ 13 ∷ [])).over; held = true }
 
--- a session with such a reader
+-- a session as if a text and CR LF had been fed to it
 abbrev fed : SessionState → List ℕ → SessionState
 fed session text = record session { reader = fed_reader session.reader text }
 
@@ -48,7 +48,7 @@ module _ (before : SessionState) (text : List ℕ) (between : IsBetweenLines bef
       (Represents-end (with_text before.reader (text ++ 13 ∷ [])) (bytes ++ (text ++ 13 ∷ []))
       (Represents-text before.reader bytes (text ++ 13 ∷ []) represents unheld no_end) unheld)
 
-  -- the line that such a reader holds is that of the text
+  -- the line that a reader holds after a text and CR LF is that of the text
   line_is : reader.line_kept (fed_reader before.reader text) ≡ line_of_text text
   line_is =
       one_head _ _ (lines_of []) (lines_of [])

@@ -28,14 +28,15 @@ at_start = record { stream = []; given_up = []; given = 0 }
 abbrev pub after_bytes : Progress → List ℕ → Progress
 after_bytes progress bytes = record progress { stream = progress.stream ++ bytes }
 
--- after one step more: its line is the next one, and may be given up with it
+-- after one more step, which may give its line up
 abbrev pub after_step : Progress → Step → Progress
 after_step progress result = record progress {
   given_up = if gives_up result then progress.given_up ++ progress.given ∷ [] else progress.given_up;
   given = progress.given + 1;
 }
 
--- the session has come so far: it represents the lines whose steps it gave, and the bytes after them
+-- the session has come as far as the progress says: `before` are the bytes of the lines whose steps it gave, and `rest` are
+-- the bytes after them
 pub record Represents (config : ConfigView) (media : List MediaNameView) (session : SessionState) (progress : Progress) : Type 0 where
   pub before : List ℕ
   pub rest : List ℕ
@@ -73,7 +74,7 @@ IsBetweenLines session = reader.Represents session.reader []
 abbrev pub IsAsBefore : SessionState → SessionState → Type 0
 IsAsBefore before after = (after.batch_open ≡ before.batch_open) × (after.batch ≡ before.batch) × (after.ended ≡ before.ended)
 
--- what is sent fits the configuration, and what the stage is asked for is on its channels
+-- a reply fits the configuration, and a command that the stage is asked for is on its channels
 abbrev pub Fits : ConfigView → Step → Type 0
 Fits config (step.Local answer) = IsReplyTo config answer
 Fits config (step.Ask command) = IsAimed config command

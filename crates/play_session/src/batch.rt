@@ -12,7 +12,7 @@ use play_types::{Cmd, MAX_BATCH_COMMANDS, Name, Parsed, Reply};
 use std::alloc::{AllocError, Global};
 use std::marker::Model;
 
-/// A batch, open or closed. A closed one keeps its commands until the next one is opened.
+/// A batch, open or closed. A closed batch keeps its commands until the next one is opened.
 #[derive(Debug, Drop)]
 pub struct Batch {
     is_open: bool,
@@ -32,7 +32,7 @@ impl Model for Batch {
 }
 
 impl Batch {
-    /// Makes a closed batch without commands, with room for as many as a batch may have.
+    /// Creates a closed batch without commands, with room for `MAX_BATCH_COMMANDS` commands.
     pub fn new(alloc: Global) -> Result<Batch, AllocError>
         ensures { IfOk result (λ batch. batch ≡ record { is_open = false; commands = [] }) }
     {
@@ -51,14 +51,14 @@ impl Batch {
         self.commands.clear();
     }
 
-    /// Returns the commands.
+    /// Returns the commands of the batch, or of the last one where the batch is closed.
     pub fn commands(&self) -> &[Cmd]
         ensures { result.now ≡ self.now.commands }
     {
         self.commands.as_slice()
     }
 
-    /// Returns the step of a line of this meaning.
+    /// Does with the batch what a line of this meaning asks for, and returns the step of the line.
     pub fn step(&mut self, meaning: Meaning) -> Step
         ensures step { viewed result self.new.commands ≡ Some (step_for self.old (meaning_view meaning)) }
         ensures batch { self.new ≡ after_meaning self.old (meaning_view meaning) }
@@ -70,7 +70,7 @@ impl Batch {
         }
     }
 
-    /// Returns the step of a line whose words ask for this.
+    /// Does with the batch what is asked for, and returns the step of the line.
     fn step_for_ask(&mut self, asked: Parsed) -> Step
         ensures step { viewed result self.new.commands ≡ Some (step_for self.old (Asks asked)) }
         ensures batch { self.new ≡ after_meaning self.old (Asks asked) }
@@ -82,7 +82,7 @@ impl Batch {
         }
     }
 
-    /// Returns the step of a line whose words ask for this, where no batch is open.
+    /// Does what is asked for where no batch is open, and returns the step of the line.
     fn step_outside(&mut self, asked: Parsed) -> Step
         ensures step { viewed result self.new.commands ≡ Some (step_outside asked) }
         ensures batch { self.new ≡ after_outside self.old asked }
@@ -99,7 +99,7 @@ impl Batch {
         }
     }
 
-    /// Returns the step of a line whose words ask for this, where a batch is open.
+    /// Does with the open batch what is asked for, and returns the step of the line.
     fn step_inside(&mut self, asked: Parsed) -> Step
         ensures step { viewed result self.new.commands ≡ Some (step_inside self.old.commands asked) }
         ensures batch { self.new ≡ after_inside self.old asked }
@@ -116,7 +116,7 @@ impl Batch {
         }
     }
 
-    /// Opens an empty batch.
+    /// Opens an empty batch, and returns the reply that this was done.
     fn begin(&mut self) -> Step
         ensures step { result ≡ Step.Local (Reply.Done Name.Begin) }
         ensures batch { self.new ≡ record { is_open = true; commands = [] } }
@@ -126,7 +126,8 @@ impl Batch {
         done(Name::Begin)
     }
 
-    /// Adds a command to the open batch. It is refused where it is a query, and where there is no room.
+    /// Adds a command to the open batch, and returns the reply. The command is refused where it is a query, and where the
+    /// batch is full.
     fn add(&mut self, command: Cmd) -> Step
         ensures step { viewed result self.new.commands ≡ Some (step_waiting self.old.commands command) }
         ensures batch { self.new ≡ record { is_open = self.old.is_open; commands = with_command self.old.commands command } }
@@ -139,7 +140,7 @@ impl Batch {
         done(name)
     }
 
-    /// Closes the open batch, which is asked for where it has a command.
+    /// Closes the open batch, and returns the step: the stage is asked for the batch where it has a command.
     fn commit(&mut self) -> Step
         ensures step { viewed result self.new.commands ≡ Some (step_commit self.old.commands) }
         ensures batch { self.new ≡ record { is_open = false; commands = self.old.commands } }
@@ -151,7 +152,7 @@ impl Batch {
         Step::AskBatch
     }
 
-    /// Closes the open batch.
+    /// Closes the open batch, and returns the reply that this was done.
     fn discard(&mut self) -> Step
         ensures step { result ≡ Step.Local (Reply.Done Name.Discard) }
         ensures batch { self.new ≡ record { is_open = false; commands = self.old.commands } }
@@ -168,7 +169,7 @@ fn done(name: Name) -> Step
     Step::Local(Reply::Done(name))
 }
 
-/// Returns the reply that a command is refused.
+/// Returns the reply that a command is refused, with code 403.
 fn refused(name: Name) -> Step
     ensures { result ≡ Step.Local (Reply.Refused 403 name) }
 {

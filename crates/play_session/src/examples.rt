@@ -1,14 +1,22 @@
 //! Worked streams. Each function does nothing, and its contract says which steps lines have. There is one channel, and
 //! no clip.
-#![tactic(auto, unfolding(play_types::specs::Words::is_word, history_model::specs::commands::Places::area_of, play_types::specs::Words::name_of, play_types::specs::Words::kind_of, play_types::specs::Words::prop_of, history_model::specs::commands::Command::parsed, history_model::specs::sessions::Line::line_meaning, history_model::specs::sessions::Session::asks, history_model::specs::sessions::Session::line_steps))]
+#![tactic(auto, unfolding(play_types::specs::Words::is_word, play_types::specs::Words::is_same_name, history_model::specs::commands::Places::area_of, history_model::specs::commands::Options::options_at, history_model::specs::commands::Producer::producer_of, history_model::specs::commands::Producer::take_at, history_model::specs::commands::Command::play, play_types::specs::Words::name_of, play_types::specs::Words::kind_of, play_types::specs::Words::prop_of, history_model::specs::commands::Command::parsed, history_model::specs::sessions::Line::line_meaning, history_model::specs::sessions::Session::asks, history_model::specs::sessions::Session::line_steps))]
 
 ghost use Rattle.std.specs.Prelude.{◌≡◌, ◌∷◌, [], codes};
 ghost use Rattle.amcp_text.specs.Lines.{TooLong};
 ghost use Rattle.play_types.specs.declared.command.Cmd.TheVariants.{StopLayer, Info};
 ghost use Rattle.play_types.specs.declared.reply.Name.TheVariants as name;
-ghost use Rattle.play_types.specs.declared.reply.Reply.TheVariants.{Done, Refused, Unknown, NoMemory};
+ghost use Rattle.play_types.specs.declared.reply.Reply.TheVariants.{Done, Cls, Version, Refused, Unknown, NoMemory};
 ghost use Rattle.history_model.specs.sessions.Session.{Local, Ask, AskBatch, KillServer, EndConnection, Skip};
 ghost use Rattle.play_session.specs.Worked.{gives, gives_without, line, layer};
+
+/// Replies without the stage, where no batch is open.
+pub fn replies()
+    ensures refused { gives (line "FROB 1" ∷ line "PAUSE" ∷ line "PAUSE 2-0" ∷ line "PAUSE 1-x" ∷ line "PLAY 1-0 NONE" ∷ [])
+        ≡ Local (Unknown (codes "FROB 1")) ∷ Local (Refused 402 name.Pause) ∷ Local (Refused 401 name.Pause) ∷ Local (Refused 403 name.Pause) ∷ Local (Refused 404 name.Play) ∷ [] }
+    ensures given { gives (line "CLS" ∷ line "VERSION" ∷ line "COMMIT" ∷ line "DISCARD" ∷ [])
+        ≡ Local Cls ∷ Local Version ∷ Local (Refused 403 name.Commit) ∷ Local (Refused 403 name.Discard) ∷ [] }
+{}
 
 /// What opens a batch, and what closes it.
 pub fn batches()

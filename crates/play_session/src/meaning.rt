@@ -23,7 +23,8 @@ pub enum Meaning {
     Asks(Parsed),
 }
 
-/// Returns what a line means with this configuration and these clips.
+/// Returns what a line means with this configuration and these clips. A line that is too long, or is not UTF-8, is
+/// refused without its text.
 #[tactic(auto, unfolding(history_model::specs::sessions::Line::line_meaning))]
 pub fn meaning_of(
     alloc: Global,

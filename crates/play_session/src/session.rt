@@ -37,7 +37,7 @@ impl Model for Session {
 }
 
 impl Session {
-    /// Makes a session that was fed nothing, with room for one line and for the commands of a batch.
+    /// Creates a session that was fed nothing, with room for one line and for the commands of a batch.
     pub fn new(alloc: Global) -> Result<Session, AllocError>
         ensures represents { IfOk result (λ session. (config : ConfigView) (media : List MediaNameView)
             → Represents config media session at_start) }
@@ -64,8 +64,8 @@ impl Session {
         self.ended = false;
     }
 
-    /// Takes the bytes up to and with the first LF, and returns how many: 0 exactly where a whole line is held or the
-    /// piece is empty. It takes no memory, and keeps the batch.
+    /// Takes the bytes of `piece` up to and with its first LF, and returns how many bytes it took: 0 exactly where a whole
+    /// line is held or the piece is empty. It takes no memory, and keeps the batch.
     pub fn feed(&mut self, piece: &[u8]) -> usize
         ensures count { result ≡ taken_len self.old.reader.held piece.now }
         ensures represents { (config : ConfigView) (media : List MediaNameView) (progress : Progress)
@@ -76,8 +76,8 @@ impl Session {
         self.reader.feed(piece)
     }
 
-    /// Returns the step of the next line: `NeedMore` exactly where no whole line is held, and nothing is changed then;
-    /// `Skip` exactly where the line has no word.
+    /// Returns the step of the next line: `NeedMore` exactly where no whole line is held, and then the session stays as it
+    /// is; `Skip` exactly where the line has no word.
     ///
     /// No step may be asked for after a `Kill` or a `Bye`. A line for which there is no memory is given up with
     /// `Local(NoMemory)`, which leaves the batch as it was.
@@ -126,7 +126,7 @@ impl Session {
         self.follow(meaning)
     }
 
-    /// Returns the step of a line of this meaning, or of one that is given up, out of memory.
+    /// Does what a line of this meaning asks for, and returns its step. At an error the line is given up, out of memory.
     fn follow(&mut self, meaning: Result<Meaning, AllocError>) -> Step
         ensures reader { self.new.reader ≡ self.old.reader }
         ensures follows { Follows meaning result (batch_of self.old) (batch_of self.new) }
@@ -140,14 +140,14 @@ impl Session {
         step
     }
 
-    /// Returns whether it gave a `Kill` or a `Bye`, so that no further step may be asked for.
+    /// Returns whether the session gave a `Kill` or a `Bye`, so that no further step may be asked for.
     pub fn has_ended(&self) -> bool
         ensures { result ≡ self.now.ended }
     {
         self.ended
     }
 
-    /// Returns the commands of the batch that an `AskBatch` asks for, until the next step.
+    /// Returns the commands of the batch that an `AskBatch` asks for, until the next step is asked for.
     pub fn batch(&self) -> &[Cmd]
         ensures { result.now ≡ self.now.batch }
     {

@@ -18,7 +18,7 @@ plain-high c high =
     let line : (c == 10) ≡ false = ne_eqb c 10 (λ e. omega arith) in
     rw (mark, slash, line) refl
 
--- a byte of a character that is not its first one
+-- a byte of a character after its first one, with the last six of these bits
 abbrev next : ℕ → ℕ
 next bits = 128 + bits % 64
 
@@ -83,7 +83,7 @@ between-more from to bytes order within =
 abbrev pub IsPlain : ℕ → ℕ → List ℕ → Type 0
 IsPlain from to bytes = flat_map escaped (take to bytes) ≡ flat_map escaped (take from bytes) ++ between from to bytes
 
--- nothing is plain
+-- no bytes have no escape
 pub plain_none : (at : ℕ) (bytes : List ℕ) → IsPlain at at bytes
 plain_none at bytes =
     let none : at - at ≡ 0 = omega arith in

@@ -1,3 +1,4 @@
 mod Escapes
 mod Lines
+pub mod OnLiterals
 mod Values

@@ -33,7 +33,7 @@ pub numbers_text-parts : (clip : MediaNameView) (after : List ℕ)
 unfolding numbers_text size_text
 numbers_text-parts clip after = simp (append_assoc, append-nil)
 
--- what stands before the line of a clip, its name, and what follows it
+-- the line of a clip is what stands before it, the name, and what follows the name
 pub media_line-parts : (style : LineStyle) (clip : MediaNameView)
     → styled style (media_line clip) ≡ (head_of style ++ encode_utf8_all (quoted clip.name)) ++ (codes " " ++ clip_text clip ++ style.after.now)
 unfolding media_line

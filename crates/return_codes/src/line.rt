@@ -1,11 +1,11 @@
-//! Lines, and what stands before and after each.
+//! Lines that are written in parts.
 ghost use Rattle.std.specs.Prelude.{◌∷◌, ◌++◌, []};
 ghost use Rattle.std.specs.List.{flat_map};
 ghost use Rattle.play_outside.specs.Sink.{Sends};
 
 use play_outside::{Sent, Sink, send, send_parts};
 
-/// What stands before each line, in parts, and what ends it.
+/// How lines are written: the parts that stand before each line, and what ends it.
 #[derive(Clone, Copy)]
 pub(crate) struct LineStyle<'a> {
     pub(crate) before: &'a [&'a [u8]],
@@ -32,7 +32,7 @@ impl LineStyle<'_> {
         }
     }
 
-    /// Writes a line that comes in parts.
+    /// Writes a line, which is given in parts, with what stands before it and what ends it.
     pub(crate) fn send_line<K: Sink>(&self, parts: &[&[u8]], to: &mut K) -> Sent
         ensures { Sends result (styled self.now (flat_map (λ part. part.now) parts.now)) (K.state to.old) (K.state to.new) }
     {
@@ -42,7 +42,7 @@ impl LineStyle<'_> {
         }
     }
 
-    /// Writes a line, and a second one that comes in parts.
+    /// Writes two lines, of which the second is given in parts.
     pub(crate) fn send_two_lines<K: Sink>(&self, first: &[u8], second: &[&[u8]], to: &mut K) -> Sent
         ensures { Sends result
             (flat_map (styled self.now) (first.now ∷ flat_map (λ part. part.now) second.now ∷ []))

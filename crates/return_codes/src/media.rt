@@ -11,7 +11,7 @@ use itoa::Buffer;
 use play_outside::{Sent, Sink};
 use play_types::{MediaName, MediaNames};
 
-/// Writes a line for each name.
+/// Writes a line for each name of the media table.
 pub(crate) fn send_names<K: Sink>(media: &MediaNames, style: &LineStyle, to: &mut K) -> Sent
     ensures { Sends result
         (flat_map (styled style.now) (map media_line media.now))
@@ -26,7 +26,7 @@ pub(crate) fn send_names<K: Sink>(media: &MediaNames, style: &LineStyle, to: &mu
     Sent::All
 }
 
-/// Writes the line of a name.
+/// Writes the line of a name: the name in quotation marks, and the numbers of its clip or `UNREADABLE`.
 fn send_name<K: Sink>(clip: &MediaName, style: &LineStyle, to: &mut K) -> Sent
     ensures { Sends result (styled style.now (media_line clip.now)) (K.state to.old) (K.state to.new) }
 {
@@ -45,7 +45,7 @@ fn send_name<K: Sink>(clip: &MediaName, style: &LineStyle, to: &mut K) -> Sent
     }
 }
 
-/// Writes the numbers of a readable clip, after its name.
+/// Writes the rest of the line of a readable clip after its name: its size, its frames and its stereo pairs.
 fn send_numbers<K: Sink>(clip: &MediaName, style: &LineStyle, to: &mut K) -> Sent
     ensures { Sends result (codes " " ++ numbers_text clip.now ++ style.now.after.now) (K.state to.old) (K.state to.new) }
 {

@@ -20,7 +20,7 @@ pub(crate) fn send_quoted<K: Sink>(name: &str, to: &mut K) -> Sent
     }
 }
 
-/// Writes the bytes of a name, a byte that has an escape as its escape.
+/// Writes the bytes of a name, and in place of each byte that has an escape its escape.
 fn send_escaped<K: Sink>(name: &[u8], to: &mut K) -> Sent
     ensures { Sends result (flat_map escaped name.now) (K.state to.old) (K.state to.new) }
 {
@@ -36,7 +36,8 @@ fn send_escaped<K: Sink>(name: &[u8], to: &mut K) -> Sent
     send(&name[sent..], to)
 }
 
-/// Returns what stands for a quotation mark, a backslash or a new line after a backslash.
+/// Returns the second byte of the escape of a quotation mark, a backslash or a new line, whose first byte is a backslash.
+/// Another byte has no escape.
 fn escape_of(byte: u8) -> Option<u8>
     ensures none { IfNone result (escaped byte ≡ byte ∷ []) }
     ensures some { IfSome result (λ letter. escaped byte ≡ codes "\\" ++ letter ∷ []) }

@@ -1,4 +1,4 @@
-//! Replies.
+//! The lines of a reply.
 ghost use Rattle.std.specs.Prelude.{◌≡◌, ◌∷◌, ◌++◌, [], length, take, map, codes};
 ghost use Rattle.std.specs.List.{flat_map};
 ghost use Rattle.play_outside.specs.Sink.{Sends};
@@ -16,7 +16,8 @@ use play_types::{ChannelList, Config, MediaNames, Name, Reply, StatusList};
 /// Writes the lines of a reply, each ended by CR LF. It takes no memory.
 ///
 /// An `Info` has a status for each channel of the configuration, and a `Refused` has one of the codes 401 to 404 and 501
-/// to 503. A `Cls` lists the media names.
+/// to 503. The reply to CLS lists the names of `media`. The result is `Failed` only where `to` failed, and then a prefix of
+/// the lines was written.
 pub fn send_reply<K: Sink>(reply: &Reply, config: &Config, media: &MediaNames, to: &mut K) -> Sent
     requires { IsReplyTo config.now reply.now }
     ensures { Sends result (reply_bytes config.now media.now reply.now) (K.state to.old) (K.state to.new) }
@@ -26,7 +27,7 @@ pub fn send_reply<K: Sink>(reply: &Reply, config: &Config, media: &MediaNames, t
 
 /// Writes the lines of a reply, each with the parts of `before` before it and ended by `after`. It takes no memory.
 ///
-/// The reply is such as `send_reply` takes.
+/// The reply is one that `send_reply` takes, and the result is `Failed` only where `to` failed.
 pub fn send_reply_lines<'a, K: Sink>(
     reply: &Reply,
     config: &Config,
@@ -55,7 +56,7 @@ pub fn send_reply_lines<'a, K: Sink>(
     }
 }
 
-/// Writes the line of a code, the name of a command, and a word that says what became of it.
+/// Writes the line of a code, the name of a command, and the word that says what became of the command.
 fn send_code<K: Sink>(
     code: u16,
     name: Name,
@@ -77,7 +78,7 @@ fn send_code<K: Sink>(
     )
 }
 
-/// Writes the status of each channel.
+/// Writes the reply to INFO: its first line, the status of each channel, and an empty line.
 fn send_info<K: Sink>(
     channels: &ChannelList,
     statuses: StatusList,
@@ -99,7 +100,7 @@ fn send_info<K: Sink>(
     }
 }
 
-/// Writes the names of the media table.
+/// Writes the reply to CLS: its first line, the names of the media table, and an empty line.
 fn send_cls<K: Sink>(media: &MediaNames, style: &LineStyle, to: &mut K) -> Sent
     ensures { Sends result
         (flat_map (styled style.now) (codes "200 CLS OK" ∷ map media_line media.now ++ [] ∷ []))
@@ -115,8 +116,8 @@ fn send_cls<K: Sink>(media: &MediaNames, style: &LineStyle, to: &mut K) -> Sent
     }
 }
 
-/// Returns what became of a command that was refused with a code: below 500 the client is at fault, from 500 on the
-/// server.
+/// Returns the word for a command that was refused with this code: `ERROR` below 500, where the client is at fault, and
+/// from 500 on `FAILED`.
 fn refusal(code: u16) -> &'static str
     ensures { result.now ≡ refusal_word code }
 {

@@ -10,7 +10,7 @@ use itoa::Buffer;
 use play_outside::{Sent, Sink};
 use play_types::{Channel, ChannelList, Status, StatusList};
 
-/// Writes a line for each channel.
+/// Writes a line for each channel, with its status.
 pub(crate) fn send_statuses<K: Sink>(
     channels: &ChannelList,
     statuses: StatusList,
@@ -26,7 +26,7 @@ pub(crate) fn send_statuses<K: Sink>(
     send_channels(channels, &statuses.channels()[..count], style, to)
 }
 
-/// Writes a line for each channel, with the status at its place.
+/// Writes a line for each channel, with its status: that of the first channel comes first.
 fn send_channels<K: Sink>(
     channels: &ChannelList,
     statuses: &[Status],
@@ -47,7 +47,7 @@ fn send_channels<K: Sink>(
     Sent::All
 }
 
-/// Writes the line of the channel with this number.
+/// Writes the line of the channel with this number, from 1.
 fn send_channel<K: Sink>(
     number: usize,
     channel: &Channel,

@@ -10,7 +10,7 @@ use fixed_params::MicroText;
 use play_outside::{Sent, Sink};
 use play_types::Micros;
 
-/// Writes mixer values in printed form, parted by one space.
+/// Writes the reply to a query of the mixer: its first line, and the values in printed form with one space between them.
 pub(crate) fn send_values<K: Sink>(micros: Micros, style: &LineStyle, to: &mut K) -> Sent
     ensures { Sends result
         (flat_map (styled style.now) (codes "201 MIXER OK" ∷ values_line micros ∷ []))

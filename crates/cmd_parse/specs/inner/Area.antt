@@ -1,4 +1,4 @@
--- What is known of a place as it is written.
+-- The ranges of a channel and a layer as they are written.
 use Rattle.std.specs.Prelude.{ℕ, ◌≤◌, Option, unwrap_or}
 use Rattle.play_types.specs.declared.place.TheConstants.{MAX_CHANNELS, MAX_LAYER}
 

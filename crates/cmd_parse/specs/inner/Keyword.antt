@@ -25,6 +25,7 @@ option_named Length = option.Length
 option_named Auto = option.Auto
 option_named (Transition kind) = option.Transition
 
+-- the kind is a cut
 abbrev pub is_cut : Kind → Bool
 is_cut Cut = true
 is_cut Mix = false

@@ -1,4 +1,4 @@
--- What is known of the numbers of a MIXER.
+-- The ranges of the numbers of a MIXER.
 use Rattle.std.specs.Prelude.{◌≡◌, ◌⊎◌, ℤ, pos}
 use Rattle.play_types.specs.Setting.{IsWithin, IsWide}
 use Rattle.play_types.specs.declared.setting.Prop.{Prop}

@@ -52,7 +52,7 @@ is_direction_at line at =
 abbrev pub is_number_at : Line → ℕ → Bool
 is_number_at line at = is_some (option_and_then whole_number (slice_get line.words at))
 
--- how many words from a position on are a curve and a direction, and whether the transition goes leftward
+-- the number of words from a position on that are a curve and a direction, and whether the transition goes leftward
 unfoldable pub manner_at : Line → ℕ → ℕ × Bool
 manner_at line at =
     if stands_at line at (codes "LINEAR") then
@@ -61,7 +61,7 @@ manner_at line at =
     (if stands_at line (at + 1) (codes "LINEAR") then 2 else 1, is_leftward_at line at)
     else (0, false)
 
--- the duration of a transition, and how many words it takes
+-- the duration of a transition, and the number of words that write it
 unfoldable pub duration_at : Line → ℕ → Kind → Result (ℕ × ℕ) Refusal
 duration_at line at kind =
     if is_cut kind && not (is_number_at line at) then Ok (0, 0)
@@ -69,15 +69,15 @@ duration_at line at kind =
       duration ← number_at line at 0 MAX_DURATION
       Ok (duration, 1))
 
--- a transition, and how many words it takes
+-- a transition, and the number of words that write it
 unfoldable pub transition_at : Line → ℕ → Kind → Result (TransView × ℕ) Refusal
 transition_at line at kind = do
   duration ← duration_at line at kind
   let manner = manner_at line (at + duration.1)
   Ok (trans_of kind duration.0 Linear manner.1, duration.1 + manner.0)
 
--- the options with the one that begins at a position, where it was not given before, and how many words after its first
--- belong to it
+-- the options with the one that begins at a position, where it was not given before, and the number of words after its
+-- first that belong to it
 abbrev pub with_given : Line → ℕ → Given → Keyword → Result (Given × ℕ) Refusal
 with_given line at options Loop = Ok (record options { looped = true }, 0)
 with_given line at options Auto = Ok (record options { auto = true }, 0)
@@ -96,11 +96,11 @@ unfoldable pub with_keyword : Line → ℕ → Given → Keyword → Result (Giv
 with_keyword line at options keyword =
     if has_option options keyword then Err (Illegal line.name at) else with_given line at options keyword
 
--- the options with the one that the word at a position begins: a word that begins none is wrong
+-- the options with the one that the word at a position begins: a word that begins none is refused
 abbrev pub with_word : Line → ℕ → Given → Option Keyword → Result (Given × ℕ) Refusal
 with_word line at options None = Err (Illegal line.name at)
 with_word line at options (Some keyword) = with_keyword line at options keyword
 
--- the options with the one that begins at a position, and how many words after its first belong to it
+-- the options with the one that begins at a position, and the number of words after its first that belong to it
 unfoldable pub with_option : Line → ℕ → Given → Result (Given × ℕ) Refusal
 with_option line at options = with_word line at options (option_and_then keyword_of (slice_get line.words at))

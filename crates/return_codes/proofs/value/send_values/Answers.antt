@@ -21,8 +21,7 @@ returns g c =
     let d = rw (wide_kept (get_or values 2 (pos 0)) (wide 2 (lit< tt))) at c.of-c.ensures in
     let e = rw (wide_kept (get_or values 3 (pos 0)) (wide 3 (lit< tt))) at c.of-d.ensures in
     subst (λ (line : List ℕ). Sends c.send_two_lines.result (flat_map (styled c.args.style.now) (codes "201 MIXER OK" ∷ line ∷ [])) (g.K.Sink.state c.args.to.now) (g.K.Sink.state c.send_two_lines.new.to))
-    (joined_parts (λ part. part.now) _ _ _ _ _ _ _ values c.args.micros.count c.saturating_sub-used.result
-    (record { four = four; first = c.as_bytes.ensures ∙ a; second = c.as_bytes-2.ensures ∙ b; third = c.as_bytes-3.ensures ∙ d; fourth = c.as_bytes-4.ensures ∙ e; space_a = refl; space_b = refl; space_c = refl })
-    (omega (arith, c.count.ensures.range.few)) (omega arith)
+    (joined_parts (λ part. part.now) _ _ _ _ _ _ _ values c.args.micros.count c.saturating_sub-used.result four (omega arith)
+    (c.as_bytes.ensures ∙ a) refl (c.as_bytes-2.ensures ∙ b) refl (c.as_bytes-3.ensures ∙ d) refl (c.as_bytes-4.ensures ∙ e)
     ∙ ap (λ (vs : List ℤ). join_by printed_micro (codes " ") (take c.args.micros.count vs)) c.values.ensures.value)
     c.send_two_lines.ensures

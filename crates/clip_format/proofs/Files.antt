@@ -6,6 +6,8 @@ use Rattle.std.proofs.lemmas.Bool.{eqb-true, leb-true, eq-eqb, le-leb, lt-ltb, l
 use Rattle.std.proofs.lemmas.List.{get_or-take, get_or-drop, get_or_past, take-append-drop, drop-drop}
 use Rattle.std.proofs.lemmas.Nat.{from_be_bytes-to_be_bytes_2, from_be_bytes-to_be_bytes_4, be_bytes_2, be_bytes_4, mul-le}
 use Rattle.std.proofs.lemmas.Slice.Eq.{bytes_eq-Decides}
+use Rattle.play_types.specs.declared.clip.TheConstants.{MAX_FRAMES}
+use Rattle.play_types.specs.declared.geometry.TheConstants.{MAX_SIDE, MAX_PAIRS}
 use Rattle.play_types.specs.Geometry.{frame_bytes}
 use Rattle.play_types.specs.ClipFile.{ClipView, IsClip, IsClipFile, clip_bytes}
 use Rattle.play_types.specs.declared.clip_fault.ClipFault.{ClipFault}
@@ -18,12 +20,12 @@ pub record IsHeader (bytes : List ℕ) : Type 0 where
   pub version : number_of_2 bytes 4 ≡ 1
   pub flags : number_of_2 bytes 6 ≡ 0
   pub some_columns : 1 ≤ number_of_2 bytes 8
-  pub columns : number_of_2 bytes 8 ≤ 4096
+  pub columns : number_of_2 bytes 8 ≤ MAX_SIDE
   pub some_rows : 1 ≤ number_of_2 bytes 10
-  pub rows : number_of_2 bytes 10 ≤ 4096
+  pub rows : number_of_2 bytes 10 ≤ MAX_SIDE
   pub some_frames : 1 ≤ number_of_4 bytes 12
-  pub frames : number_of_4 bytes 12 ≤ 1000000
-  pub pairs : number_of_2 bytes 16 ≤ 4096
+  pub frames : number_of_4 bytes 12 ≤ MAX_FRAMES
+  pub pairs : number_of_2 bytes 16 ≤ MAX_PAIRS
   pub zero : number_of_2 bytes 18 ≡ 0
 
 none_first : (accepted : Bool) (fault : ClipFault) (rest : Option ClipFault) → cond accepted rest (Some fault) ≡ None → (accepted ≡ true) × (rest ≡ None)
@@ -37,10 +39,10 @@ IsHeader-no_fault bytes e =
     let a = none_first (bytes_eq (take 4 bytes) (codes "RCLP")) _ _ e in
     let b = none_first (number_of_2 bytes 4 == 1) _ _ a.1 in
     let c = none_first (number_of_2 bytes 6 == 0) _ _ b.1 in
-    let d = none_first (is_within 1 4096 (number_of_2 bytes 8)) _ _ c.1 in
-    let f = none_first (is_within 1 4096 (number_of_2 bytes 10)) _ _ d.1 in
-    let g = none_first (is_within 1 1000000 (number_of_4 bytes 12)) _ _ f.1 in
-    let h = none_first (is_within 0 4096 (number_of_2 bytes 16)) _ _ g.1 in
+    let d = none_first (is_within 1 MAX_SIDE (number_of_2 bytes 8)) _ _ c.1 in
+    let f = none_first (is_within 1 MAX_SIDE (number_of_2 bytes 10)) _ _ d.1 in
+    let g = none_first (is_within 1 MAX_FRAMES (number_of_4 bytes 12)) _ _ f.1 in
+    let h = none_first (is_within 0 MAX_PAIRS (number_of_2 bytes 16)) _ _ g.1 in
     let k = none_first (number_of_2 bytes 18 == 0) _ _ h.1 in
     let width = and_parts _ _ d.0 in
     let height = and_parts _ _ f.0 in
@@ -70,10 +72,10 @@ no_fault bytes h =
       (bytes_eq-Decides (take 4 bytes) (codes "RCLP")).1 h.magic,
       eq-eqb _ _ h.version,
       eq-eqb _ _ h.flags,
-      is_within-true 1 4096 _ h.some_columns h.columns,
-      is_within-true 1 4096 _ h.some_rows h.rows,
-      is_within-true 1 1000000 _ h.some_frames h.frames,
-      is_within-true 0 4096 _ (omega arith) h.pairs,
+      is_within-true 1 MAX_SIDE _ h.some_columns h.columns,
+      is_within-true 1 MAX_SIDE _ h.some_rows h.rows,
+      is_within-true 1 MAX_FRAMES _ h.some_frames h.frames,
+      is_within-true 0 MAX_PAIRS _ (omega arith) h.pairs,
       eq-eqb _ _ h.zero,
     ) refl
 
@@ -151,7 +153,7 @@ unfolding clip_of
 clip_of-long bytes long e more =
     rw (le-ltb (length bytes) 20 long, e, le-ltb (length bytes) (announced bytes) (omega arith), lt-ltb (announced bytes) (length bytes) more) refl
 
--- just as many bytes as the header announces
+-- exactly as many bytes as the header announces
 pub clip_of-whole : (bytes : List ℕ) → header_fault bytes ≡ None → length bytes ≡ announced bytes → clip_of bytes ≡ Ok (clip_in bytes)
 unfolding clip_of
 clip_of-whole bytes e whole =
@@ -170,12 +172,12 @@ clip_of-clip_bytes clip h =
       version = refl;
       flags = refl;
       some_columns = subst (λ n. 1 ≤ n) (sym width) h.size.some_columns;
-      columns = subst (λ n. n ≤ 4096) (sym width) h.size.columns;
+      columns = subst (λ n. n ≤ MAX_SIDE) (sym width) h.size.columns;
       some_rows = subst (λ n. 1 ≤ n) (sym height) h.size.some_rows;
-      rows = subst (λ n. n ≤ 4096) (sym height) h.size.rows;
+      rows = subst (λ n. n ≤ MAX_SIDE) (sym height) h.size.rows;
       some_frames = subst (λ n. 1 ≤ n) (sym frames) h.some_frames;
-      frames = subst (λ n. n ≤ 1000000) (sym frames) h.frames;
-      pairs = subst (λ n. n ≤ 4096) (sym pairs) h.size.sound;
+      frames = subst (λ n. n ≤ MAX_FRAMES) (sym frames) h.frames;
+      pairs = subst (λ n. n ≤ MAX_PAIRS) (sym pairs) h.size.sound;
       zero = refl;
     } in
     let length-is : length (clip_bytes clip) ≡ 20 + clip.frames * frame_bytes clip.geometry = omega (arith, h.whole) in

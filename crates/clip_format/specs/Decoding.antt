@@ -1,6 +1,8 @@
 -- How the bytes of a clip file are read.
 use Rattle.std.specs.Prelude.{ℕ, ◌+◌, ◌-◌, ◌*◌, ◌==◌, ◌&&◌, nat_lt, nat_le, Bool, if◌then◌else◌, List, [], ◌∷◌, length, take, drop, codes, bytes_eq, Option, Some, None, Result, Ok, Err}
 use Rattle.std.specs.Int.{w16, w32, from_be_bytes}
+use Rattle.play_types.specs.declared.clip.TheConstants.{MAX_FRAMES}
+use Rattle.play_types.specs.declared.geometry.TheConstants.{MAX_SIDE, MAX_PAIRS}
 use Rattle.play_types.specs.declared.geometry.Geometry.{Geometry}
 use Rattle.play_types.specs.Geometry.{frame_bytes}
 use Rattle.play_types.specs.ClipFile.{ClipView}
@@ -25,10 +27,10 @@ header_fields bytes =
     (bytes_eq (take 4 bytes) (codes "RCLP"), BadMagic)
     ∷ (number_of_2 bytes 4 == 1, BadVersion)
     ∷ (number_of_2 bytes 6 == 0, BadField 6)
-    ∷ (is_within 1 4096 (number_of_2 bytes 8), BadField 8)
-    ∷ (is_within 1 4096 (number_of_2 bytes 10), BadField 10)
-    ∷ (is_within 1 1000000 (number_of_4 bytes 12), BadField 12)
-    ∷ (is_within 0 4096 (number_of_2 bytes 16), BadField 16)
+    ∷ (is_within 1 MAX_SIDE (number_of_2 bytes 8), BadField 8)
+    ∷ (is_within 1 MAX_SIDE (number_of_2 bytes 10), BadField 10)
+    ∷ (is_within 1 MAX_FRAMES (number_of_4 bytes 12), BadField 12)
+    ∷ (is_within 0 MAX_PAIRS (number_of_2 bytes 16), BadField 16)
     ∷ (number_of_2 bytes 18 == 0, BadField 18)
     ∷ []
 

@@ -8,6 +8,7 @@ use Rattle.play_types.specs.Media.{MediaNameView, clip_name, unreadable_name}
 use Rattle.play_types.specs.declared.clip_fault.ClipFault.{ClipFault}
 use Rattle.play_types.specs.declared.clip_fault.ClipFault.TheVariants.{OutOfMemory}
 use Rattle.clip_format.specs.Lowering.{IsLowered}
+use Rattle.clip_format.specs.declared.table.TheConstants.{MAX_ENTRIES}
 
 -- a name and its clip, or the fault of its file
 pub record Entry : Type 0 where
@@ -34,7 +35,7 @@ IsReady (Err fault) = fault ≢ OutOfMemory
 
 -- the entries of a table: at most 4,294,967,295, their names rising, and their clips lowered
 pub record IsMediaTable (entries : List Entry) : Type 0 where
-  pub few : length entries ≤ 4294967295
+  pub few : length entries ≤ MAX_ENTRIES
   pub rising : IsRising entries
   pub ready : All (λ entry. IsReady entry.clip) entries
 
@@ -49,8 +50,7 @@ clip_at entries id = option_and_then (λ entry. readable entry.clip) (slice_get 
 
 -- a name with the numbers of its clip, where the file is readable
 abbrev pub media_name : List ℕ → Result ClipView ClipFault → MediaNameView
-media_name name (Ok clip) =
-    clip_name name clip.geometry clip.frames
+media_name name (Ok clip) = clip_name name clip.geometry clip.frames
 media_name name (Err fault) = unreadable_name name
 
 -- the names of a table, in its order

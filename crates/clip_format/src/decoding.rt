@@ -4,7 +4,7 @@ ghost use Rattle.play_types.specs.ClipFile.{ClipView, IsClipFile};
 ghost use Rattle.clip_format.specs.Decoding.{clip_of};
 ghost use Rattle.clip_format.specs.inner.FileClip.{file_clip};
 
-use crate::header::{HEADER_LEN, Header, fault_of, numbers_in};
+use crate::header::{HEADER_LEN, Header, announced_len, fault_of, numbers_in};
 use play_types::{ByteList, Clip, ClipFault};
 
 /// Reads a clip file. The clip keeps the bytes after the header as they are, and no memory is taken.
@@ -19,13 +19,10 @@ pub fn decode(bytes: Vec<u8>) -> Result<Clip, ClipFault>
 {
     let header = read_header(bytes.as_slice())?;
     let frames = ByteList::new(after_header(bytes));
-    match Clip::new(header.size, header.frames, frames) {
-        Some(clip) => Ok(clip),
-        None => unreachable!(),
-    }
+    Ok(Clip::new(header.size, header.frames, frames).unwrap())
 }
 
-/// The header of a clip file, or why the bytes are none.
+/// Reads the header of a clip file, or tells why the bytes are none.
 fn read_header(bytes: &[u8]) -> Result<Header, ClipFault>
     ensures clip { IfOk result (λ header. clip_of bytes.now ≡ Ok (file_clip header bytes.now)) }
     ensures is_file { IfOk result (λ header. IsClipFile bytes.now (file_clip header bytes.now)) }
@@ -42,8 +39,7 @@ fn read_header(bytes: &[u8]) -> Result<Header, ClipFault>
     if let Some(fault) = fault_of(bytes) {
         return Err(fault);
     }
-    let header = numbers_in(bytes);
-    let needed = HEADER_LEN as u64 + u64::from(header.frames) * header.size.frame_bytes();
+    let needed = announced_len(bytes);
     if had < needed {
         return Err(ClipFault::Short { needed, had });
     }
@@ -51,10 +47,10 @@ fn read_header(bytes: &[u8]) -> Result<Header, ClipFault>
         let extra = had - needed;
         return Err(ClipFault::Long { extra });
     }
-    Ok(header)
+    Ok(numbers_in(bytes))
 }
 
-/// The bytes after the header, in the same memory.
+/// Returns the bytes after the header. They stay in the memory that they have.
 fn after_header(mut bytes: Vec<u8>) -> Vec<u8>
     requires { 20 ≤ length bytes.items }
     ensures { result.items ≡ drop 20 bytes.items }

@@ -5,18 +5,15 @@ ghost use Rattle.play_types.specs.ClipFile.{clip_bytes};
 ghost use Rattle.clip_format.specs.Decoding.{clip_of};
 
 use crate::header::header_of;
-use play_outside::{Sent, Sink, send};
+use play_outside::{Sent, Sink, send_parts};
 use play_types::Clip;
 
 /// Writes the file of a clip, which [`decode`](crate::decode) reads back as the clip. No memory is taken. `Failed` comes
-/// only where the sink failed, and then a front of the file was written.
+/// only where the sink failed, and then a prefix of the file was written.
 pub fn encode<K: Sink>(clip: &Clip, to: &mut K) -> Sent
     ensures written { Sends result (clip_bytes clip.now) (K.state to.old) (K.state to.new) }
     ensures reads_back { clip_of (clip_bytes clip.now) ≡ Ok clip.now }
 {
     let header = header_of(clip.geometry(), clip.frames());
-    match send(&header, to) {
-        Sent::All => send(clip.bytes(), to),
-        Sent::Failed => Sent::Failed,
-    }
+    send_parts(&[&header, clip.bytes()], to)
 }

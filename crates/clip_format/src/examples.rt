@@ -1,11 +1,12 @@
 //! Worked examples of the definitions in `specs/`, which the checker computes.
 ghost use Rattle.std.specs.Prelude.{◌≡◌, ◌∷◌, ◌++◌, [], Ok, Err, codes};
+ghost use Rattle.play_types.specs.ClipFile.{header_bytes};
 ghost use Rattle.clip_format.specs.Decoding.{clip_of};
 ghost use Rattle.clip_format.specs.Lowering.{lowered_clip};
 
 use play_types::ClipFault;
 
-/// One pixel of opaque black, and files that are not quite it.
+/// The file of one pixel of opaque black, and files with a byte too few or too many.
 #[tactic(auto, unfolding(crate::specs::Decoding::clip_of, crate::specs::Decoding::header_fault))]
 pub fn files()
     ensures clip { clip_of (codes "RCLP" ++ 0 ∷ 1 ∷ 0 ∷ 0 ∷ 0 ∷ 1 ∷ 0 ∷ 1 ∷ 0 ∷ 0 ∷ 0 ∷ 1 ∷ 0 ∷ 0 ∷ 0 ∷ 0 ∷ 0 ∷ 0 ∷ 0 ∷ 255 ∷ [])
@@ -15,8 +16,24 @@ pub fn files()
     ensures longer { clip_of (codes "RCLP" ++ 0 ∷ 1 ∷ 0 ∷ 0 ∷ 0 ∷ 1 ∷ 0 ∷ 1 ∷ 0 ∷ 0 ∷ 0 ∷ 1 ∷ 0 ∷ 0 ∷ 0 ∷ 0 ∷ 0 ∷ 0 ∷ 255 ∷ 255 ∷ 0 ∷ [])
         ≡ Err (ClipFault.Long 1) }
     ensures header_cut { clip_of (codes "RCLQ") ≡ Err (ClipFault.Short 20 4) }
-    ensures no_columns { clip_of (codes "RCLP" ++ 0 ∷ 1 ∷ 0 ∷ 0 ∷ 0 ∷ 0 ∷ 0 ∷ 0 ∷ 0 ∷ 0 ∷ 0 ∷ 1 ∷ 0 ∷ 0 ∷ 0 ∷ 1 ∷ [])
-        ≡ Err (ClipFault.BadField 8) }
+{}
+
+/// Headers whose first field out of range is named, and those with the greatest numbers.
+#[tactic(auto, unfolding(crate::specs::Decoding::clip_of, crate::specs::Decoding::header_fault))]
+pub fn headers()
+    ensures magic { clip_of (codes "RCLp" ++ 0 ∷ 2 ∷ 0 ∷ 1 ∷ 0 ∷ 1 ∷ 0 ∷ 1 ∷ 0 ∷ 0 ∷ 0 ∷ 1 ∷ 0 ∷ 0 ∷ 0 ∷ 0 ∷ []) ≡ Err ClipFault.BadMagic }
+    ensures version { clip_of (codes "RCLP" ++ 1 ∷ 1 ∷ 0 ∷ 1 ∷ 0 ∷ 1 ∷ 0 ∷ 1 ∷ 0 ∷ 0 ∷ 0 ∷ 1 ∷ 0 ∷ 0 ∷ 0 ∷ 0 ∷ []) ≡ Err ClipFault.BadVersion }
+    ensures flags { clip_of (codes "RCLP" ++ 0 ∷ 1 ∷ 0 ∷ 1 ∷ 0 ∷ 0 ∷ 0 ∷ 1 ∷ 0 ∷ 0 ∷ 0 ∷ 1 ∷ 0 ∷ 0 ∷ 0 ∷ 0 ∷ []) ≡ Err (ClipFault.BadField 6) }
+    ensures last_bytes { clip_of (codes "RCLP" ++ 0 ∷ 1 ∷ 0 ∷ 0 ∷ 0 ∷ 1 ∷ 0 ∷ 1 ∷ 0 ∷ 0 ∷ 0 ∷ 1 ∷ 0 ∷ 0 ∷ 1 ∷ 0 ∷ []) ≡ Err (ClipFault.BadField 18) }
+    ensures no_columns { clip_of (header_bytes (record { width = 0; height = 0; pairs = 0 }) 1) ≡ Err (ClipFault.BadField 8) }
+    ensures columns { clip_of (header_bytes (record { width = 4097; height = 1; pairs = 0 }) 1) ≡ Err (ClipFault.BadField 8) }
+    ensures no_rows { clip_of (header_bytes (record { width = 1; height = 0; pairs = 0 }) 0) ≡ Err (ClipFault.BadField 10) }
+    ensures rows { clip_of (header_bytes (record { width = 1; height = 4097; pairs = 0 }) 1) ≡ Err (ClipFault.BadField 10) }
+    ensures no_frames { clip_of (header_bytes (record { width = 1; height = 1; pairs = 4097 }) 0) ≡ Err (ClipFault.BadField 12) }
+    ensures frames { clip_of (header_bytes (record { width = 1; height = 1; pairs = 0 }) 1000001) ≡ Err (ClipFault.BadField 12) }
+    ensures pairs { clip_of (header_bytes (record { width = 1; height = 1; pairs = 4097 }) 1) ≡ Err (ClipFault.BadField 16) }
+    ensures greatest { clip_of (header_bytes (record { width = 4096; height = 4096; pairs = 4096 }) 1000000)
+        ≡ Err (ClipFault.Short 67125248000020 20) }
 {}
 
 /// Two frames of one pixel and one pair of sound: colours above the alpha are lowered to it, and the sound stays.

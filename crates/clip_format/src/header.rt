@@ -1,11 +1,12 @@
 //! The 20 bytes before the frames of a clip file.
-ghost use Rattle.std.specs.Prelude.{◌≡◌, ◌≢◌, ◌+◌, ◌≤◌, length, IfSome};
+ghost use Rattle.std.specs.Prelude.{◌≡◌, ◌≢◌, ◌+◌, ◌≤◌, None, length, IfSome};
 ghost use Rattle.play_types.specs.ClipFile.{header_bytes};
-ghost use Rattle.clip_format.specs.Decoding.{header_fault, header_frames, header_size, is_within, number_of_2, number_of_4};
+ghost use Rattle.play_types.specs.declared.clip.TheConstants.{MAX_FRAMES};
+ghost use Rattle.clip_format.specs.Decoding.{announced, header_fault, header_frames, header_size, is_within, number_of_2, number_of_4};
 
-use play_types::{ClipFault, Geometry};
+use play_types::{ClipFault, Geometry, MAX_FRAMES, MAX_PAIRS, MAX_SIDE};
 
-/// The bytes of a header.
+/// The length of a header, in bytes.
 pub(crate) const HEADER_LEN: usize = 20;
 
 /// What a header says of its clip.
@@ -15,7 +16,7 @@ pub(crate) struct Header {
     pub(crate) frames: u32,
 }
 
-/// The header of a clip.
+/// Returns the header of a clip.
 pub(crate) fn header_of(size: Geometry, frames: u32) -> [u8; HEADER_LEN]
     ensures { result ≡ header_bytes size frames }
 {
@@ -28,7 +29,7 @@ pub(crate) fn header_of(size: Geometry, frames: u32) -> [u8; HEADER_LEN]
     ]
 }
 
-/// The fault of the first field that is not accepted.
+/// Returns the fault of the first field that is not accepted.
 #[tactic(auto, using(std::proofs::lemmas::Bool::Decides::nat_tests), unfolding(crate::specs::Decoding::header_fault))]
 pub(crate) fn fault_of(bytes: &[u8]) -> Option<ClipFault>
     requires { 20 ≤ length bytes.now }
@@ -44,16 +45,16 @@ pub(crate) fn fault_of(bytes: &[u8]) -> Option<ClipFault>
     if u16_at(bytes, 6) != 0 {
         return Some(ClipFault::BadField { at: 6 });
     }
-    if !(1..=4096).contains(&u16_at(bytes, 8)) {
+    if !(1..=MAX_SIDE).contains(&u16_at(bytes, 8)) {
         return Some(ClipFault::BadField { at: 8 });
     }
-    if !(1..=4096).contains(&u16_at(bytes, 10)) {
+    if !(1..=MAX_SIDE).contains(&u16_at(bytes, 10)) {
         return Some(ClipFault::BadField { at: 10 });
     }
     if !is_frame_count(u32_at(bytes, 12)) {
         return Some(ClipFault::BadField { at: 12 });
     }
-    if u16_at(bytes, 16) > 4096 {
+    if u16_at(bytes, 16) > MAX_PAIRS {
         return Some(ClipFault::BadField { at: 16 });
     }
     if u16_at(bytes, 18) != 0 {
@@ -62,7 +63,7 @@ pub(crate) fn fault_of(bytes: &[u8]) -> Option<ClipFault>
     None
 }
 
-/// The size and the number of frames that a header names.
+/// Returns the size and the number of frames that a header names.
 pub(crate) fn numbers_in(bytes: &[u8]) -> Header
     requires { 20 ≤ length bytes.now }
     ensures { result ≡ record { size = header_size bytes.now; frames = header_frames bytes.now } }
@@ -77,14 +78,24 @@ pub(crate) fn numbers_in(bytes: &[u8]) -> Header
     }
 }
 
-/// Whether a clip may have so many frames.
-fn is_frame_count(frames: u32) -> bool
-    ensures { result ≡ is_within 1 1000000 frames }
+/// Returns the length of the file that a header without a fault announces, in bytes.
+pub(crate) fn announced_len(bytes: &[u8]) -> u64
+    requires long { 20 ≤ length bytes.now }
+    requires no_fault { header_fault bytes.now ≡ None }
+    ensures { result ≡ announced bytes.now }
 {
-    (1..=1_000_000).contains(&frames)
+    let header = numbers_in(bytes);
+    HEADER_LEN as u64 + u64::from(header.frames) * header.size.frame_bytes()
 }
 
-/// The number of two bytes, the higher one first.
+/// Returns whether a clip may have `frames` frames.
+fn is_frame_count(frames: u32) -> bool
+    ensures { result ≡ is_within 1 MAX_FRAMES frames }
+{
+    (1..=MAX_FRAMES).contains(&frames)
+}
+
+/// Returns the number of two bytes, the higher one first.
 fn u16_at(bytes: &[u8], at: usize) -> u16
     requires { at + 2 ≤ length bytes.now }
     ensures { result ≡ number_of_2 bytes.now at }
@@ -92,7 +103,7 @@ fn u16_at(bytes: &[u8], at: usize) -> u16
     u16::from_be_bytes([bytes[at], bytes[at + 1]])
 }
 
-/// The number of four bytes, the highest one first.
+/// Returns the number of four bytes, the highest one first.
 fn u32_at(bytes: &[u8], at: usize) -> u32
     requires { at + 4 ≤ length bytes.now }
     ensures { result ≡ number_of_4 bytes.now at }

@@ -3,11 +3,15 @@ ghost use Rattle.std.specs.Prelude.{◌≡◌, ◌==◌, ◌<◌, ◌∷◌, ◌
 ghost use Rattle.std.specs.Str.{chars};
 ghost use Rattle.clip_format.specs.Lowering.{IsLowered};
 ghost use Rattle.clip_format.specs.Table.{IsAbove, IsMediaTable, IsReady, clip_at, media_name, media_names};
+ghost use Rattle.clip_format.specs.declared.table.TheConstants.{MAX_ENTRIES};
 
 use indexmap::IndexMap;
 use play_types::{Clip, ClipFault, MediaName, MediaNames, Text};
 use std::alloc::{AllocError, Global};
 use std::marker::Model;
+
+/// The most entries of a media table.
+pub const MAX_ENTRIES: usize = 4_294_967_295;
 
 /// Names in rising order of their bytes, each with its clip, or with the fault of a file that is no clip. A clip's
 /// number is its position, from 0.
@@ -31,7 +35,7 @@ impl Model for MediaTable {
 }
 
 impl MediaTable {
-    /// A table without entries. It takes no memory.
+    /// Creates a table without entries. It takes no memory.
     pub fn empty(alloc: Global) -> Result<MediaTable, AllocError>
         ensures { IsOkAnd result (λ table. table ≡ []) }
     {
@@ -40,10 +44,10 @@ impl MediaTable {
         })
     }
 
-    /// Adds an entry at the end. At want of memory the table is as before.
+    /// Adds an entry at the end. Where memory runs out, the table is as before.
     pub fn add(&mut self, name: Text, clip: Result<Clip, ClipFault>) -> Result<(), AllocError>
         requires above { IsAbove name self.old }
-        requires few { length self.old < 4294967295 }
+        requires few { length self.old < MAX_ENTRIES }
         requires ready { IsReady clip }
         ensures ok { OnOk result (self.new ≡ self.old ++ record { name = name; clip = clip } ∷ []) }
         ensures err { OnErr result (self.new ≡ self.old) }
@@ -52,7 +56,7 @@ impl MediaTable {
         Ok(())
     }
 
-    /// At most 4,294,967,295.
+    /// Returns the number of entries, at most 4,294,967,295.
     pub fn len(&self) -> usize
         ensures value { result ≡ length self.now }
         ensures kept { IsMediaTable self.now }
@@ -60,13 +64,14 @@ impl MediaTable {
         self.clips.len()
     }
 
+    /// Returns whether there are no entries.
     pub fn is_empty(&self) -> bool
         ensures { result ≡ (length self.now == 0) }
     {
         self.clips.is_empty()
     }
 
-    /// The clip of a number: `None` exactly where there is none, or its file is no clip.
+    /// Returns the clip of a number: `None` exactly where no entry has this number, or its file is no clip.
     pub fn clip(&self, id: u32) -> Option<&Clip>
         ensures value { option_copied result ≡ clip_at self.now id }
         ensures lowered { IfSome result (λ clip. IsLowered clip.now) }
@@ -78,8 +83,8 @@ impl MediaTable {
         }
     }
 
-    /// The names in the order of the table, each with the size and the frames of its clip. The name of a file that is no
-    /// clip is not readable.
+    /// Returns the names in the order of the table, each with the size and the number of frames of its clip. The name of a
+    /// file that is no clip is not readable.
     pub fn names(&self, alloc: Global) -> Result<MediaNames, AllocError>
         ensures { IfOk result (λ names. names ≡ media_names self.now) }
     {
@@ -93,7 +98,7 @@ impl MediaTable {
     }
 }
 
-/// The name with the numbers of its clip.
+/// Returns the name with the numbers of its clip.
 fn name_of(
     alloc: Global,
     name: &str,

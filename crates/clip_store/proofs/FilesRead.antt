@@ -19,59 +19,75 @@ use Rattle.clip_store.specs.declared.names.ClipFile.{ClipFile}
 use Rattle.clip_store.specs.inner.Kept.{file_view, file_views}
 use Rattle.clip_store.specs.Listing.{Found}
 use Rattle.clip_store.specs.inner.Orders.{IsStrict}
-use Rattle.clip_store.specs.Scan.{most_bytes, bytes_of, kept_clip, entry, weight, first_above, table_of, Tells}
+use Rattle.clip_store.specs.declared.reading.TheConstants.{MAX_MEDIA_BYTES}
+use Rattle.clip_store.specs.Scan.{bytes_of, kept_clip, entry, weight, first_above, table_of, Tells}
 
--- the table and the sum of lengths after so many files, where the folder tells what it holds
-abbrev pub ReadSo : List ℕ → Option Files → List Found → ℕ → List Entry → ℕ → Type 0
-ReadSo folder None order at table total = Unit {0}
-ReadSo folder (Some files) order at table total =
-    (table ≡ map (entry folder files) (take at order))
-    × (first_above 0 (map (weight folder files) order) ≡ first_above total (map (weight folder files) (drop at order)))
+-- how far reading has come: how many files were read, their table, and the sum of their lengths
+pub record Progress : Type 0 where
+  pub count : ℕ
+  pub table : List Entry
+  pub total : ℕ
+
+-- the progress after one file more, of these bytes
+abbrev pub after_file : Progress → Found → List ℕ → Progress
+after_file read found bytes = record {
+  count = read.count + 1;
+  table = read.table ++ record { name = chars found.name; clip = kept_clip (clip_of bytes) } ∷ [];
+  total = read.total + max (length bytes) 1;
+}
+
+-- the table and the sum are those of the first `count` files, where the folder tells what it holds
+abbrev pub HasRead : List ℕ → Option Files → List Found → Progress → Type 0
+HasRead folder None order read = Unit {0}
+HasRead folder (Some files) order read =
+    (read.table ≡ map (entry folder files) (take read.count order))
+    × (first_above 0 (map (weight folder files) order) ≡ first_above read.total (map (weight folder files) (drop read.count order)))
 
 -- the first sum above the limit, seen one file later
 first_above-more : (folder : List ℕ) (files : Files) (order : List Found) (at total : ℕ) (found : Found) (bytes : List ℕ) → at < length order → get_or order at found ≡ found
     → bytes_of folder files found ≡ bytes
     → first_above total (map (weight folder files) (drop at order))
-    ≡ cond (nat_lt most_bytes (total + max (length bytes) 1)) (Some (total + max (length bytes) 1)) (first_above (total + max (length bytes) 1) (map (weight folder files) (drop (at + 1) order)))
+    ≡ cond (nat_lt MAX_MEDIA_BYTES (total + max (length bytes) 1)) (Some (total + max (length bytes) 1)) (first_above (total + max (length bytes) 1) (map (weight folder files) (drop (at + 1) order)))
 first_above-more folder files order at total found bytes within is held =
     let rest : drop at order ≡ found ∷ drop (at + 1) order = drop_more order at found within ∙ ap (λ (f : Found). f ∷ drop (at + 1) order) is in
     rw (rest, held) refl
 
 -- one more file was read
-pub ReadSo-more : (folder : List ℕ) (o : Option Files) (order : List Found) (at total : ℕ) (table : List Entry) (found : Found) (bytes : List ℕ) → at < length order → get_or order at found ≡ found
-    → IsHeld (bytes_at folder found.file) bytes o → total + max (length bytes) 1 ≤ most_bytes → ReadSo folder o order at table total
-    → ReadSo folder o order (at + 1) (table ++ record { name = chars found.name; clip = kept_clip (clip_of bytes) } ∷ []) (total + max (length bytes) 1)
-ReadSo-more folder None order at total table found bytes within is held few so = tt
-ReadSo-more folder (Some files) order at total table found bytes within is held few so =
+pub HasRead-more : (folder : List ℕ) (o : Option Files) (order : List Found) (read : Progress) (found : Found) (bytes : List ℕ) → read.count < length order → get_or order read.count found ≡ found
+    → IsHeld (bytes_at folder found.file) bytes o → read.total + max (length bytes) 1 ≤ MAX_MEDIA_BYTES → HasRead folder o order read
+    → HasRead folder o order (after_file read found bytes)
+HasRead-more folder None order read found bytes within is held few so = tt
+HasRead-more folder (Some files) order read found bytes within is held few so =
+    let at = read.count in
     let same : bytes_of folder files found ≡ bytes = ap (λ o. unwrap_or o []) held in
     let one : entry folder files found ≡ record { name = chars found.name; clip = kept_clip (clip_of bytes) } =
     ap (λ (b : List ℕ). record { name = chars found.name; clip = kept_clip (clip_of b) }) same in
     let front : take (at + 1) order ≡ take at order ++ found ∷ [] = take_more order at found within ∙ ap (λ (f : Found). take at order ++ f ∷ []) is in (
       ap₂ (λ (t : List Entry) (e : Entry). t ++ e ∷ []) so.0 (sym one) ∙ sym (map-append (entry folder files) (take at order) (found ∷ [])) ∙ ap (map (entry folder files)) (sym front),
-      so.1 ∙ first_above-more folder files order at total found bytes within is same ∙ rw (le-ltb most_bytes (total + max (length bytes) 1) few) refl,
+      so.1 ∙ first_above-more folder files order at read.total found bytes within is same ∙ rw (le-ltb MAX_MEDIA_BYTES (read.total + max (length bytes) 1) few) refl,
     )
 
 -- the files are too large with this one
-pub Tells-large : (folder : List ℕ) (o : Option Files) (order : List Found) (at total : ℕ) (table : List Entry) (found : Found) (bytes : List ℕ) → at < length order → get_or order at found ≡ found
-    → IsHeld (bytes_at folder found.file) bytes o → most_bytes < total + max (length bytes) 1 → ReadSo folder o order at table total
-    → Tells (λ files. table_of folder files order) (Err (TooLarge (total + max (length bytes) 1))) o
+pub Tells-large : (folder : List ℕ) (o : Option Files) (order : List Found) (read : Progress) (found : Found) (bytes : List ℕ) → read.count < length order → get_or order read.count found ≡ found
+    → IsHeld (bytes_at folder found.file) bytes o → MAX_MEDIA_BYTES < read.total + max (length bytes) 1 → HasRead folder o order read
+    → Tells (λ files. table_of folder files order) (Err (TooLarge (read.total + max (length bytes) 1))) o
 unfolding table_of
-Tells-large folder None order at total table found bytes within is held many so = tt
-Tells-large folder (Some files) order at total table found bytes within is held many so =
+Tells-large folder None order read found bytes within is held many so = tt
+Tells-large folder (Some files) order read found bytes within is held many so =
     let same : bytes_of folder files found ≡ bytes = ap (λ o. unwrap_or o []) held in
-    let above : first_above 0 (map (weight folder files) order) ≡ Some (total + max (length bytes) 1) =
-    so.1 ∙ first_above-more folder files order at total found bytes within is same ∙ rw (lt-ltb most_bytes (total + max (length bytes) 1) many) refl in
+    let above : first_above 0 (map (weight folder files) order) ≡ Some (read.total + max (length bytes) 1) =
+    so.1 ∙ first_above-more folder files order read.count read.total found bytes within is same ∙ rw (lt-ltb MAX_MEDIA_BYTES (read.total + max (length bytes) 1) many) refl in
     rw above refl
 
 -- all files were read
-pub Tells-all : (folder : List ℕ) (o : Option Files) (order : List Found) (at total : ℕ) (table : List Entry) → length order ≤ at → ReadSo folder o order at table total
-    → Tells (λ files. table_of folder files order) (Ok table) o
+pub Tells-all : (folder : List ℕ) (o : Option Files) (order : List Found) (read : Progress) → length order ≤ read.count → HasRead folder o order read
+    → Tells (λ files. table_of folder files order) (Ok read.table) o
 unfolding table_of
-Tells-all folder None order at total table all so = tt
-Tells-all folder (Some files) order at total table all so =
-    let nothing : drop at order ≡ [] = drop_all at order all in
-    let above : first_above 0 (map (weight folder files) order) ≡ None = so.1 ∙ ap (λ (fs : List Found). first_above total (map (weight folder files) fs)) nothing in
-    let whole : table ≡ map (entry folder files) order = so.0 ∙ ap (map (entry folder files)) (take_all at order all) in
+Tells-all folder None order read all so = tt
+Tells-all folder (Some files) order read all so =
+    let nothing : drop read.count order ≡ [] = drop_all read.count order all in
+    let above : first_above 0 (map (weight folder files) order) ≡ None = so.1 ∙ ap (λ (fs : List Found). first_above read.total (map (weight folder files) fs)) nothing in
+    let whole : read.table ≡ map (entry folder files) order = so.0 ∙ ap (map (entry folder files)) (take_all read.count order all) in
     rw (above, whole) refl
 
 -- the bytes of a name

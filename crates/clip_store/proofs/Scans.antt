@@ -32,14 +32,14 @@ unfolding scanned
 Tells-scanned folder None order answer are once tells = tt
 Tells-scanned folder (Some files) order answer are once tells = rw (are, once) tells
 
--- a name that stands twice is the folder's answer
+-- a name that stands twice is the fault of the folder
 pub Tells-twice : (folder : List ℕ) (o : Option Files) (order : List Found) (name : List ℕ) → AreOrdered folder o order → first_twice order ≡ Some name
     → Tells (scanned folder) (Err (TwoNames (chars name))) o
 unfolding scanned
 Tells-twice folder None order name are twice = tt
 Tells-twice folder (Some files) order name are twice = rw (are, twice) refl
 
--- the answer of reading these files is that of the scan
+-- the result of reading these files is that of the scan
 pub Answers-scanned : (folder : List ℕ) (order : List Found) (answer : Result (List Entry) ScanFault) (before after : FolderState) → AreOrdered folder before.files order → first_twice order ≡ None
     → Answers (λ files. table_of folder files order) answer before after → Answers (scanned folder) answer before after
 Answers-scanned folder order (Ok table) before after are once a = (Tells-scanned folder before.files order (Ok table) are once a.0, a.1)

@@ -142,7 +142,7 @@ compared-same x z e =
 not_above_itself : (x : Found) → is_gt (compared x x) ≡ false
 not_above_itself x = ap is_gt (tied_itself compared_total x)
 
--- two rising lists of the same files are one
+-- two rising lists of equal files are one
 one_order : (xs ys : List Found) → IsRisingBy compared xs → IsRisingBy compared ys → ((f : Found → ℕ) → sum_by f xs ≡ sum_by f ys) → xs ≡ ys
 one_order [] [] ra rb h = refl
 one_order [] (b ∷ ys) ra rb h = absurd (omega (arith, h (λ z. 1), sum_by-cons (λ (z : Found). 1) b ys))

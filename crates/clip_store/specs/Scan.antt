@@ -9,13 +9,10 @@ use Rattle.play_types.specs.declared.clip_fault.ClipFault.{ClipFault}
 use Rattle.clip_format.specs.Decoding.{clip_of}
 use Rattle.clip_format.specs.Lowering.{lowered_clip}
 use Rattle.clip_format.specs.Table.{Entry}
+use Rattle.clip_store.specs.declared.reading.TheConstants.{MAX_MEDIA_BYTES}
 use Rattle.clip_store.specs.declared.fault.ScanFault.{ScanFault}
 use Rattle.clip_store.specs.declared.fault.ScanFault.TheVariants.{ReadFault, TwoNames, TooLarge, OutOfMemory}
 use Rattle.clip_store.specs.Listing.{Found, clip_files, sorted, first_twice}
-
--- the greatest sum of the lengths of clip files, in bytes: 1 GiB
-abbrev pub most_bytes : ℕ
-most_bytes = 1073741824
 
 -- the bytes of a file of the folder
 abbrev pub bytes_of : List ℕ → Files → Found → List ℕ
@@ -39,7 +36,7 @@ weight folder files found = max (length (bytes_of folder files found)) 1
 abbrev pub first_above : ℕ → List ℕ → Option ℕ
 first_above sum [] = None
 first_above sum (number ∷ numbers) =
-    if nat_lt most_bytes (sum + number) then Some (sum + number) else first_above (sum + number) numbers
+    if nat_lt MAX_MEDIA_BYTES (sum + number) then Some (sum + number) else first_above (sum + number) numbers
 
 -- the entries of clip files, unless they are too large
 abbrev pub unless_large : Option ℕ → List Entry → Result (List Entry) ScanFault
@@ -66,16 +63,16 @@ unfoldable pub scanned : List ℕ → Files → Result (List Entry) ScanFault
 scanned folder files =
     unless_twice (first_twice (ordered folder files)) (table_of folder files (ordered folder files))
 
--- the answer is what is so of the files, where the folder tells them
+-- the result is what is so of the files, where the folder tells them
 abbrev pub Tells : (Files → Result (List Entry) ScanFault) → Result (List Entry) ScanFault → Option Files → Type 0
 Tells told answer None = Unit {0}
 Tells told answer (Some files) = answer ≡ told files
 
--- the answer is that of the files, and nothing changed; or reading failed, and the count of faults rose; or memory ran out
+-- the result is that of the files, and nothing changed; or reading failed, and the count of faults rose; or memory ran out
 abbrev pub Answers : (Files → Result (List Entry) ScanFault) → Result (List Entry) ScanFault → FolderState → FolderState → Type 0
 Answers told (Ok table) before after = Tells told (Ok table) before.files × (after ≡ before)
 Answers told (Err (TwoNames name)) before after = Tells told (Err (TwoNames name)) before.files × (after ≡ before)
 Answers told (Err (TooLarge total)) before after =
-    Tells told (Err (TooLarge total)) before.files × (most_bytes < total) × (after ≡ before)
+    Tells told (Err (TooLarge total)) before.files × (MAX_MEDIA_BYTES < total) × (after ≡ before)
 Answers told (Err ReadFault) before after = (after.files ≡ before.files) × Rose before.faults after.faults
 Answers told (Err OutOfMemory) before after = after ≡ before

@@ -21,7 +21,7 @@ pub(crate) fn lowered<R: Threads + Sync>(rt: &R, clip: Clip) -> Clip
     Clip::new(size, frames, ByteList::new(bytes)).unwrap()
 }
 
-/// Lowers the picture of each frame, the bytes at its front.
+/// Lowers the picture of each frame, the first `picture` bytes of it.
 fn lower_frames<R: Threads + Sync>(rt: &R, picture: usize, frame: usize, bytes: &mut [u8])
     requires some { 0 < frame }
     requires within { picture ≤ frame }

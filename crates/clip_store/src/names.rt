@@ -15,7 +15,7 @@ pub(crate) struct ClipFile {
     pub(crate) file: String,
 }
 
-/// The clip files among these files, in order.
+/// Returns the clip files among the listed files, in order.
 pub(crate) fn clip_files(alloc: Global, listed: &[String]) -> Result<Vec<ClipFile>, AllocError>
     ensures { IfOk result (λ files. file_views files.items ≡ sorted (clip_files (map string_bytes listed.now))) }
 {
@@ -24,7 +24,7 @@ pub(crate) fn clip_files(alloc: Global, listed: &[String]) -> Result<Vec<ClipFil
     Ok(files)
 }
 
-/// The clip files among these files, as they are listed.
+/// Returns the clip files among the listed files, as they are listed.
 fn named(alloc: Global, listed: &[String]) -> Result<Vec<ClipFile>, AllocError>
     ensures { IfOk result (λ files. file_views files.items ≡ clip_files (map string_bytes listed.now)) }
 {
@@ -37,7 +37,7 @@ fn named(alloc: Global, listed: &[String]) -> Result<Vec<ClipFile>, AllocError>
     Ok(files)
 }
 
-/// The file under the name of its clip, where it is a clip file.
+/// Returns the file under the name of its clip, where it is a clip file.
 fn clip_file(alloc: Global, file: &str) -> Result<Option<ClipFile>, AllocError>
     ensures { IfOk result (λ found. option_map file_view found ≡ clip_file file.now) }
 {
@@ -51,7 +51,7 @@ fn clip_file(alloc: Global, file: &str) -> Result<Option<ClipFile>, AllocError>
     Ok(Some(ClipFile { name, file }))
 }
 
-/// The first name that stands twice.
+/// Returns the first name that stands twice.
 pub(crate) fn twice(files: &[ClipFile]) -> Option<&str>
     ensures { option_map (λ name. name.now) result ≡ first_twice (file_views files.now) }
 {

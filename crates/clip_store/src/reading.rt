@@ -18,7 +18,7 @@ use std::thread::Threads;
 /// The greatest sum of the lengths of clip files, in bytes. An empty file counts as one byte.
 pub const MAX_MEDIA_BYTES: u64 = 1_073_741_824;
 
-/// Reads clip files in this order, in which their names rise.
+/// Reads clip files in their order, in which their names rise.
 pub(crate) fn read_all<R: Threads + Sync, M: MediaDir>(
     rt: &R,
     alloc: Global,
@@ -48,8 +48,6 @@ fn ready_clip<R: Threads + Sync>(rt: &R, bytes: Vec<u8>) -> Result<Clip, ClipFau
     ensures value { result ≡ kept_clip (clip_of bytes.items) }
     ensures ready { IsReady result }
 {
-    match decode(bytes) {
-        Ok(clip) => Ok(lowered(rt, clip)),
-        Err(fault) => Err(fault),
-    }
+    let clip = decode(bytes)?;
+    Ok(lowered(rt, clip))
 }

@@ -4,6 +4,7 @@ use Rattle.std.specs.List.{enumerate_from}
 use Rattle.std.specs.Str.{chars}
 use Rattle.toml.specs.Data.{Data, Items, no_items, item, Members, no_members, as_array, as_table, get_member}
 use Rattle.play_types.specs.Config.{ChannelView, ConfigView}
+use Rattle.play_types.specs.declared.place.TheConstants.{MAX_CHANNELS}
 use Rattle.config_file.specs.Key.{listen, media, rate, connections, journal_limit, width, height, pairs, output, top_keys, channel_keys, text_at, number_at}
 use Rattle.config_file.specs.Section.{channel_name, faults_in, unknown_in}
 use Rattle.config_file.specs.declared.section.Section.TheVariants.{Top, Channel}
@@ -15,7 +16,8 @@ list_of (item value rest) = value ∷ list_of rest
 
 -- the elements of `channel`, where they are 1 to 16
 abbrev pub some_elements : Items → Option (List Data)
-some_elements items = if nat_le 1 (length (list_of items)) && nat_le (length (list_of items)) 16 then Some (list_of items) else None
+some_elements items =
+    if nat_le 1 (length (list_of items)) && nat_le (length (list_of items)) MAX_CHANNELS then Some (list_of items) else None
 
 abbrev pub elements_of : Members → Option (List Data)
 elements_of top = option_and_then some_elements (option_and_then as_array (get_member (codes "channel") top))

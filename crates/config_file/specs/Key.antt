@@ -2,6 +2,9 @@
 use Rattle.std.specs.Prelude.{ℕ, pos, ◌==◌, nat_le, ◌&&◌, not, Bool, false, Option, Some, None, is_some, unwrap_or, List, [], ◌∷◌, length, codes}
 use Rattle.std.specs.Str.{chars}
 use Rattle.toml.specs.Data.{Data, Members, string, integer, get_member}
+use Rattle.play_types.specs.declared.config.TheConstants.{MAX_RATE, MAX_CONNECTIONS, MAX_JOURNAL_COMMANDS}
+use Rattle.play_types.specs.declared.geometry.TheConstants.{MAX_SIDE, MAX_PAIRS}
+use Rattle.config_file.specs.declared.defaults.TheConstants.{DEFAULT_CONNECTIONS, DEFAULT_JOURNAL_LIMIT, DEFAULT_PAIRS}
 
 -- what may stand at a key: a string that is not empty, or an integer from the least to the greatest. Where there is a
 -- default, the integer may be left out
@@ -22,26 +25,26 @@ media = record { name = codes "media"; rule = text }
 
 -- pulses a second
 abbrev pub rate : Key
-rate = record { name = codes "rate"; rule = number 1 240 None }
+rate = record { name = codes "rate"; rule = number 1 MAX_RATE None }
 
 -- connection workers
 abbrev pub connections : Key
-connections = record { name = codes "connections"; rule = number 1 64 (Some 4) }
+connections = record { name = codes "connections"; rule = number 1 MAX_CONNECTIONS (Some DEFAULT_CONNECTIONS) }
 
 -- the most commands that the history may hold
 abbrev pub journal_limit : Key
-journal_limit = record { name = codes "journal_limit"; rule = number 1 16777216 (Some 4194304) }
+journal_limit = record { name = codes "journal_limit"; rule = number 1 MAX_JOURNAL_COMMANDS (Some DEFAULT_JOURNAL_LIMIT) }
 
 -- columns and rows of a frame
 abbrev pub width : Key
-width = record { name = codes "width"; rule = number 1 4096 None }
+width = record { name = codes "width"; rule = number 1 MAX_SIDE None }
 
 abbrev pub height : Key
-height = record { name = codes "height"; rule = number 1 4096 None }
+height = record { name = codes "height"; rule = number 1 MAX_SIDE None }
 
 -- stereo pairs of sound a frame
 abbrev pub pairs : Key
-pairs = record { name = codes "pairs"; rule = number 0 4096 (Some 0) }
+pairs = record { name = codes "pairs"; rule = number 0 MAX_PAIRS (Some DEFAULT_PAIRS) }
 
 abbrev pub output : Key
 output = record { name = codes "output"; rule = text }

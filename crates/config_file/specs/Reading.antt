@@ -1,4 +1,4 @@
--- What reading a configuration answers.
+-- What reading a configuration returns.
 use Rattle.std.specs.Prelude.{◌≡◌, ℕ, if◌then◌else◌, Option, Some, None, option_map, Result, Ok, Err, List}
 use Rattle.std.specs.Str.{is_utf8}
 use Rattle.toml.specs.Data.{Members}
@@ -16,7 +16,7 @@ document_of bytes = if is_utf8 bytes then parse_document bytes else None
 abbrev pub config_in : List ℕ → Option (Result ConfigView (List ℕ))
 config_in bytes = option_map config_of (document_of bytes)
 
--- the answer is that; want of memory may come at any bytes
+-- the result is what the bytes say; memory may run out at any bytes
 abbrev pub IsReadOf : List ℕ → Result ConfigView ConfigFault → Type 0
 IsReadOf bytes (Ok config) = config_in bytes ≡ Some (Ok config)
 IsReadOf bytes (Err (Key name)) = config_in bytes ≡ Some (Err name)

@@ -4,10 +4,11 @@ ghost use Rattle.config_file.specs.Configuration.{faults_of, values_of};
 ghost use Rattle.config_file.specs.Reading.{IsReadOf};
 ghost use Rattle.config_file.specs.inner.Told.{IsTold};
 
-use crate::channels::{check_elements, elements_of, read_channels};
+use crate::channels::{check_elements, read_channels};
+use crate::defaults::{DEFAULT_CONNECTIONS, DEFAULT_JOURNAL_LIMIT};
 use crate::fault::ConfigFault;
-use crate::section::Section;
-use play_types::Config;
+use crate::section::{Section, SectionReader};
+use play_types::{Config, MAX_CONNECTIONS, MAX_JOURNAL_COMMANDS, MAX_RATE};
 use std::alloc::Global;
 use toml::Table;
 
@@ -43,25 +44,23 @@ pub fn read_config(alloc: Global, bytes: &[u8]) -> Result<Config, ConfigFault>
 fn config_of(alloc: Global, table: &Table) -> Result<Config, ConfigFault>
     ensures { IsTold (faults_of (table_view table.now)) (values_of (table_view table.now)) result }
 {
-    let top = Section::Top;
-    let listen = top.text(alloc, table, "listen")?;
-    let media = top.text(alloc, table, "media")?;
-    let rate = top.number(alloc, table, "rate", 1, 240, None)?;
-    let connections = top.number(alloc, table, "connections", 1, 64, Some(4))?;
-    let limit = top.number(
+    let top = SectionReader {
         alloc,
+        section: Section::Top,
         table,
-        "journal_limit",
-        1,
-        16_777_216,
-        Some(4_194_304),
-    )?;
-    let elements = match elements_of(table) {
-        Some(elements) => elements,
-        None => return Err(ConfigFault::at(alloc, "channel")),
+    };
+    let listen = top.text("listen")?;
+    let media = top.text("media")?;
+    let rate = top.number("rate", 1, MAX_RATE, None)?;
+    let workers = Some(DEFAULT_CONNECTIONS);
+    let connections = top.number("connections", 1, MAX_CONNECTIONS, workers)?;
+    let most = Some(DEFAULT_JOURNAL_LIMIT);
+    let limit = top.number("journal_limit", 1, MAX_JOURNAL_COMMANDS, most)?;
+    let Some(elements) = top.elements() else {
+        return Err(top.fault("channel"));
     };
     let channels = read_channels(alloc, elements)?;
-    top.check_keys(alloc, table)?;
+    top.check_keys()?;
     check_elements(alloc, elements)?;
     Ok(Config::new(listen, media, rate, connections, limit, channels).unwrap())
 }

@@ -1,10 +1,11 @@
 //! Why a configuration is refused.
 ghost use Rattle.config_file.specs.Section.{channel_name};
 ghost use Rattle.config_file.specs.inner.Told.{IsFirst};
-ghost use Rattle.std.specs.Prelude.{[], ◌∷◌};
+ghost use Rattle.config_file.specs.declared.fault.ConfigFault.TheVariants.{OutOfMemory};
+ghost use Rattle.std.specs.Prelude.{◌≡◌, [], ◌∷◌};
 
 use play_types::Text;
-use std::alloc::Global;
+use std::alloc::{AllocError, Global};
 use std::error::Error;
 use std::fmt;
 
@@ -36,6 +37,14 @@ impl fmt::Display for ConfigFault {
 }
 
 impl Error for ConfigFault {}
+
+impl From<AllocError> for ConfigFault {
+    ghost from_gives = { λ _ fault. fault ≡ OutOfMemory };
+
+    fn from(_error: AllocError) -> ConfigFault {
+        ConfigFault::OutOfMemory
+    }
+}
 
 impl ConfigFault {
     /// Returns the fault at the key of this name.

@@ -5,34 +5,34 @@ ghost use Rattle.config_file.specs.Section.{is_among, known_names, unknown_in, u
 ghost use Rattle.config_file.specs.inner.Told.{IsTold};
 
 use crate::fault::ConfigFault;
-use crate::section::Section;
-use std::alloc::Global;
-use toml::Table;
+use crate::section::{Section, SectionReader};
 
-impl Section {
+impl<'a> SectionReader<'a> {
     /// Refuses the least key of the table that is not known, in the order of bytes.
-    pub(crate) fn check_keys(self, alloc: Global, table: &Table) -> Result<(), ConfigFault>
-        ensures { IsTold (unknown_in self (table_view table.now)) tt result }
+    pub(crate) fn check_keys(&self) -> Result<(), ConfigFault>
+        ensures { IsTold (unknown_in self.now.section (table_view self.now.table.now)) tt result }
     {
-        match self.unknown_key(table) {
-            Some(key) => Err(self.fault(alloc, key)),
+        match self.unknown_key() {
+            Some(key) => Err(self.fault(key)),
             None => Ok(()),
         }
     }
 
-    /// The least key of the table that is not known.
-    fn unknown_key(self, table: &Table) -> Option<&str>
-        ensures { option_map (λ k. k.now) result ≡ unknown_of self (table_view table.now) }
+    /// Returns the least key of the table that is not known.
+    fn unknown_key(&self) -> Option<&'a str>
+        ensures { option_map (λ k. k.now) result ≡ unknown_of self.now.section (table_view self.now.table.now) }
     {
-        for key in table.keys() {
-            if !self.is_known(key.as_str()) {
+        for key in self.table.keys() {
+            if !self.section.is_known(key.as_str()) {
                 return Some(key.as_str());
             }
         }
         None
     }
+}
 
-    /// Whether the table has a key of this name.
+impl Section {
+    /// Returns whether the table of this section may have a key of this name.
     fn is_known(self, key: &str) -> bool
         ensures { result ≡ is_among (known_names self) key.now }
     {

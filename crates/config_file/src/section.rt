@@ -21,27 +21,30 @@ pub(crate) enum Section {
     Channel(usize),
 }
 
-impl Section {
-    /// The text at a key, where it is not empty.
-    pub(crate) fn text(self, alloc: Global, table: &Table, key: &str) -> Result<Text, ConfigFault>
+/// Reads the keys of one table. A key that is refused is named with the section that the table is.
+#[derive(Clone, Copy)]
+pub(crate) struct SectionReader<'a> {
+    pub(crate) alloc: Global,
+    pub(crate) section: Section,
+    pub(crate) table: &'a Table,
+}
+
+impl<'a> SectionReader<'a> {
+    /// Reads the text at a key, which may not be empty.
+    pub(crate) fn text(&self, key: &str) -> Result<Text, ConfigFault>
         ensures told { let wanted : Key = record { name = key.now; rule = text } in
-            IsTold (fault_in self (table_view table.now) wanted) (text_at wanted (table_view table.now)) result }
+            IsTold (fault_in self.now.section (table_view self.now.table.now) wanted) (text_at wanted (table_view self.now.table.now)) result }
         ensures some { IfOk result (λ t. 0 < length t) }
     {
-        match text_in(table, key) {
-            Some(text) => match copy_of(alloc, text) {
-                Ok(text) => Ok(text),
-                Err(_) => Err(ConfigFault::OutOfMemory),
-            },
-            None => Err(self.fault(alloc, key)),
+        match self.string(key) {
+            Some(text) => Ok(copy_of(self.alloc, text)?),
+            None => Err(self.fault(key)),
         }
     }
 
-    /// The integer at a key, from the least to the greatest, or the default where there is none.
+    /// Reads the integer at a key, from `least` to `greatest`, or returns the default where there is no such key.
     pub(crate) fn number(
-        self,
-        alloc: Global,
-        table: &Table,
+        &self,
         key: &str,
         least: u32,
         greatest: u32,
@@ -49,50 +52,64 @@ impl Section {
     ) -> Result<u32, ConfigFault>
         requires { IfSome default (λ d. (least ≤ d) × (d ≤ greatest)) }
         ensures told { let wanted : Key = record { name = key.now; rule = number least greatest default } in
-            IsTold (fault_in self (table_view table.now) wanted) (number_at wanted (table_view table.now)) result }
+            IsTold (fault_in self.now.section (table_view self.now.table.now) wanted) (number_at wanted (table_view self.now.table.now)) result }
         ensures range { IfOk result (λ n. (least ≤ n) × (n ≤ greatest)) }
     {
-        match number_in(table, key, least, greatest, default) {
+        match self.integer(key, least, greatest, default) {
             Some(number) => Ok(number),
-            None => Err(self.fault(alloc, key)),
+            None => Err(self.fault(key)),
         }
     }
 
-    /// The fault at a key.
-    pub(crate) fn fault(self, alloc: Global, key: &str) -> ConfigFault
-        ensures { IsFirst (name_in self key.now ∷ []) result }
+    /// Returns the value at a key.
+    pub(crate) fn value(&self, key: &str) -> Option<&'a Value>
+        ensures { option_map (λ v. view v.now) result ≡ get_member key.now (table_view self.now.table.now) }
     {
-        match self {
-            Section::Top => ConfigFault::at(alloc, key),
-            Section::Channel(number) => match format!(in alloc; "channel.{number}.{key}") {
-                Ok(name) => ConfigFault::at(alloc, name.as_str()),
+        self.table.get(key)
+    }
+
+    /// Returns the string at a key, where it is not empty.
+    fn string(&self, key: &str) -> Option<&'a str>
+        ensures read { let value = get_member key.now (table_view self.now.table.now) in
+            IsRead (is_kept text value) (text_of value) (option_map (λ s. chars s.now) result) }
+        ensures some { IfSome result (λ s. 0 < length s.now) }
+    {
+        let text = self.value(key)?.as_str()?;
+        if text.is_empty() {
+            return None;
+        }
+        Some(text)
+    }
+
+    /// Returns the integer at a key, where it is from `least` to `greatest`, or the default where there is no such key.
+    fn integer(&self, key: &str, least: u32, greatest: u32, default: Option<u32>) -> Option<u32>
+        requires { IfSome default (λ d. (least ≤ d) × (d ≤ greatest)) }
+        ensures read { let value = get_member key.now (table_view self.now.table.now) in
+            let rule = number least greatest default in
+            IsRead (is_kept rule value) (number_of rule value) result }
+        ensures range { IfSome result (λ n. (least ≤ n) × (n ≤ greatest)) }
+    {
+        match self.value(key) {
+            Some(value) => in_range(value.as_integer()?, least, greatest),
+            None => default,
+        }
+    }
+
+    /// Returns the fault at a key.
+    pub(crate) fn fault(&self, key: &str) -> ConfigFault
+        ensures { IsFirst (name_in self.now.section key.now ∷ []) result }
+    {
+        match self.section {
+            Section::Top => ConfigFault::at(self.alloc, key),
+            Section::Channel(number) => match format!(in self.alloc; "channel.{number}.{key}") {
+                Ok(name) => ConfigFault::at(self.alloc, name.as_str()),
                 Err(_) => ConfigFault::OutOfMemory,
             },
         }
     }
 }
 
-/// The value at a key.
-pub(crate) fn value_in<'a>(table: &'a Table, key: &str) -> Option<&'a Value>
-    ensures { option_map (λ v. view v.now) result ≡ get_member key.now (table_view table.now) }
-{
-    table.get(key)
-}
-
-/// The string at a key, where it is not empty.
-fn text_in<'a>(table: &'a Table, key: &str) -> Option<&'a str>
-    ensures read { let value = get_member key.now (table_view table.now) in
-        IsRead (is_kept text value) (text_of value) (option_map (λ s. chars s.now) result) }
-    ensures some { IfSome result (λ s. 0 < length s.now) }
-{
-    let text = value_in(table, key)?.as_str()?;
-    if text.is_empty() {
-        return None;
-    }
-    Some(text)
-}
-
-/// A copy of a text that is not empty.
+/// Copies a text that is not empty.
 fn copy_of(alloc: Global, text: &str) -> Result<Text, AllocError>
     requires { 0 < length text.now }
     ensures value { IfOk result (λ t. t ≡ chars text.now) }
@@ -101,35 +118,12 @@ fn copy_of(alloc: Global, text: &str) -> Result<Text, AllocError>
     Text::copy(alloc, text)
 }
 
-/// The integer at a key, from the least to the greatest, or the default where there is none.
-fn number_in(
-    table: &Table,
-    key: &str,
-    least: u32,
-    greatest: u32,
-    default: Option<u32>,
-) -> Option<u32>
-    requires { IfSome default (λ d. (least ≤ d) × (d ≤ greatest)) }
-    ensures read { let value = get_member key.now (table_view table.now) in
-        let rule = number least greatest default in
-        IsRead (is_kept rule value) (number_of rule value) result }
-    ensures range { IfSome result (λ n. (least ≤ n) × (n ≤ greatest)) }
-{
-    match value_in(table, key) {
-        Some(value) => in_range(value.as_integer()?, least, greatest),
-        None => default,
-    }
-}
-
-/// The number that the integer is, from the least to the greatest.
+/// Returns the number that the integer is, from `least` to `greatest`.
 fn in_range(integer: i64, least: u32, greatest: u32) -> Option<u32>
     ensures value { result ≡ ranged least greatest integer }
     ensures range { IfSome result (λ n. (least ≤ n) × (n ≤ greatest)) }
 {
-    let number = match u32::try_from(integer) {
-        Ok(number) => number,
-        Err(_) => return None,
-    };
+    let number = u32::try_from(integer).ok()?;
     if number < least || greatest < number {
         return None;
     }

@@ -8,8 +8,8 @@ use itoa::Buffer;
 use play_outside::{Sent, Sink, send_parts};
 use play_types::Geometry;
 
-/// Writes a frame as lines: `F`, the channel and the tick; then each row from the top, in lower-case hexadecimal; then
-/// the sound, in the same digits, where the channel has sound. A pixel has four bytes, and so has a pair of sound.
+/// Writes a frame as lines: `F`, the channel and the tick; then each row from the top; then the sound, where the channel
+/// has sound. Rows and sound are in lower-case hexadecimal. A pixel has four bytes, and so has a pair of sound.
 pub fn write_hex<K: Sink>(
     channel: u8,
     tick: u64,

@@ -1,4 +1,4 @@
-//! Texts of small frames.
+//! Small frames that are written to a sink with room.
 use super::*;
 use play_outside::{MemSink, Sent};
 use play_types::Geometry;
@@ -7,31 +7,22 @@ use std::test::Fail;
 #[test]
 fn writes_frames(rt: HostRuntime) -> Result<(), Fail> {
     let mut sink = MemSink::new(rt.alloc(), 0, 400, 7, Vec::new(rt.alloc()))?;
-    let silent = Geometry {
-        width: 2,
-        height: 1,
-        pairs: 0,
-    };
-    let two_red_pixels = [0, 0, 255, 255, 0, 0, 255, 255];
-    let sounding = Geometry {
+    let size = Geometry {
         width: 1,
         height: 1,
         pairs: 3,
     };
     let sound = [0, 128, 255, 127, 1, 0, 254, 255, 16, 0, 10, 11];
     let sent = [
-        write_hex(1, 1, silent, &two_red_pixels, &[], &mut sink),
-        write_hex(2, 30, sounding, &[1, 32, 171, 205], &sound, &mut sink),
+        write_hex(2, 30, size, &[1, 32, 171, 205], &sound, &mut sink),
         write_digest(9, 18446744073709551615, b"ab", b"c", &mut sink),
         write_digest(1, 2, &[], &[], &mut sink),
         write_raw(b"pixels", b"sound", &mut sink),
     ];
-    assert_eq!(rt; sent, [Sent::All; 5]);
+    assert_eq!(rt; sent, [Sent::All; 4]);
     assert_eq!(rt;
         sink.taken(),
-        b"F 1 1
-0000ffff0000ffff
-F 2 30
+        b"F 2 30
 0120abcd
 0080ff7f0100feff10000a0b
 D 9 18446744073709551615 ba7816bf8f01cfea414140de5dae2223b00361a396177a9cb410ff61f20015ad

@@ -3,7 +3,7 @@ use Rattle.std.proofs.Common.{◌≡◌, sym, ℕ, ◌+◌, ◌-◌, ◌≤◌, 
 use Rattle.std.proofs.lemmas.Grind.{common_steps}
 use Rattle.std.proofs.lemmas.List.{take-append-drop, drop-drop}
 
--- what is left is the piece at the front of a buffer, and then what is left after it
+-- what is left is the piece at the beginning of a buffer, and then what is left after it
 pub drop-piece : (bytes piece others : List ℕ) (given count : ℕ)
     → piece ≡ take count (take (length bytes - given) (drop given bytes)) → count ≤ length (take (length bytes - given) (drop given bytes))
     → drop given bytes ≡ take count (piece ++ others) ++ drop (given + count) bytes

@@ -23,7 +23,7 @@ pub after_taking-nil : (state : SinkState) → after_taking state [] ≡ state
 after_taking-nil state =
     ap (λ (t : Option (List ℕ)). record state { taken = t }) (more_taken-nil state.taken)
 
--- a piece that is taken after the front of a text, from where the front ends
+-- a piece that is taken after a prefix of a text, from where the prefix ends
 pub after_taking-more : (first state after : SinkState) (text : List ℕ) (at count : ℕ) → at ≤ length text
     → state ≡ after_taking first (take at text)
     → after ≡ after_taking state (take count (take (length text - at) (drop at text)))

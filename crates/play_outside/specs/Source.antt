@@ -19,7 +19,7 @@ pub record Consumes (bytes : List ℕ) (before after : SourceState) : Type 0 whe
 abbrev pub IsAtEnd : SourceState → Type 0
 IsAtEnd state = IfSome state.left (λ rest. rest ≡ [])
 
--- a read gave the bytes at the front of the buffer, or found the end, or failed and gave nothing
+-- a read gave the bytes at the beginning of the buffer, or found the end, or failed and gave nothing
 abbrev pub Reads : ReadStep → List ℕ → SourceState → SourceState → Type 0
 Reads (Got count) buffer before after = (0 < count) × (count ≤ length buffer) × Consumes (take count buffer) before after
 Reads End buffer before after = IsAtEnd before × (after ≡ before)

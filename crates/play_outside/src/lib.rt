@@ -1,8 +1,8 @@
 //! The outside of the server as traits: what it reads, what it writes, and the folder of configuration and media.
 //!
-//! Each object counts its faults. The count never falls, a call answers `Failed` only where the count rose in that
-//! call, and after any other answer it is as before. An object may tell what it has left, took or holds, so that a
-//! contract can speak of bytes; one that tells nothing claims nothing.
+//! Each object counts its faults. The count never falls, a call returns `Failed` only where the count rose in that
+//! call, and any other call leaves the count as it was. An object may tell what it has left, took or holds, so that a
+//! contract can speak of bytes; the contracts of an object that tells nothing claim nothing about them.
 #![tactic(auto)]
 
 mod folder;

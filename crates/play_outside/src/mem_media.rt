@@ -30,8 +30,8 @@ pub struct MemMedia {
 }
 
 impl MemMedia {
-    /// Holds these files. The calls whose numbers, counted from 1 over all three methods, are in `fails` answer
-    /// `Failed`, and so does each call that asks for a file which is not there.
+    /// Holds these files. The calls whose numbers, counted from 1 over all three methods, are in `fails` return
+    /// `Failed`, and so does each call for a file that is not there.
     pub fn new(configs: Vec<MemConfig>, files: Vec<MemFile>, fails: Vec<u64>) -> MemMedia
         ensures { ⟦<MemMedia as MediaDir>⟧.state result ≡ record { files = Some (files_of configs.items files.items); faults = 0 } }
     {
@@ -42,7 +42,7 @@ impl MemMedia {
         }
     }
 
-    /// How often a call has failed.
+    /// Returns how often a call has failed.
     pub fn faults(&self) -> u64
         ensures { result ≡ (⟦<MemMedia as MediaDir>⟧.state self.now).faults }
     {
@@ -84,21 +84,21 @@ impl MediaDir for MemMedia {
     }
 }
 
-/// The first configuration of that path.
+/// Returns the first configuration of that path.
 fn find_config<'a>(configs: &'a [MemConfig], path: &str) -> Option<&'a MemConfig>
     ensures { option_map (λ config. config.now) result ≡ find (λ config. bytes_eq (string_bytes config.path) path.now) configs.now }
 {
     configs.iter().find(|config| config.path.as_str() == path)
 }
 
-/// The first file of that folder and name.
+/// Returns the first file of that folder and name.
 fn find_file<'a>(files: &'a [MemFile], folder: &str, name: &str) -> Option<&'a MemFile>
     ensures { option_map (λ file. file.now) result ≡ find (λ file. bytes_eq (string_bytes file.folder) folder.now && bytes_eq (string_bytes file.name) name.now) files.now }
 {
     files.iter().find(|file| file.folder.as_str() == folder && file.name.as_str() == name)
 }
 
-/// The names of the files of that folder.
+/// Returns the names of the files of that folder.
 fn names_of(alloc: Global, files: &[MemFile], folder: &str) -> Result<Vec<String>, AllocError>
     ensures { IfOk result (λ names. map string_bytes names.items ≡ map (λ file. string_bytes file.name) (filter (λ file. bytes_eq (string_bytes file.folder) folder.now) files.now)) }
 {

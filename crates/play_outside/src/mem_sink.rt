@@ -23,8 +23,8 @@ pub struct MemSink {
 impl MemSink {
     ghost use Rattle.play_outside.specs.MemSink.{room_left};
 
-    /// Has room for `room` bytes, and takes at most `piece` of them a write. The writes whose numbers, counted from 1,
-    /// are in `fails` answer `Failed`, and so does each write that finds the room full.
+    /// Creates a sink with room for `room` bytes, which takes at most `piece` of them a write. The writes whose numbers,
+    /// counted from 1, are in `fails` return `Failed`, and so does each write that finds the room full.
     pub fn new(
         alloc: Global,
         mark: u64,
@@ -46,21 +46,21 @@ impl MemSink {
         })
     }
 
-    /// The bytes that were taken, in order.
+    /// Returns the bytes that were taken, in order.
     pub fn taken(&self) -> &[u8]
         ensures { (⟦<MemSink as Sink>⟧.state self.now).taken ≡ Some result.now }
     {
         self.taken.as_slice()
     }
 
-    /// For how many more bytes there is room.
+    /// Returns for how many more bytes there is room.
     pub fn room(&self) -> usize
         ensures { result ≡ room_left self.now }
     {
         self.taken.capacity() - self.taken.len()
     }
 
-    /// How often a write has failed.
+    /// Returns how often a write has failed.
     pub fn faults(&self) -> u64
         ensures { result ≡ (⟦<MemSink as Sink>⟧.state self.now).faults }
     {

@@ -5,7 +5,7 @@ use super::planned_faults::PlannedFaults;
 use super::unread::Unread;
 use super::{ReadStep, Source};
 
-/// Bytes in memory, given from front to end in pieces. It tells what is left.
+/// Bytes in memory, given in pieces from the first to the last. It tells what is left.
 #[derive(Drop)]
 pub struct MemSource {
     unread: Unread,
@@ -15,8 +15,8 @@ pub struct MemSource {
 }
 
 impl MemSource {
-    /// Gives the bytes, at most `piece` of them a read. The reads whose numbers, counted from 1, are in `fails`
-    /// answer `Failed`.
+    /// Creates a source of these bytes, which gives at most `piece` of them a read. The reads whose numbers, counted
+    /// from 1, are in `fails` return `Failed`.
     pub fn new(bytes: Vec<u8>, piece: usize, fails: Vec<u64>) -> MemSource
         requires { 0 < piece }
         ensures { ⟦<MemSource as Source>⟧.state result ≡ record { left = Some bytes.items; faults = 0 } }
@@ -28,14 +28,14 @@ impl MemSource {
         }
     }
 
-    /// The bytes that are left.
+    /// Returns the bytes that are left.
     pub fn left(&self) -> &[u8]
         ensures { (⟦<MemSource as Source>⟧.state self.now).left ≡ Some result.now }
     {
         self.unread.as_slice()
     }
 
-    /// How often a read has failed.
+    /// Returns how often a read has failed.
     pub fn faults(&self) -> u64
         ensures { result ≡ (⟦<MemSource as Source>⟧.state self.now).faults }
     {

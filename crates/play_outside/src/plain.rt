@@ -7,14 +7,15 @@ use super::unread::Unread;
 use super::{FileFault, MediaDir, ReadStep, Sink, Source, WriteStep};
 use std::alloc::Global;
 
-/// Bytes in memory, given from front to end, as many a read as the buffer takes. It never fails, and tells what is
-/// left.
+/// Bytes in memory, given from the first to the last, as many a read as the buffer takes. It never fails, and tells
+/// what is left.
 #[derive(Drop)]
 pub struct PlainSource {
     unread: Unread,
 }
 
 impl PlainSource {
+    /// Creates a source of these bytes.
     pub fn new(bytes: Vec<u8>) -> PlainSource
         ensures { ⟦<PlainSource as Source>⟧.state result ≡ record { left = Some bytes.items; faults = 0 } }
     {
@@ -40,13 +41,14 @@ impl Source for PlainSource {
     }
 }
 
-/// Takes every piece whole, and keeps none. It never fails, and does not tell what it took.
+/// A sink that takes every piece whole, and keeps none. It never fails, and does not tell what it took.
 #[derive(Clone, Copy)]
 pub struct PlainSink {
     mark: u64,
 }
 
 impl PlainSink {
+    /// Creates a sink with this mark.
     pub fn new(mark: u64) -> PlainSink
         ensures { ⟦<PlainSink as Sink>⟧.state result ≡ record { taken = None; faults = 0; mark = mark; at_fault = None } }
     {

@@ -12,6 +12,7 @@ pub(crate) struct PlannedFaults {
 }
 
 impl PlannedFaults {
+    /// Plans a fault at each call of these numbers, before the first call.
     pub(crate) fn new(at_calls: Vec<u64>) -> PlannedFaults
         ensures { result ≡ record { at_calls = at_calls; calls = 0; count = 0 } }
     {
@@ -22,7 +23,7 @@ impl PlannedFaults {
         }
     }
 
-    /// Counts a call, and says whether it is to fail.
+    /// Counts a call, and returns whether it is to fail.
     pub(crate) fn fails_now(&mut self) -> bool
         ensures answer { result ≡ list_any (λ number. number == self.new.calls) self.old.at_calls.items }
         ensures after { self.new ≡ record self.old { calls = one_more self.old.calls } }

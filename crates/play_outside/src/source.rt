@@ -3,10 +3,10 @@ ghost use Rattle.std.specs.Prelude.{◌<◌, length};
 ghost use Rattle.play_outside.specs.SourceState.{SourceState};
 ghost use Rattle.play_outside.specs.Source.{Reads};
 
-/// What a read answered.
+/// What a read did.
 #[derive(Clone, Copy, Debug, PartialEq, Eq)]
 pub enum ReadStep {
-    /// So many bytes stand at the front of the buffer: at least one.
+    /// This many bytes stand at the beginning of the buffer, at least one.
     Got(usize),
     /// Nothing is left.
     End,
@@ -14,11 +14,13 @@ pub enum ReadStep {
     Failed,
 }
 
-/// Bytes to read, from front to end.
+/// Bytes to read, from the first to the last.
 pub trait Source {
     /// What is left, where it is told, and how many faults there were.
     ghost state: { Self → SourceState };
 
+    /// Reads into the beginning of the buffer, finds that nothing is left, or fails and gives nothing. A failed read
+    /// raises the count of faults.
     fn read(&mut self, buf: &mut [u8]) -> ReadStep
         requires { 0 < length buf.old }
         ensures { Reads result buf.new (state self.old) (state self.new) };

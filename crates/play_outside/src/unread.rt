@@ -1,9 +1,9 @@
-//! Bytes that are given once, from front to end.
+//! Bytes that are given once, from the first to the last.
 ghost use Rattle.std.specs.Prelude.{◌≡◌, ◌++◌, length, min, take};
 
 use std::marker::Model;
 
-/// Bytes that are given once, from front to end. Contracts see those that are left.
+/// Bytes that are given once, from the first to the last. Contracts see those that are left.
 #[derive(Drop)]
 pub(crate) struct Unread {
     bytes: Vec<u8>,
@@ -21,20 +21,21 @@ impl Model for Unread {
 }
 
 impl Unread {
+    /// Keeps the bytes, none of them given yet.
     pub(crate) fn new(bytes: Vec<u8>) -> Unread
         ensures { result ≡ bytes.items }
     {
         Unread { bytes, given: 0 }
     }
 
-    /// The bytes that are left.
+    /// Returns the bytes that are left.
     pub(crate) fn as_slice(&self) -> &[u8]
         ensures { result.now ≡ self.now }
     {
         &self.bytes[self.given..]
     }
 
-    /// Gives bytes to the front of the buffer, at most `limit` of them, and answers how many.
+    /// Copies bytes to the beginning of the buffer, at most `limit` of them, and returns how many.
     pub(crate) fn give(&mut self, buf: &mut [u8], limit: usize) -> usize
         ensures count { result ≡ min (min (length self.old) (length buf.old)) limit }
         ensures gives { self.old ≡ take result buf.new ++ self.new }

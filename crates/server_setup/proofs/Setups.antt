@@ -119,7 +119,7 @@ pub shown : (path bytes : List ℕ) (config : ConfigView) (result : Result Serve
 shown path bytes config result before state after held same accepted shows =
     shown_from path bytes config result before after held accepted (subst (λ (s : FolderState). ReadsMedia config result s after) same shows)
 
--- every answer but a fault of the device leaves the folder as it was
+-- every result but a fault of the device leaves the folder as it was
 pub kept_but_device : (path : List ℕ) (result : Result ServerSetup RunFault) (before after : FolderState) → SetsUp path result before after → result ≢ Err Device → after ≡ before
 kept_but_device path (Ok setup) before after sets other = sets.1.1
 kept_but_device path (Err ConfigText) before after sets other = sets.1
@@ -132,7 +132,7 @@ kept_but_device path (Err Usage) before after sets other = absurd sets
 kept_but_device path (Err (BadLine line)) before after sets other = absurd sets
 kept_but_device path (Err InputTooLong) before after sets other = absurd sets
 
--- no answer changes what is held
+-- no result changes what is held
 pub files_kept : (path : List ℕ) (result : Result ServerSetup RunFault) (before after : FolderState) → SetsUp path result before after → after.files ≡ before.files
 files_kept path (Ok setup) before after sets = ap (λ (s : FolderState). s.files) sets.1.1
 files_kept path (Err ConfigText) before after sets = ap (λ (s : FolderState). s.files) sets.1

@@ -1,4 +1,4 @@
--- Which configurations a server takes: those without sound. The rule goes when sound is made.
+-- Which configurations a server accepts: those without sound. When the server makes sound, the rule is no longer needed.
 use Rattle.std.specs.Prelude.{◌≡◌, ℕ, ◌+◌, nat_lt, Bool, Option, Some, option_map, option_and_then, Result, Ok, Err, List, ◌++◌, All, codes, decimal}
 use Rattle.std.specs.List.{position}
 use Rattle.std.specs.Str.{chars}

@@ -1,4 +1,4 @@
-//! The rule that no channel has sound. It stands until sound is made, and goes as a whole then.
+//! The rule that no channel has sound. When the server makes sound, the rule is no longer needed.
 ghost use Rattle.std.specs.Prelude.{◌≡◌, ◌^◌, ◌<◌, IfSome};
 ghost use Rattle.std.specs.List.{position};
 ghost use Rattle.server_setup.specs.Silent.{first_sound, has_sound};
@@ -24,10 +24,7 @@ pub(crate) fn read_silent(alloc: Global, bytes: &[u8]) -> Result<Config, RunFaul
 fn first_sound(channels: &ChannelList) -> Option<usize>
     ensures { result ≡ first_sound channels.now }
 {
-    match loud_channel(channels) {
-        Some(at) => Some(at + 1),
-        None => None,
-    }
+    Some(loud_channel(channels)? + 1)
 }
 
 /// Returns the place of the first channel that has sound, counted from 0.

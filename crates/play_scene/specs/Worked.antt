@@ -25,7 +25,7 @@ media =
     ∷ None
     ∷ []
 
--- a producer, of which these many frames are played from the one at `seek` on
+-- a take of a producer, of which `length` frames are played, from the one at `seek` on
 abbrev pub played : Spec → ℕ → ℕ → TakeView
 played producer seek length =
     record { spec = producer; looped = false; seek = seek; length = length; trans = cut; auto = false }

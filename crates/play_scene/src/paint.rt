@@ -10,10 +10,10 @@ use play_types::Geometry;
 use std::alloc::AllocError;
 
 impl Picture<'_> {
-    /// Makes the bytes those of a frame of this size that shows the picture: rows from the top, each from the left, and
-    /// blue, green, red and alpha of each pixel. It takes no memory where there is room for the frame.
+    /// Writes the bytes of a frame of this size that shows the picture, in place of those that are in `frame`: rows from the
+    /// top, each from the left, and blue, green, red and alpha of each pixel. It takes no memory where there is room for the frame.
     ///
-    /// After an error the bytes are those of some of the rows.
+    /// After an error `frame` holds some of the rows.
     pub fn paint(&self, size: Geometry, frame: &mut Vec<u8>) -> Result<(), AllocError>
         requires columns { 0 < size.width }
         requires rows { 0 < size.height }
@@ -28,7 +28,7 @@ impl Picture<'_> {
         Ok(())
     }
 
-    /// Adds a row of the picture.
+    /// Adds a row of the picture to the frame.
     fn paint_row(&self, size: Geometry, row: u16, frame: &mut Vec<u8>) -> Result<(), AllocError>
         requires columns { 0 < size.width }
         requires rows { 0 < size.height }

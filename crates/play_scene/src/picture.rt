@@ -39,8 +39,8 @@ impl<'a> Picture<'a> {
         }
     }
 
-    /// Returns the pixel at a column and a row of a raster of this size. A column of the raster shows the column of the
-    /// picture in which its middle lies, and rows do alike.
+    /// Returns the pixel at column `x` and row `y` of a raster of this size. A column of the raster shows the column of the
+    /// picture in which its middle lies, and a row shows the row in which its middle lies.
     pub fn pixel(&self, size: Geometry, x: u16, y: u16) -> Pixel
         requires columns { 0 < size.width }
         requires rows { 0 < size.height }
@@ -82,7 +82,8 @@ fn frames_passed(take: Take, ticks: u64) -> u64
     if length == 0 { ticks } else { ticks % length }
 }
 
-/// Returns the column of a picture of `columns` columns that column `x` of a raster of `width` columns shows; rows alike.
+/// Returns the column of a picture of `columns` columns that column `x` of a raster of `width` columns shows. It does so for
+/// rows too.
 fn scaled_to(columns: u16, width: u16, x: u16) -> u64
     requires { 0 < width }
     ensures value { result ≡ scaled_to columns width x }

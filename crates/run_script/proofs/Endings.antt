@@ -1,5 +1,5 @@
 -- How a run ends.
-use Rattle.std.proofs.Common.{◌≡◌, ℕ, ◌+◌, ◌<◌, ◌≤◌, true, false, List, [], ◌∷◌, ◌++◌, take, length, refl, sym, ap, ◌∙◌, arith, append-nil}
+use Rattle.std.proofs.Common.{◌≡◌, ℕ, ◌+◌, ◌<◌, ◌≤◌, true, false, List, [], ◌∷◌, ◌++◌, take, length, refl, sym, ap, ◌∙◌, subst, arith, append-nil}
 use Rattle.std.specs.Prelude.{Err}
 use Rattle.std.specs.Str.Lines.{lines}
 use Rattle.std.proofs.lemmas.Bool.{false≢true}
@@ -14,6 +14,7 @@ use Rattle.history_model.proofs.Outputs.{goes_on-none, script_output-none}
 use Rattle.history_model.proofs.Parts.{last_line, lines-ended}
 use Rattle.run_script.specs.declared.ending.Halt.{Halt}
 use Rattle.run_script.specs.declared.ending.Halt.TheVariants as halt
+use Rattle.run_script.specs.declared.ending.Ending.{Ending}
 use Rattle.run_script.specs.declared.ending.Ending.TheVariants.{Finished}
 use Rattle.run_script.specs.declared.player.Player.{Player}
 use Rattle.run_script.specs.declared.script.Script.{Script}
@@ -21,7 +22,7 @@ use Rattle.run_script.specs.Ending.{ending_of}
 use Rattle.run_script.specs.Script.{Run, meanings, IsDone}
 use Rattle.run_script.specs.Run.{IsPrefix, EndsAs, FaultsOf}
 use Rattle.run_script.specs.inner.Player.{Represents, IsLineDone, PlaysLine}
-use Rattle.run_script.specs.inner.Taken.{HasTaken, HaltsAt, TakesBytes}
+use Rattle.run_script.specs.inner.Taken.{HasTaken, HaltsAt, TakesBytes, TakesPiece, ReadsOn}
 use Rattle.run_script.proofs.Growth.{next_line, line_done, line_stops, line_rejected, line_fails, still_done, reading_of}
 
 -- nothing was played yet
@@ -157,3 +158,11 @@ no_fault halt.Rejected lines faults = refl
 no_fault halt.Stop lines faults = refl
 no_fault halt.Write lines faults = refl
 no_fault halt.Memory lines faults = refl
+
+-- a piece within which the run ends was read
+pub piece_halted : (run : Run) (script : Script) (ending : Ending) (whole allowed : List ℕ) (state : SinkState) → take MAX_INPUT_BYTES whole ≡ allowed
+    → TakesPiece run (Err ending) script allowed state → ReadsOn run (Err ending) script whole state
+piece_halted run script ending whole allowed state cut stops = (
+  subst (λ e. EndsAs run e (reading_of whole false) state) (sym stops.1) (halted run script stops.0 whole allowed state cut stops.2),
+  λ faults. subst (λ e. FaultsOf e faults faults) (sym stops.1) (no_fault stops.0 script.lines faults),
+)

@@ -3,10 +3,11 @@ use Rattle.std.specs.Prelude.{ℕ, ◌&&◌, Bool, true, false, if◌then◌else
 use Rattle.std.specs.Str.{bytes_eq}
 use Rattle.amcp_text.specs.Numbers.{number_within}
 use Rattle.play_types.specs.declared.geometry.Geometry.{Geometry}
+use Rattle.play_types.specs.declared.geometry.TheConstants.{MAX_SIDE}
 use Rattle.play_types.specs.Geometry.{IsSize}
 use Rattle.run_script.specs.declared.command_line.CommandLine as declared
 use Rattle.run_script.specs.declared.command_line.CommandLine.TheVariants as line
-use Rattle.run_script.specs.declared.command_line.TheConstants.{MAX_SIDE, MAX_WORKERS}
+use Rattle.run_script.specs.declared.command_line.TheConstants.{MAX_WORKERS}
 
 -- what words name
 pub data CommandLine : Type 0 where

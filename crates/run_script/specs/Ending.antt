@@ -1,5 +1,5 @@
 -- How a run ends: its fault, its exit status and the line that it writes then.
-use Rattle.std.specs.Prelude.{ℕ, ◌+◌, Option, Some, None, List, []}
+use Rattle.std.specs.Prelude.{ℕ, ◌+◌, Option, Some, None, Result, Ok, Err, List, []}
 use Rattle.server_setup.specs.Fault as table
 use Rattle.server_setup.specs.declared.fault.RunFault.{RunFault}
 use Rattle.server_setup.specs.declared.fault.RunFault.TheVariants as faults
@@ -24,6 +24,11 @@ fault_of TooLong = Some faults.InputTooLong
 fault_of ReadFault = Some faults.Device
 fault_of WriteFault = Some faults.Device
 fault_of Memory = Some faults.OutOfMemory
+
+-- the fault in the outcome of a run, none where it ended well
+abbrev pub fault_in : Result (Unit {0}) RunFault → Option RunFault
+fault_in (Ok done) = None
+fault_in (Err fault) = Some fault
 
 -- the exit status of a program that ends with this fault, or well
 abbrev pub exit_status : Option RunFault → ℕ

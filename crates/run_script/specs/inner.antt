@@ -3,3 +3,4 @@ pub mod Line
 pub mod Clients
 pub mod Player
 pub mod Taken
+pub mod Outcome

@@ -24,7 +24,7 @@ pub struct Clients {
 }
 
 impl Clients {
-    /// No connection has said anything.
+    /// Returns no connections: none has said anything yet.
     pub fn new(alloc: Global) -> Clients
         ensures { result.list.items ≡ [] }
     {
@@ -52,7 +52,7 @@ impl Clients {
         Ok(take_client_line(&mut self.list[at], alloc, text, config, media))
     }
 
-    /// The place of a connection, which has a new session where it has said nothing before.
+    /// Returns the place of a connection, and gives it a new session where it has said nothing before.
     fn place_of(&mut self, alloc: Global, tag: Tag) -> Result<usize, AllocError>
         ensures { IfOk result (λ at. (at < length self.new.list.items) × IsPlaceOf tag at self.new.list.items
             × ((playout : Playout) (played : List PlayedLine) → AreClients playout self.old.list.items played → AreClients playout self.new.list.items played)) }
@@ -65,7 +65,7 @@ impl Clients {
         Ok(self.list.len() - 1)
     }
 
-    /// The place of the first connection of this tag.
+    /// Returns the place of the first connection of this tag.
     fn find(&self, tag: Tag) -> Option<usize>
         ensures { result ≡ position (λ client. same_tag tag client.tag) self.now.list.items }
     {
@@ -73,7 +73,7 @@ impl Clients {
     }
 }
 
-/// Whether two tags are the same.
+/// Returns whether two tags are of one connection.
 fn is_same(one: Tag, other: Tag) -> bool
     ensures { result ≡ same_tag one other }
 {

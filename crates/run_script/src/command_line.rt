@@ -4,10 +4,7 @@ ghost use Rattle.play_types.specs.Geometry.{IsSize};
 ghost use Rattle.run_script.specs.CommandLine.{IsInRange, command_line_of, command_line_view, digests_of, options_of, size_of};
 
 use amcp_text::number_within;
-use play_types::Geometry;
-
-/// The most columns and rows of a channel.
-const MAX_SIDE: u32 = 4_096;
+use play_types::{Geometry, MAX_SIDE};
 
 /// The most workers that the words may name.
 const MAX_WORKERS: u32 = 64;
@@ -60,8 +57,8 @@ fn size_of(words: &[String]) -> Option<Geometry>
     if words.len() != 3 || words[0].as_str() != "run" {
         return None;
     }
-    let width = number_within(1, MAX_SIDE, words[1].as_bytes())?;
-    let height = number_within(1, MAX_SIDE, words[2].as_bytes())?;
+    let width = number_within(1, u32::from(MAX_SIDE), words[1].as_bytes())?;
+    let height = number_within(1, u32::from(MAX_SIDE), words[2].as_bytes())?;
     Some(Geometry {
         width: width as u16,
         height: height as u16,

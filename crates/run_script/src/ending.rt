@@ -1,7 +1,7 @@
 //! How a run goes on or ends.
 ghost use Rattle.std.specs.Prelude.{◌≡◌, ◌<◌, ◌^◌};
 ghost use Rattle.run_script.specs.declared.ending.Halt.TheVariants.{Memory};
-ghost use Rattle.run_script.specs.Ending.{ending_of, fault_of};
+ghost use Rattle.run_script.specs.Ending.{ending_of, fault_in, fault_of};
 ghost use Rattle.run_script.specs.inner.Halt.{written_of};
 
 use play_outside::Sent;
@@ -32,8 +32,11 @@ pub enum Ending {
     BadLine(u64),
     /// The input has more bytes than a script may have.
     TooLong,
+    /// A read of the input failed.
     ReadFault,
+    /// A write of the output failed.
     WriteFault,
+    /// The run is out of memory.
     Memory,
 }
 
@@ -79,16 +82,16 @@ impl Halt {
 }
 
 impl Ending {
-    /// Returns the fault with which the run ends, `None` where it ends well.
-    pub fn fault(self) -> Option<RunFault>
-        ensures { result ≡ fault_of self }
+    /// Returns the fault with which the run ends as an error.
+    pub fn outcome(self) -> Result<(), RunFault>
+        ensures { fault_in result ≡ fault_of self }
     {
         match self {
-            Ending::Finished | Ending::Stopped => None,
-            Ending::BadLine(number) => Some(RunFault::BadLine(number)),
-            Ending::TooLong => Some(RunFault::InputTooLong),
-            Ending::ReadFault | Ending::WriteFault => Some(RunFault::Device),
-            Ending::Memory => Some(RunFault::OutOfMemory),
+            Ending::Finished | Ending::Stopped => Ok(()),
+            Ending::BadLine(number) => Err(RunFault::BadLine(number)),
+            Ending::TooLong => Err(RunFault::InputTooLong),
+            Ending::ReadFault | Ending::WriteFault => Err(RunFault::Device),
+            Ending::Memory => Err(RunFault::OutOfMemory),
         }
     }
 }

@@ -13,7 +13,7 @@ use play_types::Tag;
 pub enum Line<'a> {
     /// Nothing: the line is empty or a comment.
     Comment,
-    /// So many ticks of all channels.
+    /// A number of ticks of all channels, from 1.
     Ticks(u32),
     /// A line of a connection.
     Said(Tag, &'a [u8]),
@@ -23,7 +23,7 @@ pub enum Line<'a> {
     Rejected,
 }
 
-/// What the line says, its end left out.
+/// Returns what a line says, its end left out.
 pub fn meaning(line: &[u8]) -> Line<'_>
     ensures { line_view result ≡ meaning line.now }
 {
@@ -33,7 +33,7 @@ pub fn meaning(line: &[u8]) -> Line<'_>
     short_meaning(line)
 }
 
-/// What a line says that is not too long.
+/// Returns what a line says that is not too long.
 fn short_meaning(line: &[u8]) -> Line<'_>
     ensures { line_view result ≡ short_meaning line.now }
 {
@@ -45,7 +45,7 @@ fn short_meaning(line: &[u8]) -> Line<'_>
     }
 }
 
-/// What a line says that begins with T.
+/// Returns what a line says that begins with T, from the bytes `more` after it.
 fn after_t(more: &[u8]) -> Line<'_>
     ensures { line_view result ≡ after_t more.now }
 {
@@ -59,7 +59,7 @@ fn after_t(more: &[u8]) -> Line<'_>
     }
 }
 
-/// What a line says that begins with X.
+/// Returns what a line says that begins with X, from the bytes `more` after it.
 fn after_x(more: &[u8]) -> Line<'_>
     ensures { line_view result ≡ after_x more.now }
 {
@@ -70,7 +70,7 @@ fn after_x(more: &[u8]) -> Line<'_>
     }
 }
 
-/// What a connection's line says.
+/// Returns what a connection's line says.
 fn said_line(line: &[u8]) -> Line<'_>
     ensures { line_view result ≡ said_line (addressed_parts line.now) }
 {
@@ -86,7 +86,8 @@ fn said_line(line: &[u8]) -> Line<'_>
     }
 }
 
-/// The tag that these digits name.
+/// Returns the tag that these digits name: a worker from 1 to 65,535 and a session from 1 to 4,294,967,295, both without
+/// leading zeros.
 fn tag_of(worker: &[u8], session: &[u8]) -> Option<Tag>
     ensures { result ≡ tag_of worker.now session.now }
 {
@@ -95,17 +96,15 @@ fn tag_of(worker: &[u8], session: &[u8]) -> Option<Tag>
     Some(Tag { worker, session })
 }
 
-/// What stands before and after the first such byte, where there is one.
-pub fn parts_at(byte: u8, text: &[u8]) -> Option<(&[u8], &[u8])>
+/// Returns the bytes before and the bytes after the first `byte` of a text, where there is one.
+fn parts_at(byte: u8, text: &[u8]) -> Option<(&[u8], &[u8])>
     ensures { option_map parts_view result ≡ parts_at byte text.now }
 {
-    match place_of(byte, text) {
-        Some(at) => Some((&text[..at], &text[at + 1..])),
-        None => None,
-    }
+    let at = place_of(byte, text)?;
+    Some((&text[..at], &text[at + 1..]))
 }
 
-/// The place of the first such byte.
+/// Returns the place of the first `byte` of a text.
 fn place_of(byte: u8, text: &[u8]) -> Option<usize>
     ensures { result ≡ position (λ c. c == byte) text.now }
 {

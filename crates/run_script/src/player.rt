@@ -270,16 +270,51 @@ fn start_of(cmd: Cmd) -> Option<Start>
             channel: place.channel(),
             take,
         }),
-        _ => None,
+        Cmd::PlayTake(..)
+        | Cmd::Load(..)
+        | Cmd::LoadBg(..)
+        | Cmd::Play(_)
+        | Cmd::Pause(_)
+        | Cmd::Resume(_)
+        | Cmd::StopLayer(_)
+        | Cmd::ClearLayer(_)
+        | Cmd::ClearChannel(_)
+        | Cmd::SwapLayers(..)
+        | Cmd::SwapChannels(..)
+        | Cmd::Set(_)
+        | Cmd::CommitMixer(_)
+        | Cmd::ResetLayer(_)
+        | Cmd::ResetChannel(_)
+        | Cmd::Value(..)
+        | Cmd::Info => None,
     }
 }
 
-/// Whether a take is a colour or a clip, with a cut.
+/// Returns whether a take is a colour or a clip, with a cut.
 fn is_plain(take: Take) -> bool
     ensures { result ≡ (is_cut take.trans.kind && is_picture take.spec) }
 {
-    matches!(take.trans().kind(), Kind::Cut)
-        && matches!(take.spec(), Spec::Clip(_) | Spec::Colour(_))
+    is_cut(take.trans().kind()) && is_picture(take.spec())
+}
+
+/// Returns whether a transition is a cut.
+fn is_cut(kind: Kind) -> bool
+    ensures { result ≡ is_cut kind }
+{
+    match kind {
+        Kind::Cut => true,
+        Kind::Mix | Kind::Push | Kind::Slide | Kind::Wipe => false,
+    }
+}
+
+/// Returns whether a producer is a clip or a colour.
+fn is_picture(spec: Spec) -> bool
+    ensures { result ≡ is_picture spec }
+{
+    match spec {
+        Spec::Clip(_) | Spec::Colour(_) => true,
+        Spec::RouteChannel(_) | Spec::RouteLayer(_) => false,
+    }
 }
 
 /// Returns the bytes of the largest frame of the channels.

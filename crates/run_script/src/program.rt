@@ -1,17 +1,14 @@
 //! The program: the words, the input, the folder, the output and the exit status.
 ghost use Rattle.std.specs.Prelude.{◌≡◌, map, string_bytes};
-ghost use Rattle.play_types.specs.Geometry.{IsSize};
-ghost use Rattle.run_script.specs.Ending.{exit_status, last_line};
-ghost use Rattle.run_script.specs.CommandLine.{Configured, IsInRange, command_line_view};
-ghost use Rattle.run_script.specs.Program.{EndsRun, PlaysScript, RunsCommandLine, WritesFaultLine, plain_playout};
-ghost use Rattle.run_script.specs.Run.{RunsScript};
+ghost use Rattle.run_script.specs.Ending.{exit_status, fault_in, last_line};
+ghost use Rattle.run_script.specs.CommandLine.{IsInRange, command_line_view};
+ghost use Rattle.run_script.specs.Program.{PlaysScript, WritesFaultLine};
+ghost use Rattle.run_script.specs.inner.Outcome.{PlaysCommandLine};
 
 use crate::command_line::CommandLine;
-use crate::ending::Ending;
 use crate::plain::plain_setup;
 use crate::run::run;
 use play_outside::{MediaDir, Sink, Source};
-use play_types::Geometry;
 use server_setup::{RunFault, set_up};
 use std::alloc::Global;
 use std::thread::Threads;
@@ -24,7 +21,7 @@ use std::thread::Threads;
 /// each frame is written as its digest. The number of workers changes nothing that is written.
 ///
 /// The words are tested first, then the configuration is read and tested, then the clips are read, and then the script is
-/// played; the first cause that is met gives the exit status, which is the answer.
+/// played. The first cause that is met gives the exit status, which is returned.
 ///
 /// | Status | Cause | The output's last line |
 /// |---|---|---|
@@ -53,85 +50,50 @@ pub fn run_main<R: Threads + Sync, I: Source, M: MediaDir, O: Sink>(
         (record { media = M.state media.new; input = I.state input.new; out = O.state out.new }) }
 {
     match CommandLine::read(words) {
-        Some(line) => run_command_line(rt, alloc, line, input, media, out),
-        None => end(Some(RunFault::Usage), out),
+        Some(line) => {
+            let outcome = play(rt, alloc, line, input, media, out);
+            end(outcome, out)
+        }
+        None => end(Err(RunFault::Usage), out),
     }
 }
 
-/// Does what a command line names, and returns the exit status.
-fn run_command_line<R: Threads + Sync, I: Source, M: MediaDir, O: Sink>(
+/// Does what a command line names.
+fn play<R: Threads + Sync, I: Source, M: MediaDir, O: Sink>(
     rt: &R,
     alloc: Global,
     line: CommandLine<'_>,
     input: &mut I,
     media: &mut M,
     out: &mut O,
-) -> u8
+) -> Result<(), RunFault>
     requires { IsInRange line }
-    ensures { RunsCommandLine (command_line_view line.entry) result
+    ensures { PlaysCommandLine (command_line_view line.entry) result
         (record { media = M.state media.old; input = I.state input.old; out = O.state out.old })
         (record { media = M.state media.new; input = I.state input.new; out = O.state out.new }) }
 {
     match line {
         CommandLine::Plain(size) => {
-            let ending = run_plain(alloc, size, input, out);
-            end(ending.fault(), out)
+            let plain = plain_setup(alloc, size)?;
+            run(alloc, plain, false, input, out).outcome()
         }
         CommandLine::Configured { path, digests } => {
-            run_configured(rt, alloc, path, digests, input, media, out)
+            let setup = set_up(rt, alloc, path, media)?;
+            run(alloc, setup, digests, input, out).outcome()
         }
-    }
-}
-
-/// Runs a script on one channel of this size.
-fn run_plain<I: Source, O: Sink>(
-    alloc: Global,
-    size: Geometry,
-    input: &mut I,
-    out: &mut O,
-) -> Ending
-    requires { IsSize size.width size.height 0 }
-    ensures { RunsScript (plain_playout size) result
-        (record { input = I.state input.old; out = O.state out.old })
-        (record { input = I.state input.new; out = O.state out.new }) }
-{
-    match plain_setup(alloc, size) {
-        Ok(setup) => run(alloc, setup, false, input, out),
-        Err(_) => Ending::Memory,
-    }
-}
-
-/// Runs a script on the configuration of this path, or says why it cannot be set up, and returns the exit status.
-fn run_configured<R: Threads + Sync, I: Source, M: MediaDir, O: Sink>(
-    rt: &R,
-    alloc: Global,
-    path: &str,
-    digests: bool,
-    input: &mut I,
-    media: &mut M,
-    out: &mut O,
-) -> u8
-    ensures { RunsCommandLine (Configured path.now digests) result
-        (record { media = M.state media.old; input = I.state input.old; out = O.state out.old })
-        (record { media = M.state media.new; input = I.state input.new; out = O.state out.new }) }
-{
-    match set_up(rt, alloc, path, media) {
-        Ok(setup) => {
-            let ending = run(alloc, setup, digests, input, out);
-            end(ending.fault(), out)
-        }
-        Err(fault) => end(Some(fault), out),
     }
 }
 
 /// Writes the line of a fault, where there is one, and returns the exit status.
-fn end<O: Sink>(fault: Option<RunFault>, out: &mut O) -> u8
-    ensures status { result ≡ exit_status fault }
-    ensures said { WritesFaultLine (last_line fault) (O.state out.old) (O.state out.new) }
+fn end<O: Sink>(outcome: Result<(), RunFault>, out: &mut O) -> u8
+    ensures status { result ≡ exit_status (fault_in outcome) }
+    ensures said { WritesFaultLine (last_line (fault_in outcome)) (O.state out.old) (O.state out.new) }
 {
-    let Some(fault) = fault else {
-        return 0;
-    };
-    let _ = fault.send_line(out);
-    fault.status()
+    match outcome {
+        Ok(()) => 0,
+        Err(fault) => {
+            let _ = fault.send_line(out);
+            fault.status()
+        }
+    }
 }

@@ -13,10 +13,10 @@ use play_outside::{ReadStep, Sink, Source};
 use server_setup::ServerSetup;
 use std::alloc::Global;
 
-/// How many bytes are read at a time.
-const PIECE: usize = 4096;
+/// The most bytes that are read at a time.
+const PIECE_BYTES: usize = 4_096;
 
-/// Takes a piece of the input where at most `left` bytes are allowed, and returns how many are allowed after it.
+/// Takes a piece of the input where at most `left` bytes are allowed, and returns the number of those allowed after it.
 fn take_piece<K: Sink>(
     script: &mut Script,
     alloc: Global,
@@ -33,15 +33,11 @@ fn take_piece<K: Sink>(
         → ReadsOn run result script.new (bytes ++ piece.now) (K.state out.new) }
 {
     if piece.len() as u64 > left {
-        return match script.take(alloc, &piece[..left as usize], out) {
-            Ok(()) => Err(Ending::TooLong),
-            Err(halt) => Err(halt.ending(script.lines)),
-        };
+        script.take(alloc, &piece[..left as usize], out)?;
+        return Err(Ending::TooLong);
     }
-    match script.take(alloc, piece, out) {
-        Ok(()) => Ok(left - piece.len() as u64),
-        Err(halt) => Err(halt.ending(script.lines)),
-    }
+    script.take(alloc, piece, out)?;
+    Ok(left - piece.len() as u64)
 }
 
 /// Reads a script to its end and does what its lines say, on a configuration without sound.
@@ -61,8 +57,8 @@ pub fn run<I: Source, K: Sink>(
         return Ending::Memory;
     };
     let mut left = MAX_INPUT_BYTES;
-    let mut buffer = [0u8; PIECE];
-    for _turn in 0..MAX_INPUT_BYTES + 1 {
+    let mut buffer = [0u8; PIECE_BYTES];
+    'pieces: loop {
         match input.read(&mut buffer) {
             ReadStep::Got(count) => {
                 match take_piece(&mut script, alloc, left, &buffer[..count], out) {
@@ -74,5 +70,4 @@ pub fn run<I: Source, K: Sink>(
             ReadStep::Failed => return Ending::ReadFault,
         }
     }
-    unreachable!()
 }

@@ -6,7 +6,7 @@ ghost use Rattle.history_model.specs.scripts.History.{Playout};
 ghost use Rattle.run_script.specs.Run.{EndsAs};
 ghost use Rattle.run_script.specs.Script.{Run};
 ghost use Rattle.run_script.specs.inner.Player.{IsPlayedOn};
-ghost use Rattle.run_script.specs.inner.Taken.{HasTaken, TakesBytes};
+ghost use Rattle.run_script.specs.inner.Taken.{HasTaken, TakesBytes, TakesPiece};
 
 use crate::ending::{Ending, Halt};
 use crate::player::Player;
@@ -43,17 +43,20 @@ impl Script {
         })
     }
 
-    /// Takes the next bytes, and does what their lines say. It stops at the first line that cannot be done.
-    pub fn take<K: Sink>(&mut self, alloc: Global, piece: &[u8], out: &mut K) -> Result<(), Halt>
+    /// Takes the next bytes, and does what their lines say. It stops at the first line that ends the run.
+    pub fn take<K: Sink>(&mut self, alloc: Global, piece: &[u8], out: &mut K) -> Result<(), Ending>
         requires ticks { self.old.player.ticks + MAX_TICKS_PER_LINE * length piece.now < 2 ^ 62 }
         requires lines { self.old.lines + length piece.now < 2 ^ 63 }
         ensures ticks { self.new.player.ticks ≤ self.old.player.ticks + MAX_TICKS_PER_LINE * length piece.now }
         ensures lines { self.new.lines ≤ self.old.lines + length piece.now }
         ensures takes { (run : Run) (bytes : List ℕ) → HasTaken run self.old bytes (K.state out.old)
-            → TakesBytes run result self.new (bytes ++ piece.now) (K.state out.new) }
+            → TakesPiece run result self.new (bytes ++ piece.now) (K.state out.new) }
     {
         for byte in piece {
-            self.take_byte(alloc, *byte, out)?;
+            match self.take_byte(alloc, *byte, out) {
+                Ok(()) => {}
+                Err(halt) => return Err(halt.ending(self.lines)),
+            }
         }
         Ok(())
     }

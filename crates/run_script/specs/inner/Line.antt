@@ -1,4 +1,4 @@
--- What the code's lines stand for.
+-- What the code's lines denote.
 use Rattle.std.specs.Prelude.{ℕ, List}
 use Rattle.std.specs.Borrow.{Bor}
 use Rattle.history_model.specs.scripts.Line.{ScriptLine}

@@ -9,6 +9,7 @@ use Rattle.run_script.specs.declared.ending.Ending.{Ending}
 use Rattle.run_script.specs.declared.ending.Halt.{Halt}
 use Rattle.run_script.specs.declared.ending.Halt.TheVariants as halt
 use Rattle.run_script.specs.declared.script.Script.{Script}
+use Rattle.run_script.specs.Ending.{ending_of}
 use Rattle.run_script.specs.Script.{Run, Reading, IsDone, StopsAt, RejectsAt, FailsAt}
 use Rattle.run_script.specs.Run.{EndsAs, FaultsOf}
 use Rattle.run_script.specs.inner.Player.{Represents}
@@ -34,6 +35,12 @@ abbrev pub TakesBytes : Run → Result (Unit {0}) Halt → Script → List ℕ �
 TakesBytes run (Ok done) script bytes state = HasTaken run script bytes state
 TakesBytes run (Err reason) script bytes state =
     (part rest : List ℕ) × (bytes ≡ part ++ rest) × HaltsAt run reason script.lines (record { bytes = part; ended = false }) state
+
+-- all of the bytes were taken, or the run ends within them
+abbrev pub TakesPiece : Run → Result (Unit {0}) Ending → Script → List ℕ → SinkState → Type 0
+TakesPiece run (Ok done) script bytes state = HasTaken run script bytes state
+TakesPiece run (Err ending) script bytes state =
+    (reason : Halt) × (ending ≡ ending_of reason script.lines) × TakesBytes run (Err reason) script bytes state
 
 -- all of the bytes were taken, and `left` more are allowed; or the run ends within them, which is no fault of the input
 abbrev pub ReadsOn : Run → Result ℕ Ending → Script → List ℕ → SinkState → Type 0

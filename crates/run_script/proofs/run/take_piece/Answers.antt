@@ -1,17 +1,23 @@
 use Rattle.std.proofs.Common.{◌++◌, false, refl, sym, subst, length-append, arith}
 use Rattle.std.proofs.lemmas.List.{take_all}
+use Rattle.std.proofs.lemmas.Result.{err_from_is_err_and}
 use Rattle.history_model.specs.declared.limits.TheConstants.{MAX_INPUT_BYTES}
 use Rattle.history_model.specs.scripts.Input.{received}
 use Rattle.run_script.specs.Script.{IsDone}
-use Rattle.run_script.specs.Run.{EndsAs, FaultsOf}
-use Rattle.run_script.proofs.Growth.{reading_of}
-use Rattle.run_script.proofs.Endings.{taken_done, halted, no_fault, cut_at_limit}
+use Rattle.run_script.proofs.Endings.{taken_done, piece_halted, cut_at_limit}
 use Rattle.run_script.proofs.run.take_piece.Goals as goal
 
-pub returns-in-Ok-clause-reads : goal.returns-in-Ok-clause-reads
-returns-in-Ok-clause-reads g c = λ run bytes taken exact.
+pub returns-in_err-take-clause-reads : goal.returns-in_err-take-clause-reads
+returns-in_err-take-clause-reads g c = λ run bytes taken exact.
+    let p = err_from_is_err_and c.from_residual.result c.from_residual.ensures.1 in
+    rw (p.1, p.2)
+    (piece_halted run c.take.new.self c.in_err-take.field-0.0 (bytes ++ c.args.piece.now) _ _ (cut_at_limit bytes c.args.piece.now c.args.left exact)
+    (c.in_err-take.ensures.takes run bytes taken))
+
+pub returns-then-piece-left-clause-reads : goal.returns-then-piece-left-clause-reads
+returns-then-piece-left-clause-reads g c = λ run bytes taken exact.
     let piece = c.args.piece.now in
-    let takes = c.in-Ok.ensures.takes run bytes taken in (
+    let takes = c.in_ok-take.ensures.takes run bytes taken in (
       (
         omega (arith, length-append bytes piece, exact, c.if-piece-left.true),
         subst (λ text. IsDone run (received text false) (g.K.Sink.state c.take.new.out)) (sym (cut_at_limit bytes piece c.args.left exact))
@@ -20,28 +26,18 @@ returns-in-Ok-clause-reads g c = λ run bytes taken exact.
       λ faults. refl,
     )
 
-pub returns-in-Err-clause-reads : goal.returns-in-Err-clause-reads
-returns-in-Err-clause-reads g c = λ run bytes taken exact.
-    let piece = c.args.piece.now in (
-      subst (λ e. EndsAs run e (reading_of (bytes ++ piece) false) (g.K.Sink.state c.take.new.out)) (sym c.ending.ensures)
-          (halted run c.take.new.self c.in-Err.halt (bytes ++ piece) _ _ (cut_at_limit bytes piece c.args.left exact)
-          (c.in-Err.ensures.takes run bytes taken)),
-      λ faults. subst (λ e. FaultsOf e faults faults) (sym c.ending.ensures) (no_fault c.in-Err.halt c.take.new.self.lines faults),
-    )
+pub returns-in_err-take-2-clause-reads : goal.returns-in_err-take-2-clause-reads
+returns-in_err-take-2-clause-reads g c = λ run bytes taken exact.
+    let p = err_from_is_err_and c.from_residual-in_err-take-2.result c.from_residual-in_err-take-2.ensures.1 in
+    let piece = c.args.piece.now in
+    rw (p.1, p.2)
+    (piece_halted run c.take-2.new.self c.in_err-take-2.field-0.0 (bytes ++ piece) _ _
+    (take_all MAX_INPUT_BYTES (bytes ++ piece) (omega (arith, length-append bytes piece, exact, c.if-piece-left.false)))
+    (c.in_err-take-2.ensures.takes run bytes taken))
 
-pub returns-in-Err-take-clause-reads : goal.returns-in-Err-take-clause-reads
-returns-in-Err-take-clause-reads g c = λ run bytes taken exact.
-    let piece = c.args.piece.now in (
-      subst (λ e. EndsAs run e (reading_of (bytes ++ piece) false) (g.K.Sink.state c.take-2.new.out)) (sym c.ending-in-Err-take.ensures)
-          (halted run c.take-2.new.self c.in-Err-take.halt (bytes ++ piece) _ _
-          (take_all MAX_INPUT_BYTES (bytes ++ piece) (omega (arith, length-append bytes piece, exact, c.if-piece-left.false)))
-          (c.in-Err-take.ensures.takes run bytes taken)),
-      λ faults. subst (λ e. FaultsOf e faults faults) (sym c.ending-in-Err-take.ensures) (no_fault c.in-Err-take.halt c.take-2.new.self.lines faults),
-    )
-
-pub returns-in-Ok-take-clause-reads : goal.returns-in-Ok-take-clause-reads
-returns-in-Ok-take-clause-reads g c = λ run bytes taken exact.
+pub returns-clause-reads : goal.returns-clause-reads
+returns-clause-reads g c = λ run bytes taken exact.
     let piece = c.args.piece.now in (
       omega (arith, length-append bytes piece, exact, c.if-piece-left.false),
-      c.in-Ok-take.ensures.takes run bytes taken,
+      c.in_ok-take-2.ensures.takes run bytes taken,
     )

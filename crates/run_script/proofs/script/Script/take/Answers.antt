@@ -1,24 +1,24 @@
 use Rattle.std.proofs.Common.{◌<◌, ◌+◌, ◌++◌, take, drop, length, ap, ◌∙◌, subst, arith, append_assoc}
 use Rattle.std.specs.Prelude.{Err}
 use Rattle.std.proofs.lemmas.List.{take_all, take-append-drop}
-use Rattle.std.proofs.lemmas.Result.{err_from_is_err_and}
 use Rattle.run_script.specs.inner.Taken.{HasTaken, TakesBytes}
 use Rattle.run_script.proofs.Growth.{bytes_more, stopped_before}
 use Rattle.run_script.proofs.script.Script.take.Goals as goal
 
-pub returns-in_err-take_byte-clause-takes : goal.returns-in_err-take_byte-clause-takes
-returns-in_err-take_byte-clause-takes g c = λ run bytes taken.
-    let p = err_from_is_err_and c.from_residual.result c.from_residual.ensures.1 in
-    let reason = c.in_err-take_byte.field-0.0 in
+pub returns-in-Err-clause-takes : goal.returns-in-Err-clause-takes
+returns-in-Err-clause-takes g c = λ run bytes taken.
+    let reason = c.in-Err.halt in
     let piece = c.args.piece.now in
     let i = c.loop-byte.byte-index in
     let inside : i < length piece = omega arith in
-    let stops = c.in_err-take_byte.ensures.takes run (bytes ++ take i piece) (c.loop-byte.invariant.taken run bytes taken) in
-    rw (p.1, p.2)
-    (subst (λ all. TakesBytes run (Err reason) c.take_byte.new.self all (g.K.Sink.state c.take_byte.new.out))
-    (append_assoc bytes (take (i + 1) piece) (drop (i + 1) piece) ∙ ap (λ l. bytes ++ l) (take-append-drop (i + 1) piece))
-    (stopped_before run reason c.take_byte.new.self (bytes ++ take (i + 1) piece) (drop (i + 1) piece) _
-    (subst (λ text. TakesBytes run (Err reason) c.take_byte.new.self text (g.K.Sink.state c.take_byte.new.out)) (bytes_more bytes piece i inside) stops)))
+    let stops = c.in-Err.ensures.takes run (bytes ++ take i piece) (c.loop-byte.invariant.taken run bytes taken) in (
+      reason,
+      c.ending.ensures,
+      subst (λ all. TakesBytes run (Err reason) c.take_byte.new.self all (g.K.Sink.state c.take_byte.new.out))
+          (append_assoc bytes (take (i + 1) piece) (drop (i + 1) piece) ∙ ap (λ l. bytes ++ l) (take-append-drop (i + 1) piece))
+          (stopped_before run reason c.take_byte.new.self (bytes ++ take (i + 1) piece) (drop (i + 1) piece) _
+          (subst (λ text. TakesBytes run (Err reason) c.take_byte.new.self text (g.K.Sink.state c.take_byte.new.out)) (bytes_more bytes piece i inside) stops)),
+    )
 
 pub loop-byte-preserved : goal.loop-byte-preserved
 loop-byte-preserved g c = record {
@@ -29,7 +29,7 @@ loop-byte-preserved g c = record {
       let i = c.loop-byte.byte-index in
       let inside : i < length piece = omega arith in
       subst (λ text. HasTaken run c.take_byte.new.self text (g.K.Sink.state c.take_byte.new.out)) (bytes_more bytes piece i inside)
-      (c.in_ok-take_byte.ensures.takes run (bytes ++ take i piece) (c.loop-byte.invariant.taken run bytes taken));
+      (c.in-Ok.ensures.takes run (bytes ++ take i piece) (c.loop-byte.invariant.taken run bytes taken));
 }
 
 pub returns-clause-takes : goal.returns-clause-takes

@@ -1,0 +1,32 @@
+-- The outcome of a command line, before the line of its fault is written.
+use Rattle.std.specs.Prelude.{◌≡◌, ◌⊎◌, Result, Ok, Err, List, ℕ}
+use Rattle.history_model.specs.scripts.History.{Playout}
+use Rattle.server_setup.specs.declared.setup.ServerSetup.{ServerSetup}
+use Rattle.server_setup.specs.declared.fault.RunFault.{RunFault}
+use Rattle.server_setup.specs.Setup.{SetsUp}
+use Rattle.run_script.specs.declared.ending.Ending.{Ending}
+use Rattle.run_script.specs.Ending.{fault_in, fault_of}
+use Rattle.run_script.specs.CommandLine.{CommandLine, Plain, Configured}
+use Rattle.run_script.specs.Run.{Streams, RunsScript}
+use Rattle.run_script.specs.Program.{Outside, streams_of, plain_playout, playout_of}
+
+-- a script was run, with this outcome
+pub record HasRun (playout : Playout) (outcome : Result (Unit {0}) RunFault) (before after : Streams) : Type 0 where
+  pub ending : Ending
+  pub fault : fault_in outcome ≡ fault_of ending
+  pub run : RunsScript playout ending before after
+
+-- nothing was set up from the configuration of this path, and nothing was read or written after it
+abbrev pub RefusesPath : List ℕ → Result (Unit {0}) RunFault → Outside → Outside → Type 0
+RefusesPath path (Ok done) before after = ⊥
+RefusesPath path (Err fault) before after =
+    SetsUp path (Err fault) before.media after.media × (after.input ≡ before.input) × (after.out ≡ before.out)
+
+-- what a command line names was set up and run, or could not be set up
+abbrev pub PlaysCommandLine : CommandLine → Result (Unit {0}) RunFault → Outside → Outside → Type 0
+PlaysCommandLine (Plain size) outcome before after =
+    (after.media ≡ before.media) × HasRun (plain_playout size) outcome (streams_of before) (streams_of after)
+PlaysCommandLine (Configured path digests) outcome before after =
+    RefusesPath path outcome before after
+    ⊎ ((setup : ServerSetup) × SetsUp path (Ok setup) before.media after.media
+    × HasRun (playout_of setup digests) outcome (streams_of before) (streams_of after))

@@ -12,7 +12,7 @@ use Rattle.play_types.specs.ClipFile.{ClipView}
 use Rattle.play_types.specs.declared.clip_fault.ClipFault.{ClipFault}
 use Rattle.clip_format.specs.Table.{Entry, IsBelow, IsAbove, IsRising, IsReady, IsMediaTable}
 use Rattle.clip_format.specs.Shown.{entry_of, entries_of}
-use Rattle.clip_format.specs.declared.table.TheConstants.{MAX_ENTRIES}
+use Rattle.play_types.specs.declared.media.TheConstants.{MAX_MEDIA_NAMES}
 
 differs : (k x : String Global) (same : Bool) → string_eq k x ≡ same → IsBelow (chars (string_bytes x)) (chars (string_bytes k)) → string_eq k x ≡ false
 differs k x false e below = e
@@ -43,7 +43,7 @@ IsRising-append (x ∷ xs) e rising above =
     (all_append_one (λ later. IsBelow x.name later.name) xs e rising.0 (above 0 x (omega arith)), IsRising-append xs e rising.1 (λ i d lt. above (suc i) d (omega arith)))
 
 -- a table and an entry above it are a table
-pub IsMediaTable-append : (es : List Entry) (e : Entry) → IsMediaTable es → length es < MAX_ENTRIES → IsAbove e.name es → IsReady e.clip → IsMediaTable (es ++ e ∷ [])
+pub IsMediaTable-append : (es : List Entry) (e : Entry) → IsMediaTable es → length es < MAX_MEDIA_NAMES → IsAbove e.name es → IsReady e.clip → IsMediaTable (es ++ e ∷ [])
 IsMediaTable-append es e table few above ready = record {
   few = omega (arith, length-append es (e ∷ []));
   rising = IsRising-append es e table.rising above;

@@ -8,7 +8,7 @@ use Rattle.play_types.specs.Media.{MediaNameView, clip_name, unreadable_name}
 use Rattle.play_types.specs.declared.clip_fault.ClipFault.{ClipFault}
 use Rattle.play_types.specs.declared.clip_fault.ClipFault.TheVariants.{OutOfMemory}
 use Rattle.clip_format.specs.Lowering.{IsLowered}
-use Rattle.clip_format.specs.declared.table.TheConstants.{MAX_ENTRIES}
+use Rattle.play_types.specs.declared.media.TheConstants.{MAX_MEDIA_NAMES}
 
 -- a name and its clip, or the fault of its file
 pub record Entry : Type 0 where
@@ -35,7 +35,7 @@ IsReady (Err fault) = fault ≢ OutOfMemory
 
 -- the entries of a table: at most 4,294,967,295, their names rising, and their clips lowered
 pub record IsMediaTable (entries : List Entry) : Type 0 where
-  pub few : length entries ≤ MAX_ENTRIES
+  pub few : length entries ≤ MAX_MEDIA_NAMES
   pub rising : IsRising entries
   pub ready : All (λ entry. IsReady entry.clip) entries
 

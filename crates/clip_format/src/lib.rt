@@ -18,7 +18,7 @@ mod table;
 
 pub use decoding::decode;
 pub use encoding::encode;
-pub use table::{MAX_ENTRIES, MediaTable};
+pub use table::MediaTable;
 
 #[cfg(test)]
 mod tests;

@@ -3,15 +3,12 @@ ghost use Rattle.std.specs.Prelude.{◌≡◌, ◌==◌, ◌<◌, ◌∷◌, ◌
 ghost use Rattle.std.specs.Str.{chars};
 ghost use Rattle.clip_format.specs.Lowering.{IsLowered};
 ghost use Rattle.clip_format.specs.Table.{IsAbove, IsMediaTable, IsReady, clip_at, media_name, media_names};
-ghost use Rattle.clip_format.specs.declared.table.TheConstants.{MAX_ENTRIES};
+ghost use Rattle.play_types.specs.declared.media.TheConstants.{MAX_MEDIA_NAMES};
 
 use indexmap::IndexMap;
 use play_types::{Clip, ClipFault, MediaName, MediaNames, Text};
 use std::alloc::{AllocError, Global};
 use std::marker::Model;
-
-/// The most entries of a media table.
-pub const MAX_ENTRIES: usize = 4_294_967_295;
 
 /// Names in rising order of their bytes, each with its clip, or with the fault of a file that is no clip. A clip's
 /// number is its position, from 0.
@@ -47,7 +44,7 @@ impl MediaTable {
     /// Adds an entry at the end. Where memory runs out, the table is as before.
     pub fn add(&mut self, name: Text, clip: Result<Clip, ClipFault>) -> Result<(), AllocError>
         requires above { IsAbove name self.old }
-        requires few { length self.old < MAX_ENTRIES }
+        requires few { length self.old < MAX_MEDIA_NAMES }
         requires ready { IsReady clip }
         ensures ok { OnOk result (self.new ≡ self.old ++ record { name = name; clip = clip } ∷ []) }
         ensures err { OnErr result (self.new ≡ self.old) }

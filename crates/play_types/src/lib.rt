@@ -37,7 +37,7 @@ pub use config::{Channel, ChannelList, Config, MAX_CONNECTIONS, MAX_JOURNAL_COMM
 pub use drawn::{Drawn, Still};
 pub use event::{Event, MAX_TICKS, Tag};
 pub use geometry::{Geometry, MAX_PAIRS, MAX_SIDE};
-pub use media::{MediaName, MediaNames};
+pub use media::{MAX_MEDIA_NAMES, MediaName, MediaNames};
 pub use parsed::{Parsed, Refusal};
 pub use place::{MAX_CHANNELS, MAX_LAYER, MAX_LIVE_LAYERS, Place};
 pub use reply::{Name, Reply};

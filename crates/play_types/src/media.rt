@@ -2,6 +2,7 @@
 ghost use Rattle.std.specs.Prelude.{◌≡◌, ◌==◌, ◌<◌, ◌≤◌, ◌↔◌, ◌∷◌, ◌++◌, [], length, All, IsSome, IfSome, OnOk, OnErr, option_copied, slice_get};
 ghost use Rattle.std.specs.Slice.Iter.{iter_rest};
 ghost use Rattle.play_types.specs.Media.{AreClipNumbers, IsMediaName, clip_name, unreadable_name};
+ghost use Rattle.play_types.specs.declared.media.TheConstants.{MAX_MEDIA_NAMES};
 
 use crate::clip::MAX_FRAMES;
 use crate::geometry::Geometry;
@@ -9,6 +10,9 @@ use crate::text::Text;
 use std::alloc::{AllocError, Global};
 use std::marker::Model;
 use std::slice;
+
+/// The most clips that a media table may have.
+pub const MAX_MEDIA_NAMES: usize = 4_294_967_295;
 
 /// The name of a clip, with its size and its frames. A clip that is not readable has its numbers 0.
 #[derive(Debug, Drop)]
@@ -123,12 +127,13 @@ pub struct MediaNames {
 impl Model for MediaNames {
     ghost use Rattle.std.specs.Prelude.{List, ◌≤◌, length, All};
     ghost use Rattle.play_types.specs.Media.{MediaNameView, IsMediaName};
+    ghost use Rattle.play_types.specs.declared.media.TheConstants.{MAX_MEDIA_NAMES};
 
     ghost Value = { List MediaNameView };
 
     ghost view = { λ l. l.names.items };
 
-    ghost invariant = { λ l. (length l.names.items ≤ 4294967295) × All IsMediaName l.names.items };
+    ghost invariant = { λ l. (length l.names.items ≤ MAX_MEDIA_NAMES) × All IsMediaName l.names.items };
 }
 
 impl MediaNames {
@@ -143,7 +148,7 @@ impl MediaNames {
 
     /// Adds a name at the end. Where memory runs out, the list stays as it was.
     pub fn push(&mut self, name: MediaName) -> Result<(), AllocError>
-        requires { length self.old < 4294967295 }
+        requires { length self.old < MAX_MEDIA_NAMES }
         ensures ok { OnOk result (self.new ≡ self.old ++ name ∷ []) }
         ensures err { OnErr result (self.new ≡ self.old) }
     {
@@ -156,7 +161,7 @@ impl MediaNames {
     /// Returns the number of names, at most 4,294,967,295.
     pub fn len(&self) -> usize
         ensures value { result ≡ length self.now }
-        ensures range { length self.now ≤ 4294967295 }
+        ensures range { length self.now ≤ MAX_MEDIA_NAMES }
         ensures names { All IsMediaName self.now }
     {
         self.names.len()

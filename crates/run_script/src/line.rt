@@ -5,7 +5,7 @@ ghost use Rattle.history_model.specs.scripts.Line.{addressed_parts, after_t, aft
 ghost use Rattle.run_script.specs.inner.Line.{line_view, parts_view};
 
 use amcp_text::{number_within, plain_number_within};
-use history_model::{MAX_SCRIPT_LINE_BYTES, MAX_TICKS_PER_LINE};
+use history_model::{MAX_SCRIPT_LINE_BYTES, MAX_SESSION, MAX_TICKS_PER_LINE, MAX_WORKER};
 use play_types::Tag;
 
 /// What a line says.
@@ -91,8 +91,8 @@ fn said_line(line: &[u8]) -> Line<'_>
 fn tag_of(worker: &[u8], session: &[u8]) -> Option<Tag>
     ensures { result ≡ tag_of worker.now session.now }
 {
-    let worker = plain_number_within(1, 65_535, worker)?;
-    let session = plain_number_within(1, u32::MAX, session)?;
+    let worker = plain_number_within(1, MAX_WORKER, worker)?;
+    let session = plain_number_within(1, MAX_SESSION, session)?;
     Some(Tag { worker, session })
 }
 

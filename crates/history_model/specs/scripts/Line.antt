@@ -1,7 +1,7 @@
 -- Scripts: lines of connections and of ticks, in the order in which they happen.
 use Rattle.std.specs.Prelude.{ℕ, ◌==◌, nat_lt, if◌then◌else◌, Option, Some, None, option_map, option_and_then, List, [], ◌∷◌, length}
 use Rattle.play_types.specs.declared.event.Tag.{Tag}
-use Rattle.history_model.specs.declared.limits.TheConstants.{MAX_SCRIPT_LINE_BYTES, MAX_TICKS_PER_LINE}
+use Rattle.history_model.specs.declared.limits.TheConstants.{MAX_SCRIPT_LINE_BYTES, MAX_SESSION, MAX_TICKS_PER_LINE, MAX_WORKER}
 use Rattle.history_model.specs.text.Parts.{parts_at}
 use Rattle.amcp_text.specs.Numbers.{number_within, plain_number_within}
 
@@ -27,8 +27,8 @@ addressed_parts line =
 abbrev pub tag_of : List ℕ → List ℕ → Option Tag
 tag_of worker session =
     option_and_then
-    (λ (w : ℕ). option_map (λ (s : ℕ). record { worker = w; session = s }) (plain_number_within 1 4294967295 session))
-    (plain_number_within 1 65535 worker)
+    (λ (w : ℕ). option_map (λ (s : ℕ). record { worker = w; session = s }) (plain_number_within 1 MAX_SESSION session))
+    (plain_number_within 1 MAX_WORKER worker)
 
 -- a line of the connection, where the tag is one
 abbrev pub said_by : List ℕ → Option Tag → ScriptLine

@@ -2,6 +2,7 @@ pub mod ClipFiles
 pub mod Columns
 pub mod Histories
 pub mod Kept
+pub mod Layers
 pub mod Letters
 pub mod Numbers
 pub mod Texts

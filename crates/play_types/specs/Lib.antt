@@ -13,4 +13,5 @@ pub mod Geometry
 pub mod ClipFile
 pub mod Media
 pub mod Config
+pub mod Scene
 pub mod Worked

@@ -1,0 +1,4 @@
+pub mod Blocks
+pub mod Determined
+pub mod Kept
+pub mod Reading

@@ -1,0 +1,5 @@
+pub mod Journal
+pub mod Runs
+pub mod Reading
+pub mod Kept
+pub mod Worked

@@ -1,0 +1,123 @@
+//! The commands of a journal, with the ticks before each.
+ghost use Rattle.std.specs.Prelude.{◌≡◌, ◌∷◌, ◌++◌, [], IfOk, OnOk, OnErr};
+ghost use Rattle.std.specs.Iterator.{YieldsFirstRef, item_count};
+ghost use Rattle.std.specs.List.{flat_map};
+
+use play_types::Event;
+use std::alloc::{AllocError, Global};
+use std::marker::Model;
+
+/// The number of entries of a block.
+const BLOCK_ENTRIES: usize = 1_024;
+
+/// A command or a batch, after `ticks` ticks that follow the event before it.
+#[derive(Debug, Drop)]
+pub(crate) struct Entry {
+    pub(crate) ticks: u64,
+    pub(crate) event: Event,
+}
+
+// An entry has at most the bytes that a command of a journal may take.
+const _: () = prove!(size_of::<Entry>() <= 80);
+
+/// Entries in order. They lie in blocks of one size, which are not moved when entries are added.
+#[derive(Debug, Drop)]
+pub(crate) struct EntryList {
+    blocks: Vec<Vec<Entry>>,
+}
+
+impl Model for EntryList {
+    ghost use Rattle.std.specs.Prelude.{List};
+    ghost use Rattle.std.specs.List.{flat_map};
+    ghost use Rattle.play_journal.specs.declared.entries.Entry.{Entry};
+
+    ghost Value = { List Entry };
+
+    ghost view = { λ l. flat_map (λ block. block.items) l.blocks.items };
+}
+
+impl EntryList {
+    /// Returns a list without entries that has room for the blocks of `most` entries. Their memory is taken block by
+    /// block.
+    pub(crate) fn new(alloc: Global, most: usize) -> Result<EntryList, AllocError>
+        ensures { IfOk result (λ entries. entries ≡ []) }
+    {
+        Ok(EntryList {
+            blocks: Vec::with_capacity(alloc, most / BLOCK_ENTRIES + 1)?,
+        })
+    }
+
+    /// Adds an entry at the end. Where memory runs out, the list is as before.
+    pub(crate) fn push(&mut self, alloc: Global, entry: Entry) -> Result<(), AllocError>
+        ensures ok { OnOk result (self.new ≡ self.old ++ entry ∷ []) }
+        ensures err { OnErr result (self.new ≡ self.old) }
+    {
+        push_entry(&mut self.blocks, alloc, entry)
+    }
+
+    /// Returns the entries in order.
+    pub(crate) fn iter(&self) -> Entries<'_>
+        ensures { result ≡ self.now }
+    {
+        Entries {
+            entries: &[],
+            blocks: self.blocks.as_slice(),
+        }
+    }
+}
+
+/// Adds an entry to the last block, or where that is full or there is none, to a new one.
+fn push_entry(blocks: &mut Vec<Vec<Entry>>, alloc: Global, entry: Entry) -> Result<(), AllocError>
+    ensures ok { OnOk result (flat_map (λ block. block.items) blocks.new.items
+        ≡ flat_map (λ block. block.items) blocks.old.items ++ entry ∷ []) }
+    ensures err { OnErr result (flat_map (λ block. block.items) blocks.new.items
+        ≡ flat_map (λ block. block.items) blocks.old.items) }
+{
+    if let Some(block) = blocks.last_mut()
+        && block.len() < BLOCK_ENTRIES
+    {
+        block.push(entry)?;
+        return Ok(());
+    }
+    let mut block = Vec::with_capacity(alloc, BLOCK_ENTRIES)?;
+    block.push(entry)?;
+    blocks.push(block)?;
+    Ok(())
+}
+
+/// The entries that are left, in order: those of a block, and then those of further blocks.
+#[derive(Debug, Drop)]
+pub(crate) struct Entries<'a> {
+    entries: &'a [Entry],
+    blocks: &'a [Vec<Entry>],
+}
+
+impl<'a> Model for Entries<'a> {
+    ghost use Rattle.std.specs.Prelude.{List, ◌++◌};
+    ghost use Rattle.std.specs.List.{flat_map};
+    ghost use Rattle.play_journal.specs.declared.entries.Entry.{Entry};
+
+    ghost Value = { List Entry };
+
+    ghost view = { λ it. it.entries.now ++ flat_map (λ block. block.items) it.blocks.now };
+}
+
+impl<'a> Iterator for Entries<'a> {
+    type Item = &'a Entry;
+
+    ghost next_gives = { YieldsFirstRef (λ rest. rest) };
+
+    ghost remaining = { item_count (λ rest. rest) };
+
+    fn next(&mut self) -> Option<&'a Entry> {
+        loop {
+            if let Some((entry, entries)) = self.entries.split_first() {
+                self.entries = entries;
+                return Some(entry);
+            }
+            let (block, blocks) = self.blocks.split_first()?;
+            self.entries = block.as_slice();
+            self.blocks = blocks;
+        }
+    }
+}

@@ -1,0 +1,26 @@
+//! Worked examples of the definitions in `specs/`, which the checker computes.
+ghost use Rattle.std.specs.Prelude.{◌∷◌, []};
+ghost use Rattle.play_types.specs.declared.event.Event.TheVariants.{Do, Stop, Tick};
+ghost use Rattle.play_journal.specs.Journal.{IsRefused};
+ghost use Rattle.play_journal.specs.Runs.{AreRuns};
+ghost use Rattle.play_journal.specs.Worked.{full, once, three_ticks, two_ticks};
+
+use crate::fault::PushFault;
+use play_types::{Cmd, Tag};
+
+/// The runs of two ticks, a command, three ticks and the stop.
+pub fn runs_of_events(tag: Tag, cmd: Cmd)
+    ensures none { AreRuns [] [] }
+    ensures runs { AreRuns (two_ticks ∷ once (Do tag cmd) ∷ three_ticks ∷ once (Stop tag) ∷ [])
+        (Tick ∷ Tick ∷ Do tag cmd ∷ Tick ∷ Tick ∷ Tick ∷ Stop tag ∷ []) }
+    ensures twice { AreRuns (once (Do tag cmd) ∷ once (Do tag cmd) ∷ []) (Do tag cmd ∷ Do tag cmd ∷ []) }
+    ensures not_merged { AreRuns (once Tick ∷ once Tick ∷ []) (Tick ∷ Tick ∷ []) → ⊥ }
+    ensures tick_left_out { AreRuns (two_ticks ∷ []) (Tick ∷ Tick ∷ Tick ∷ []) → ⊥ }
+{}
+
+/// A journal of two commands at most that holds two: one more command is too many.
+pub fn refusals(tag: Tag, cmd: Cmd)
+    ensures refused { IsRefused (full tag cmd) 1 (PushFault.JournalFull 2) }
+    ensures another_number { IsRefused (full tag cmd) 1 (PushFault.JournalFull 3) → ⊥ }
+    ensures full_before_memory { IsRefused (full tag cmd) 1 PushFault.OutOfMemory → ⊥ }
+{}

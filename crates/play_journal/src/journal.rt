@@ -1,0 +1,156 @@
+//! The journal of a stage.
+ghost use Rattle.std.specs.Prelude.{◌≡◌, ◌+◌, ◌<◌, ◌≤◌, [], IfOk, IfErr, OnOk, OnErr, None};
+ghost use Rattle.play_types.specs.History.{held, stop_at, ticks};
+ghost use Rattle.play_types.specs.declared.event.Event.TheVariants.{Do, Stop, Tick};
+ghost use Rattle.play_types.specs.declared.event.TheConstants.{MAX_TICKS};
+ghost use Rattle.play_journal.specs.Journal.{IsJournal, IsRefused, followed_by};
+ghost use Rattle.play_journal.specs.Runs.{AreRuns};
+
+use crate::entries::{Entry, EntryList};
+use crate::events::Events;
+use crate::fault::PushFault;
+use play_types::{Cmd, Event, Tag};
+use std::alloc::{AllocError, Global};
+use std::marker::Model;
+
+/// The events that have happened, in order.
+///
+/// Each command takes one entry of 80 bytes, in which the number of the ticks before it stands too. The entries lie in
+/// blocks of 1,024, which are never moved and of which at most one is not full, and the room for the list of the blocks
+/// is taken when the journal is created. So a journal that holds 4,194,304 commands takes at most 321 MiB, also while it
+/// grows, and each push takes a bounded number of steps. Ticks and the stop stand in the journal itself and take no
+/// further memory.
+#[derive(Debug, Drop)]
+pub struct Journal {
+    limit: u32,
+    held: u32,
+    ticks: u64,
+    // The number of events before the stop.
+    before: u64,
+    entries: EntryList,
+    // The ticks after the last entry.
+    after: u64,
+    stop: Option<Event>,
+    // A tick, which the runs of ticks lend.
+    tick: Event,
+}
+
+impl Model for Journal {
+    ghost use Rattle.std.specs.Prelude.{◌≡◌};
+    ghost use Rattle.play_types.specs.declared.event.Event.TheVariants.{Tick};
+    ghost use Rattle.play_journal.specs.Journal.{JournalView};
+    ghost use Rattle.play_journal.specs.Kept.{AreCounted, kept_events};
+
+    ghost Value = { JournalView };
+
+    ghost view = { λ j. record { limit = j.limit; events = kept_events j.entries j.after j.stop } };
+
+    ghost invariant = { λ j. AreCounted (record { limit = j.limit; held = j.held; ticks = j.ticks; before = j.before }) j.entries j.after j.stop × (j.tick ≡ Tick) };
+}
+
+impl Journal {
+    /// Creates a journal without events. `limit` is the most commands that it may hold.
+    pub fn new(alloc: Global, limit: u32) -> Result<Journal, AllocError>
+        ensures { IfOk result (λ journal. journal ≡ record { limit = limit; events = [] }) }
+    {
+        Ok(Journal {
+            limit,
+            held: 0,
+            ticks: 0,
+            before: 0,
+            entries: EntryList::new(alloc, limit as usize)?,
+            after: 0,
+            stop: None,
+            tick: Event::Tick,
+        })
+    }
+
+    /// Adds a command at the end. It is refused where the commands held and this one are more than the limit, which is
+    /// tested first, and where memory runs out. After a fault the journal is as before. No stop may be held.
+    pub fn push(&mut self, alloc: Global, tag: Tag, cmd: Cmd) -> Result<(), PushFault>
+        requires { stop_at self.old.events ≡ None }
+        ensures ok { OnOk result (self.new ≡ followed_by (Do tag cmd) self.old) }
+        ensures room { OnOk result (held self.old.events + 1 ≤ self.old.limit) }
+        ensures err { OnErr result (self.new ≡ self.old) }
+        ensures fault { IfErr result (λ fault. IsRefused self.old 1 fault) }
+    {
+        if self.held >= self.limit {
+            return Err(PushFault::JournalFull { held: self.held });
+        }
+        let entry = Entry {
+            ticks: self.after,
+            event: Event::Do(tag, cmd),
+        };
+        self.entries.push(alloc, entry)?;
+        self.after = 0;
+        self.held += 1;
+        self.before += 1;
+        Ok(())
+    }
+
+    /// Adds a tick at the end. No stop may be held, and fewer than 281,474,976,710,656 ticks. It takes no memory.
+    pub fn push_tick(&mut self)
+        requires running { stop_at self.old.events ≡ None }
+        requires time { ticks self.old.events < MAX_TICKS }
+        ensures { self.new ≡ followed_by Tick self.old }
+    {
+        self.after += 1;
+        self.ticks += 1;
+        self.before += 1;
+    }
+
+    /// Adds the stop at the end. No stop may be held. It takes no memory.
+    pub fn push_stop(&mut self, tag: Tag)
+        requires { stop_at self.old.events ≡ None }
+        ensures { self.new ≡ followed_by (Stop tag) self.old }
+    {
+        self.stop = Some(Event::Stop(tag));
+    }
+
+    /// Returns the events in order. A run of ticks, as long as possible, is one item, and each other event is one.
+    pub fn events(&self) -> Events<'_>
+        ensures { AreRuns result self.now.events }
+    {
+        Events::new(
+            &self.tick,
+            self.entries.iter(),
+            self.after,
+            self.stop.as_ref(),
+        )
+    }
+
+    /// Returns the number of commands held, at most the limit. Ticks and the stop are no commands.
+    pub fn held(&self) -> u32
+        ensures value { result ≡ held self.now.events }
+        ensures range { IsJournal self.now }
+    {
+        self.held
+    }
+
+    /// Returns the number of ticks held, at most 281,474,976,710,656.
+    pub fn ticks(&self) -> u64
+        ensures value { result ≡ ticks self.now.events }
+        ensures range { IsJournal self.now }
+    {
+        self.ticks
+    }
+
+    /// Returns the position of the stop, which is the number of events before it, and `None` exactly where no stop is
+    /// held.
+    pub fn stopped(&self) -> Option<u64>
+        ensures value { result ≡ stop_at self.now.events }
+        ensures range { IsJournal self.now }
+    {
+        match self.stop {
+            Some(_) => Some(self.before),
+            None => None,
+        }
+    }
+
+    /// Returns the most commands that the journal may hold.
+    pub fn limit(&self) -> u32
+        ensures { result ≡ self.now.limit }
+    {
+        self.limit
+    }
+}

@@ -12,3 +12,4 @@ pub mod Streams
 pub mod Asking
 pub mod Aiming
 pub mod Sessions
+pub mod places

@@ -5,3 +5,4 @@ pub mod Raster
 pub mod Placing
 pub mod Frame
 pub mod Sound
+pub mod PlainScene

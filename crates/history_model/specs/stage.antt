@@ -8,3 +8,5 @@ pub mod Live
 pub mod Value
 pub mod Steps
 pub mod Answer
+pub mod Plain
+pub mod Places

@@ -4,5 +4,6 @@ pub mod first_plays;
 pub mod frames;
 pub mod histories;
 pub mod lives;
+pub mod places;
 pub mod placing;
 pub mod trails;

@@ -1,0 +1,118 @@
+-- The live places of a channel as one list, and what plain commands and ticks make of it.
+use Rattle.std.specs.Prelude.{◌≡◌, ℕ, ◌<◌, ◌≤◌, ◌==◌, Bool, true, false, List, [], ◌∷◌, map, nat_lt, length, if◌then◌else◌}
+use Rattle.play_types.specs.Place.{PlaceView}
+use Rattle.play_types.specs.Take.{played}
+use Rattle.play_types.specs.History.{ticks}
+use Rattle.play_types.specs.declared.place.TheConstants.{MAX_LIVE_LAYERS}
+use Rattle.play_types.specs.declared.command.Cmd.{Cmd}
+use Rattle.play_types.specs.declared.command.Cmd.TheVariants.{Load, LoadBg, Play, PlayTake, Pause, Resume, StopLayer, ClearLayer, ClearChannel, SwapLayers, SwapChannels, Set, CommitMixer, ResetLayer, ResetChannel, Value, Info}
+use Rattle.play_types.specs.declared.event.Event.{Event}
+use Rattle.history_model.specs.stage.Act.{Act}
+use Rattle.history_model.specs.stage.Acts.{acts}
+use Rattle.history_model.specs.stage.Life.{Life, after, effect, empty_place}
+use Rattle.history_model.specs.stage.Live.{is_live, live_layers, state}
+
+-- layers, each with what stands there
+abbrev pub Places : Type 0
+Places = List (ℕ × Life)
+
+-- a layer of a channel with what stands there after the acts and `ticks` ticks
+abbrev pub place_at : List Act → ℕ → ℕ → ℕ → ℕ × Life
+place_at acts ticks channel layer = (layer, state acts ticks (record { channel = channel; layer = layer }))
+
+-- the live layers of a channel after the acts and `ticks` ticks, each with what stands there, in rising layer
+abbrev pub live_places : List Act → ℕ → ℕ → Places
+live_places acts ticks channel = map (place_at acts ticks channel) (live_layers acts ticks channel)
+
+-- the live layers of a channel after a history, each with what stands there, in rising layer
+unfoldable pub places : List Event → ℕ → Places
+places history channel = live_places (acts history) (ticks history) channel
+
+-- each layer of the list is above this one
+abbrev pub AreAbove : ℕ → Places → Type 0
+AreAbove layer [] = Unit {0}
+AreAbove layer (place ∷ more) = (layer < place.0) × AreAbove layer more
+
+-- the layers rise, and each place is live
+abbrev pub ArePlaces : Places → Type 0
+ArePlaces [] = Unit {0}
+ArePlaces (place ∷ more) = (is_live place.1 ≡ true) × AreAbove place.0 more × ArePlaces more
+
+-- what the list has at a layer: nothing stands at one that it lacks
+abbrev pub standing : Places → ℕ → Life
+standing [] layer = empty_place
+standing (place ∷ more) layer = if place.0 == layer then place.1 else standing more layer
+
+-- a layer in front of others, left out where it is not live
+abbrev pub in_front : ℕ → Life → Places → Places
+in_front layer life more = if is_live life then (layer, life) ∷ more else more
+
+-- the list where this stands at a layer, and what it had at the others
+abbrev pub with_place : Places → ℕ → Life → Places
+with_place [] layer life = in_front layer life []
+with_place (place ∷ more) layer life =
+    let rest = with_place more layer life in
+    if place.0 == layer then in_front layer life more
+    else (if nat_lt layer place.0 then in_front layer life (place ∷ more) else place ∷ rest)
+
+-- what stands at the place of a command after it
+abbrev pub taken : Cmd → Life → Life
+taken (Load at take) s = effect (Load at take) s
+taken (LoadBg at take) s = effect (LoadBg at take) s
+taken (Play at) s = effect (Play at) s
+taken (PlayTake at take) s = effect (Play at) (effect (LoadBg at (played take)) s)
+taken (Pause at) s = effect (Pause at) s
+taken (Resume at) s = effect (Resume at) s
+taken (StopLayer at) s = effect (StopLayer at) s
+taken (ClearLayer at) s = effect (ClearLayer at) s
+taken (ClearChannel channel) s = effect (ClearChannel channel) s
+taken (SwapLayers a b transforms) s = s
+taken (SwapChannels a b transforms) s = s
+taken (Set setting) s = s
+taken (CommitMixer channel) s = s
+taken (ResetLayer at) s = s
+taken (ResetChannel channel) s = s
+taken (Value at prop) s = s
+taken Info s = s
+
+-- the places of a channel after a command on a place, by those before it
+abbrev pub changed_at : PlaceView → Cmd → ℕ → Places → Places
+changed_at at cmd channel before =
+    if at.channel == channel then with_place before at.layer (taken cmd (standing before at.layer)) else before
+
+-- the places of a channel after a plain command, by those before it
+abbrev pub places_after : Cmd → ℕ → Places → Places
+places_after (Load at take) channel before = changed_at at (Load at take) channel before
+places_after (LoadBg at take) channel before = changed_at at (LoadBg at take) channel before
+places_after (Play at) channel before = changed_at at (Play at) channel before
+places_after (PlayTake at take) channel before = changed_at at (PlayTake at take) channel before
+places_after (Pause at) channel before = changed_at at (Pause at) channel before
+places_after (Resume at) channel before = changed_at at (Resume at) channel before
+places_after (StopLayer at) channel before = changed_at at (StopLayer at) channel before
+places_after (ClearLayer at) channel before = changed_at at (ClearLayer at) channel before
+places_after (ClearChannel cleared) channel before = if cleared == channel then [] else before
+places_after (SwapLayers a b transforms) channel before = before
+places_after (SwapChannels a b transforms) channel before = before
+places_after (Set setting) channel before = before
+places_after (CommitMixer committed) channel before = before
+places_after (ResetLayer at) channel before = before
+places_after (ResetChannel reset) channel before = before
+places_after (Value at prop) channel before = before
+places_after Info channel before = before
+
+-- a layer with what stands there one tick later
+abbrev pub one_tick_later : ℕ × Life → ℕ × Life
+one_tick_later place = (place.0, after place.1 1)
+
+-- acts none of which came after `ticks` ticks
+abbrev pub AreBy : ℕ → List Act → Type 0
+AreBy ticks [] = Unit {0}
+AreBy ticks (act ∷ before) = (act.ticks ≤ ticks) × AreBy ticks before
+
+-- whether the list has more places than a channel may have
+abbrev pub is_over_limit : Places → Bool
+is_over_limit places = nat_lt MAX_LIVE_LAYERS (length places)
+
+-- no channel has too many live places after the acts and `ticks` ticks
+abbrev pub IsWithin : List Act → ℕ → Type 0
+IsWithin acts ticks = (channel : ℕ) → is_over_limit (live_places acts ticks channel) ≡ false

@@ -1,0 +1,4 @@
+pub mod Found
+pub mod Sets
+pub mod Drawing
+pub mod Stages

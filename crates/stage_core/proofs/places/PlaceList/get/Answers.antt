@@ -1,0 +1,23 @@
+use Rattle.std.proofs.Common.{◌≡◌, get_or, sym, ap, ◌∙◌, subst}
+use Rattle.std.proofs.lemmas.List.{get_or_default}
+use Rattle.history_model.specs.stage.Life.{Life, empty_place}
+use Rattle.history_model.specs.stage.Places.{Places, standing}
+use Rattle.stage_core.specs.inner.Found.{IsAt, place_in}
+use Rattle.stage_core.proofs.Found.{standing-absent, standing-found}
+use Rattle.stage_core.proofs.places.PlaceList.get.Goals as goal
+
+-- the layer is at its index
+pub returns-in-Ok : goal.returns-in-Ok
+returns-in-Ok c =
+    let items : Places = c.self.inside.places.items in
+    let at = c.in-Ok.at in
+    let found : IsAt items c.args.layer at = rw c.self.view_is c.in-Ok.ensures.found in
+    let same : get_or items at c.index.result.now ≡ place_in items at =
+    get_or_default items at c.index.result.now (0, empty_place) found.in_range in
+    ap (λ x. x.1) (c.index.ensures ∙ same)
+    ∙ sym (standing-found items c.self.invariant.rising c.args.layer at found)
+    ∙ ap (λ (xs : Places). standing xs c.args.layer) c.self.view_is
+
+-- the layer is not there
+pub returns-in-Err : goal.returns-in-Err
+returns-in-Err c = c.new.ensures.value ∙ sym (standing-absent c.args.self.now c.args.layer c.in-Err.field-0 c.in-Err.ensures.absent)

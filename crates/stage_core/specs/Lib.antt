@@ -1,0 +1,3 @@
+pub mod Stage
+pub mod Kept
+pub mod inner

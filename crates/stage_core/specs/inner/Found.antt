@@ -1,0 +1,27 @@
+-- Where a layer stands in a list of places, and what a list keeps.
+use Rattle.std.specs.Prelude.{◌≡◌, ℕ, ◌<◌, ◌≤◌, length, slice_index_or}
+use Rattle.play_types.specs.declared.place.TheConstants.{MAX_LIVE_LAYERS}
+use Rattle.history_model.specs.stage.Life.{Life, empty_place}
+use Rattle.history_model.specs.stage.Places.{ArePlaces, Places}
+
+-- a list of places with its length and its room: it has no more than a channel may have, and room for all of them
+pub record AreKept (places : Places) (len room : ℕ) : Type 0 where
+  pub rising : ArePlaces places
+  pub counted : length places ≡ len
+  pub few : len ≤ MAX_LIVE_LAYERS
+  pub roomy : MAX_LIVE_LAYERS ≤ room
+
+-- the layer at an index of a list, with what stands there
+abbrev pub place_in : Places → ℕ → ℕ × Life
+place_in places index = slice_index_or places index (0, empty_place)
+
+-- the layer stands at the index
+pub record IsAt (places : Places) (layer index : ℕ) : Type 0 where
+  pub in_range : index < length places
+  pub has_layer : (place_in places index).0 ≡ layer
+
+-- the layer would stand at the index: lower layers stand before it, and higher ones from it on
+pub record IsGapFor (places : Places) (layer index : ℕ) : Type 0 where
+  pub in_range : index ≤ length places
+  pub lower : (other : ℕ) → other < index → (place_in places other).0 < layer
+  pub higher : (other : ℕ) → index ≤ other → other < length places → layer < (place_in places other).0

@@ -8,4 +8,6 @@ pub mod examples;
 pub mod laws;
 mod limits;
 
-pub use limits::{MAX_INPUT_BYTES, MAX_SCRIPT_LINE_BYTES, MAX_SESSION, MAX_TICKS_PER_LINE, MAX_WORKER};
+pub use limits::{
+    MAX_INPUT_BYTES, MAX_SCRIPT_LINE_BYTES, MAX_SESSION, MAX_TICKS_PER_LINE, MAX_WORKER,
+};

@@ -27,7 +27,7 @@ pub pieces_more : {A : Type 0} (f : ℕ → List A) (n : ℕ) (first before afte
 pieces_more f n first before after piece so_far step is =
     rw (step, so_far, is, flat_map-range_more f n, append_assoc) refl
 
--- the bytes of so many columns, or of so many rows, of one length each
+-- the bytes of `count` pieces from the one at `first` on, each of one size
 pub length-pieces : (f : ℕ → List ℕ) (size first count : ℕ) → ((k : ℕ) → length (f k) ≡ size) → length (flat_map f (range_with_len first count)) ≡ size * count
 length-pieces f size first zero each = omega arith
 length-pieces f size first (suc count) each =

@@ -12,7 +12,7 @@ GivesFrom (read.Got count) buffer before after = Consumes before after (take cou
 GivesFrom read.End buffer before after = Keeps before after × IsAtEnd after
 GivesFrom read.Failed buffer before after = Keeps before after
 
--- a write added the front of the piece to the stream that it says it took, or nothing
+-- a write added the prefix of the piece that it says it took to the stream, or nothing
 abbrev pub AddsTo : WriteStep → List ℕ → Option (List ℕ) → Option (List ℕ) → Type 0
 AddsTo (write.Took count) piece before after = Appends before after (take count piece)
 AddsTo write.Failed piece before after = Keeps before after

@@ -1,4 +1,4 @@
-//! `playrun`: a script on standard input, its replies and frames on standard output.
+//! `playrun` plays the script on standard input, and writes its replies and frames to standard output.
 #![tactic(auto)]
 
 mod folder_media;
@@ -15,11 +15,12 @@ use std::process::ExitCode;
 use std_sink::StdSink;
 use std_source::StdSource;
 
+/// Plays a script on the devices of the system, and ends with the status of `run_main`.
 fn main(rt: HostRuntime) -> Result<ExitCode, AllocError> {
     let alloc = rt.alloc();
     let words = match env::args(&rt) {
         Ok(args) => args.skip(1).collect(alloc)?,
-        // Arguments that cannot be read are words of no form.
+        // Arguments that cannot be read are none, which is no command line.
         Err(_) => Vec::new(alloc),
     };
     let mut input = StdSource::new(rt.stdin());

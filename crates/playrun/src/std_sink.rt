@@ -16,6 +16,7 @@ pub struct StdSink<W> {
 }
 
 impl<W: Write + Drop> StdSink<W> {
+    /// Returns a sink over a stream. No write has failed yet.
     pub fn new(output: W) -> StdSink<W>
         ensures { ⟦<StdSink<W> as Sink>⟧.state result ≡ record { taken = None; faults = 0; mark = 0; at_fault = None } }
     {
@@ -26,6 +27,7 @@ impl<W: Write + Drop> StdSink<W> {
 impl<W: Write + Drop> Sink for StdSink<W> {
     ghost state = { λ s. record { taken = None; faults = s.faults; mark = 0; at_fault = None } };
 
+    /// Writes a prefix of the piece. An interrupted write is made again, but for the last of `INTERRUPTIONS` interruptions.
     fn write(&mut self, piece: &[u8]) -> WriteStep
         requires { 0 < length piece.now }
         ensures writes { Writes result piece.now (⟦<StdSink<W> as Sink>⟧.state self.old) (⟦<StdSink<W> as Sink>⟧.state self.new) }

@@ -17,6 +17,7 @@ pub struct StdSource<R> {
 }
 
 impl<R: Read + Drop> StdSource<R> {
+    /// Returns a source over a stream. No read has failed yet.
     pub fn new(input: R) -> StdSource<R>
         ensures { ⟦<StdSource<R> as Source>⟧.state result ≡ record { left = None; faults = 0 } }
     {
@@ -27,6 +28,7 @@ impl<R: Read + Drop> StdSource<R> {
 impl<R: Read + Drop> Source for StdSource<R> {
     ghost state = { λ s. record { left = None; faults = s.faults } };
 
+    /// Reads the next bytes. An interrupted read is made again, but for the last of `INTERRUPTIONS` interruptions.
     fn read(&mut self, buf: &mut [u8]) -> ReadStep
         requires { 0 < length buf.old }
         ensures reads { Reads result buf.new (⟦<StdSource<R> as Source>⟧.state self.old) (⟦<StdSource<R> as Source>⟧.state self.new) }

@@ -1,4 +1,4 @@
-//! What the devices answer over streams that are interrupted or fail, and over real files.
+//! What the devices do over streams that are interrupted or fail, and over files of the system.
 ghost use Rattle.std.specs.Prelude.{◌≤◌, IfOk};
 
 use super::*;
@@ -63,6 +63,7 @@ impl Write for Shaky {
     }
 }
 
+/// No clause says that an interruption alone is no failure.
 #[test]
 fn reads_again_after_interruptions(rt: HostRuntime) -> Result<(), Fail> {
     let mut buf = [0; 4];
@@ -77,6 +78,7 @@ fn reads_again_after_interruptions(rt: HostRuntime) -> Result<(), Fail> {
     Ok(())
 }
 
+/// No clause says that an interruption alone is no failure.
 #[test]
 fn writes_again_after_interruptions(rt: HostRuntime) -> Result<(), Fail> {
     let mut sink = StdSink::new(Shaky::new(INTERRUPTIONS - 1));
@@ -90,38 +92,29 @@ fn writes_again_after_interruptions(rt: HostRuntime) -> Result<(), Fail> {
     Ok(())
 }
 
+/// No clause says what a file of the system holds.
 #[test]
 fn reads_files(rt: HostRuntime) -> Result<(), Fail> {
     let alloc = rt.alloc();
     fs::create_dir_all(&rt, "playrun_test/inner")?;
-    let mut written = StdSink::new(fs::create(&rt, "playrun_test/one")?);
-    assert_eq!(rt; written.write(b"abc"), WriteStep::Took(3));
+    write_file(&rt, "playrun_test/one", b"abc")?;
     let mut media = FolderMedia::new(rt.clone()?);
-    assert_eq!(rt;
-        media.config(alloc, "playrun_test/one")?.as_slice(),
-        b"abc".as_slice()
-    );
-    assert_eq!(rt;
-        media.bytes(alloc, "playrun_test", "one")?.as_slice(),
-        b"abc".as_slice()
-    );
-    assert_eq!(rt;
-        media.bytes(alloc, "playrun_test", "two").err(),
-        Some(FileFault::Failed)
-    );
-    assert_eq!(rt;
-        media.bytes(alloc, "playrun_test", "inner").err(),
-        Some(FileFault::Failed)
-    );
+    let read = media.config(alloc, "playrun_test/one")?;
+    assert_eq!(rt; read.as_slice(), b"abc".as_slice());
+    let read = media.bytes(alloc, "playrun_test", "one")?;
+    assert_eq!(rt; read.as_slice(), b"abc".as_slice());
+    // A file that is missing, and a folder, cannot be read.
+    for name in ["two", "inner"] {
+        let fault = media.bytes(alloc, "playrun_test", name).err();
+        assert_eq!(rt; fault, Some(FileFault::Failed));
+    }
     let mut names = media.names(alloc, "playrun_test")?;
     names.as_mut_slice().sort_unstable();
     assert_eq!(rt; names.len(), 2);
     assert_eq!(rt; names[0].as_str(), "inner");
     assert_eq!(rt; names[1].as_str(), "one");
-    assert_eq!(rt;
-        media.names(alloc, "playrun_test/none").err(),
-        Some(FileFault::Failed)
-    );
+    let fault = media.names(alloc, "playrun_test/none").err();
+    assert_eq!(rt; fault, Some(FileFault::Failed));
     fs::remove_dir_all(&rt, "playrun_test")?;
     Ok(())
 }
@@ -130,24 +123,8 @@ fn reads_files(rt: HostRuntime) -> Result<(), Fail> {
 const THREE: &[u8] =
     b"RCLP\0\x01\0\0\0\x01\0\x01\0\0\0\x03\0\0\0\0\0\0\0\xff\0\0\x50\xff\0\0\xa0\xff";
 
-/// Configurations, each with a folder of clips, and the files of these folders.
-const FILES: [(&str, &[u8]); 9] = [
-    (
-        "playrun_show/clips.toml",
-        b"listen='l'\nmedia='playrun_show/clips'\nrate=25\nchannel=[{width=2,height=1,output='o'},{width=1,height=1,output='o'}]",
-    ),
-    (
-        "playrun_show/twice.toml",
-        b"listen='l'\nmedia='playrun_show/twice'\nrate=25\nchannel=[{width=1,height=1,output='o'}]",
-    ),
-    (
-        "playrun_show/none.toml",
-        b"listen='l'\nmedia='playrun_show/none'\nrate=25\nchannel=[{width=1,height=1,output='o'}]",
-    ),
-    (
-        "playrun_show/folder.toml",
-        b"listen='l'\nmedia='playrun_show/folder'\nrate=25\nchannel=[{width=1,height=1,output='o'}]",
-    ),
+/// The files of the folders of clips.
+const FILES: [(&str, &[u8]); 5] = [
     ("playrun_show/clips/three.rclp", THREE),
     ("playrun_show/clips/short.RCLP", b"RCLP"),
     ("playrun_show/clips/note.txt", THREE),
@@ -155,10 +132,10 @@ const FILES: [(&str, &[u8]); 9] = [
     ("playrun_show/twice/A.Rclp", THREE),
 ];
 
-/// Configurations, each with the exit status and the output of a run on it.
-const SHOWS: [(&str, u8, &str); 6] = [
+/// Folders of clips, each with the exit status and the output of a run on it.
+const SHOWS: [(&str, u8, &str); 4] = [
     (
-        "playrun_show/clips.toml",
+        "clips",
         0,
         "1.1 200 CLS OK
 1.1 \"SHORT\" UNREADABLE
@@ -180,12 +157,10 @@ F 2 3
 000000ff
 ",
     ),
-    ("playrun_show/twice.toml", 3, "E media twice A\n"),
-    ("playrun_show/none.toml", 4, "E device\n"),
+    ("twice", 3, "E media twice A\n"),
+    ("none", 4, "E device\n"),
     // A folder with the name of a clip file is no file that can be read.
-    ("playrun_show/folder.toml", 4, "E device\n"),
-    ("playrun_show/clips", 4, "E device\n"),
-    ("playrun_show/missing.toml", 4, "E device\n"),
+    ("folder", 4, "E device\n"),
 ];
 
 /// The script of these runs.
@@ -196,6 +171,7 @@ const SCRIPT: &[u8] = b"1.1 CLS
 T 3
 ";
 
+/// Writes a file of the system.
 fn write_file<R: Files>(rt: &R, path: &str, bytes: &[u8]) -> Result<(), Fail> {
     match send(bytes, &mut StdSink::new(fs::create(rt, path)?)) {
         Sent::All => Ok(()),
@@ -203,6 +179,7 @@ fn write_file<R: Files>(rt: &R, path: &str, bytes: &[u8]) -> Result<(), Fail> {
     }
 }
 
+/// No clause says what is played of files of the system.
 #[test]
 fn plays_the_clips_of_a_folder(rt: HostRuntime) -> Result<(), Fail> {
     let alloc = rt.alloc();
@@ -212,11 +189,16 @@ fn plays_the_clips_of_a_folder(rt: HostRuntime) -> Result<(), Fail> {
     for (path, bytes) in FILES {
         write_file(&rt, path, bytes)?;
     }
-    for (config, status, output) in SHOWS {
+    for (folder, status, output) in SHOWS {
+        let path = format!(in alloc; "playrun_show/{folder}.toml")?;
+        let config = format!(in alloc;
+            "listen='l'\nmedia='playrun_show/{folder}'\nrate=25\nchannel=[{{width=2,height=1,output='o'}},{{width=1,height=1,output='o'}}]"
+        )?;
+        write_file(&rt, path.as_str(), config.as_bytes())?;
         let words = vec![in alloc;
             String::from_str(alloc, "run")?,
             String::from_str(alloc, "--config")?,
-            String::from_str(alloc, config)?,
+            path,
         ]?;
         let mut input = MemSource::new(SCRIPT.to_vec(alloc)?, 4096, Vec::new(alloc));
         let mut media = FolderMedia::new(rt.clone()?);
@@ -229,8 +211,8 @@ fn plays_the_clips_of_a_folder(rt: HostRuntime) -> Result<(), Fail> {
             &mut media,
             &mut out,
         );
-        assert_eq!(&rt; found, status, "{config}");
-        assert_eq!(&rt; out.taken(), output.as_bytes(), "{config}");
+        assert_eq!(&rt; found, status, "{folder}");
+        assert_eq!(&rt; out.taken(), output.as_bytes(), "{folder}");
     }
     fs::remove_dir_all(&rt, "playrun_show")?;
     Ok(())

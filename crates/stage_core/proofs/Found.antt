@@ -76,20 +76,20 @@ standing-absent (place ∷ more) layer zero gap =
     let above : layer < place.0 = gap.higher 0 (omega arith) (omega arith) in
     cond-false (eqb place.0 layer) place.1 (standing more layer) (ne_eqb place.0 layer (λ e. omega arith))
     ∙ standing-absent more layer zero
-      (record {
-        in_range = omega arith;
-        lower = λ j below. absurd (omega arith);
-        higher = λ j from below. gap.higher (suc j) (omega arith) (omega arith);
-      })
+    (record {
+      in_range = omega arith;
+      lower = λ j below. absurd (omega arith);
+      higher = λ j from below. gap.higher (suc j) (omega arith) (omega arith);
+    })
 standing-absent (place ∷ more) layer (suc i) gap =
     let below : place.0 < layer = gap.lower 0 (omega arith) in
     cond-false (eqb place.0 layer) place.1 (standing more layer) (ne_eqb place.0 layer (λ e. omega arith))
     ∙ standing-absent more layer i
-      (record {
-        in_range = omega (arith, gap.in_range);
-        lower = λ j low. gap.lower (suc j) (omega arith);
-        higher = λ j from low. gap.higher (suc j) (omega arith) (omega arith);
-      })
+    (record {
+      in_range = omega (arith, gap.in_range);
+      lower = λ j low. gap.lower (suc j) (omega arith);
+      higher = λ j from low. gap.higher (suc j) (omega arith) (omega arith);
+    })
 
 -- a layer that is live, or not, in front of others
 in_front-live : (layer : ℕ) (life : Life) (more : Places) → is_live life ≡ true → in_front layer life more ≡ (layer, life) ∷ more
@@ -107,7 +107,7 @@ over_at (place ∷ more) layer zero life live is_at lower =
 over_at (place ∷ more) layer (suc i) life live is_at lower =
     with_place-behind place more layer life (lower 0 (omega arith))
     ∙ ap (λ (xs : Places). place ∷ xs)
-      (over_at more layer i life live (at_in_rest place more layer i is_at) (lower_in_rest place more layer i lower))
+    (over_at more layer i life live (at_in_rest place more layer i is_at) (lower_in_rest place more layer i lower))
 
 pub with_place-set : (places : Places) → ArePlaces places → (layer i : ℕ) (life : Life) → is_live life ≡ true → IsAt places layer i →
     with_place places layer life ≡ set places i (layer, life)
@@ -121,7 +121,7 @@ gone_at (place ∷ more) layer zero life dead is_at lower =
 gone_at (place ∷ more) layer (suc i) life dead is_at lower =
     with_place-behind place more layer life (lower 0 (omega arith))
     ∙ ap (λ (xs : Places). place ∷ xs)
-      (gone_at more layer i life dead (at_in_rest place more layer i is_at) (lower_in_rest place more layer i lower))
+    (gone_at more layer i life dead (at_in_rest place more layer i is_at) (lower_in_rest place more layer i lower))
 
 pub with_place-remove : (places : Places) → ArePlaces places → (layer i : ℕ) (life : Life) → is_live life ≡ false → IsAt places layer i →
     with_place places layer life ≡ remove places i

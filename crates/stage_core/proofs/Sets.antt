@@ -33,14 +33,14 @@ module _ (places : Places) (layer index : ℕ) (life : Life) where
       is_over_limit (with_place places layer life) ≡ false
   few-found p few is_at = elim (cases_Bool (is_live life)) [
     | inl live ↦
-      let count : length (with_place places layer life) ≡ length places =
-      ap length (with_place-set places p layer index life live is_at) ∙ length-set places index (layer, life) in
-      le-ltb MAX_LIVE_LAYERS (length (with_place places layer life)) (omega (arith, count, few))
+        let count : length (with_place places layer life) ≡ length places =
+        ap length (with_place-set places p layer index life live is_at) ∙ length-set places index (layer, life) in
+        le-ltb MAX_LIVE_LAYERS (length (with_place places layer life)) (omega (arith, count, few))
     | inr dead ↦
-      let less : length (remove places index) + 1 ≡ length places = length-remove places index is_at.in_range in
-      let count : length (with_place places layer life) ≡ length (remove places index) =
-      ap length (with_place-remove places p layer index life dead is_at) in
-      le-ltb MAX_LIVE_LAYERS (length (with_place places layer life)) (omega (arith, count, less, few))
+        let less : length (remove places index) + 1 ≡ length places = length-remove places index is_at.in_range in
+        let count : length (with_place places layer life) ≡ length (remove places index) =
+        ap length (with_place-remove places p layer index life dead is_at) in
+        le-ltb MAX_LIVE_LAYERS (length (with_place places layer life)) (omega (arith, count, less, few))
   ]
 
   pub few-none : is_live life ≡ false → length places ≤ MAX_LIVE_LAYERS → IsGapFor places layer index →

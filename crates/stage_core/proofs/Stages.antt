@@ -92,7 +92,7 @@ IsStage-tick events channels h = record {
       ap (map (λ (one : Places). map one_tick_later one)) h.places
       ∙ map_of_map (λ (one : Places). map one_tick_later one) (places events) 1 (length channels)
       ∙ same_from (λ k. map one_tick_later (places events k)) (places (events ++ Tick ∷ [])) 1 (length channels)
-        (λ k. sym (places-tick events k h.plain))
+      (λ k. sym (places-tick events k h.plain))
       ∙ ap (λ (n : ℕ). map (places (events ++ Tick ∷ [])) (range_with_len 1 n)) (sym (length-map channels (λ (one : Places). map one_tick_later one)));
 }
 
@@ -129,7 +129,7 @@ changed_one : (events : List Event) (tag : Tag) (cmd : Cmd) (k : ℕ) → IsPlai
 changed_one events tag cmd k plain h apart =
     places-command events tag cmd k plain h
     ∙ ap (λ (after : Places). if is_over_limit (places_after cmd (channel_of cmd) (places events (channel_of cmd))) then places events k else after)
-      (places_after-other cmd k (places events k) (λ e. apart (sym e)))
+    (places_after-other cmd k (places events k) (λ e. apart (sym e)))
     ∙ either (is_over_limit (places_after cmd (channel_of cmd) (places events (channel_of cmd)))) (places events k)
   where
     either : (over : Bool) (one : Places) → (if over then one else one) ≡ one
@@ -149,9 +149,9 @@ IsStage-apply events tag cmd channels at d h plain within number =
     let now : set channels at (kept_after cmd (get_or channels at d)) ≡ map (places (events ++ Do tag cmd ∷ [])) (range_with_len 1 (length channels)) =
     ap₂ (λ (all : List Places) (one : Places). set all at (kept_after cmd one)) h.places here
     ∙ set_one (places events) (places (events ++ Do tag cmd ∷ [])) 1 (length channels) at (channel_of cmd)
-      (kept_after cmd (places events (channel_of cmd))) within (omega (arith, number))
-      (places-command events tag cmd (channel_of cmd) h.plain plain)
-      (λ k apart. changed_one events tag cmd k h.plain plain apart) in
+    (kept_after cmd (places events (channel_of cmd))) within (omega (arith, number))
+    (places-command events tag cmd (channel_of cmd) h.plain plain)
+    (λ k apart. changed_one events tag cmd k h.plain plain apart) in
     let count : length (set channels at (kept_after cmd (get_or channels at d))) ≡ length channels =
     ap length now ∙ length-map-range_with_len (places (events ++ Do tag cmd ∷ [])) 1 (length channels) in
     record {

@@ -53,7 +53,7 @@ impl PlaceList {
         ensures answer { result ≡ outcome_of (is_over_limit (places_after cmd.now (channel_of cmd.now) self.old)) }
         ensures after { self.new
             ≡ (if is_over_limit (places_after cmd.now (channel_of cmd.now) self.old) then self.old
-               else places_after cmd.now (channel_of cmd.now) self.old) }
+            else places_after cmd.now (channel_of cmd.now) self.old) }
     {
         match place_of(cmd) {
             Some(at) => self.change(at, cmd),
@@ -82,7 +82,7 @@ impl PlaceList {
             ≡ outcome_of (is_over_limit (with_place self.old at.layer (taken cmd.now (standing self.old at.layer)))) }
         ensures after { self.new
             ≡ (if is_over_limit (with_place self.old at.layer (taken cmd.now (standing self.old at.layer))) then self.old
-               else with_place self.old at.layer (taken cmd.now (standing self.old at.layer))) }
+            else with_place self.old at.layer (taken cmd.now (standing self.old at.layer))) }
     {
         let layer = at.layer();
         let life = taken(cmd, self.get(layer));

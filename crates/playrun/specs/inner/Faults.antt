@@ -1,10 +1,10 @@
--- What an error of the system is answered as.
+-- The fault that an error of the system is.
 use Rattle.std.specs.declared.io.ErrorKind.{ErrorKind}
 use Rattle.std.specs.declared.io.ErrorKind.TheVariants as kind
 use Rattle.play_outside.specs.declared.folder.FileFault.{FileFault}
 use Rattle.play_outside.specs.declared.folder.FileFault.TheVariants.{Failed, OutOfMemory}
 
--- want of memory is told apart from every other error
+-- out of memory is told apart from every other error
 abbrev pub fault_of : ErrorKind → FileFault
 fault_of kind.OutOfMemory = OutOfMemory
 fault_of _ = Failed

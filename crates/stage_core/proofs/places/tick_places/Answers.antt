@@ -34,13 +34,13 @@ loop-at-preserved c =
           (c.tick.ensures.after ∙ ap (λ (p : ℕ × Life). after p.1 1) twice);
       scenes = elim c.match-drawn_of.branch [
         | in-Some w ↦
-          w.scenes-is ∙ w.push.ensures ∙ ap (with_layer c.args.channel w.in-Some.drawn) c.loop-at.invariant.scenes
-          ∙ with_layers-more c.args.channel (filter_map plain_drawn_place (take at xs)) w.in-Some.drawn c.args.scenes.now (omega arith)
-          ∙ ap (λ (layers : List Drawn). with_layers c.args.channel layers c.args.scenes.now)
+            w.scenes-is ∙ w.push.ensures ∙ ap (with_layer c.args.channel w.in-Some.drawn) c.loop-at.invariant.scenes
+            ∙ with_layers-more c.args.channel (filter_map plain_drawn_place (take at xs)) w.in-Some.drawn c.args.scenes.now (omega arith)
+            ∙ ap (λ (layers : List Drawn). with_layers c.args.channel layers c.args.scenes.now)
             (sym (drawn-some xs at x w.in-Some.drawn within here (sym shows ∙ w.in-Some.is)))
         | in_default w ↦
-          w.scenes-is ∙ c.loop-at.invariant.scenes
-          ∙ ap (λ (layers : List Drawn). with_layers c.args.channel layers c.args.scenes.now)
+            w.scenes-is ∙ c.loop-at.invariant.scenes
+            ∙ ap (λ (layers : List Drawn). with_layers c.args.channel layers c.args.scenes.now)
             (sym (drawn-none xs at x within here (sym shows ∙ w.in_default.is)))
       ];
       room = few_taken xs (at + 1) (omega (arith, within));

@@ -34,9 +34,9 @@ loop-at-preserved c =
       scenes =
           c.tick.ensures.scenes
           ∙ ap₂ (λ (one : Places) (scenes : List (List Drawn)). with_layers (at + 1) (draw one) scenes)
-            (ap (λ (n : ℕ). get_or ys n c.index-channels-from.result) same) c.loop-at.invariant.scenes
+          (ap (λ (n : ℕ). get_or ys n c.index-channels-from.result) same) c.loop-at.invariant.scenes
           ∙ scenes-more done (draw x) (length xs) at done_at within
           ∙ ap (λ (more : List (List Drawn)). more ++ drop (at + 1) (blank (length xs)))
-            (sym (ap (map draw) (take_more xs at x within) ∙ map-append draw (take at xs) (get_or xs at x ∷ [])
-            ∙ ap (λ (one : Places). done ++ draw one ∷ []) here));
+          (sym (ap (map draw) (take_more xs at x within) ∙ map-append draw (take at xs) (get_or xs at x ∷ [])
+          ∙ ap (λ (one : Places). done ++ draw one ∷ []) here));
     }

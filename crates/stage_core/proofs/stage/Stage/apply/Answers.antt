@@ -34,5 +34,5 @@ returns-clause-answer c setup =
     ap (λ (s : StageView). answer setup s.journal.events (Do c.args.tag c.args.cmd)) (sym c.self.view_is)
     ∙ answer-plain setup c.self.inside.journal.events c.args.tag c.args.cmd channels at d c.self.invariant c.requires.plain within number
     ∙ ap StageAnswer.Answered
-      (sym (c.apply.ensures.answer
-      ∙ ap (λ (one : Places). outcome_of (is_over_limit (places_after c.args.cmd (channel_of c.args.cmd) one))) c.index_mut.ensures.value))
+    (sym (c.apply.ensures.answer
+    ∙ ap (λ (one : Places). outcome_of (is_over_limit (places_after c.args.cmd (channel_of c.args.cmd) one))) c.index_mut.ensures.value))

@@ -1,8 +1,10 @@
-//! Worked pictures, computed by the checker: the red of each pixel of a raster of one row. Clip 0 has one frame of the
+//! Worked pictures, computed by the checker, on rasters of one row: mostly the red of each pixel. Clip 0 has one frame of the
 //! columns 10, 20, 30 and 40, and clip 1 has the frames 0, 80 and 160 of one pixel each.
 ghost use Rattle.std.specs.Prelude.{◌≡◌, ◌∷◌, [], true};
 ghost use Rattle.play_types.specs.declared.take.Spec.TheVariants.{Clip, Colour, RouteChannel};
-ghost use Rattle.play_scene.specs.Worked.{bars, played, row_of, steps};
+ghost use Rattle.play_types.specs.declared.drawn.Still.TheVariants as still;
+ghost use Rattle.play_scene.specs.Frames.{with_piece};
+ghost use Rattle.play_scene.specs.Worked.{bars, bytes_of, played, reds_of, row_of, steps};
 
 /// Four columns on a raster of another width: each column shows the one in which its middle lies.
 pub fn columns_of_a_clip()
@@ -31,4 +33,32 @@ pub fn other_pictures()
     ensures unreadable { row_of (played (Clip 2) 0 1) 0 1 ≡ 0 ∷ [] }
     ensures no_clip { row_of (played (Clip 3) 0 1) 0 1 ≡ 0 ∷ [] }
     ensures route { row_of (played (RouteChannel 1) 0 0) 0 1 ≡ 0 ∷ [] }
+{}
+
+/// A layer lies over those before it, by its alpha: blue, green, red and alpha of one pixel. A layer that shows nothing, and a
+/// scene without layers, change nothing.
+pub fn colours_over_one_another()
+    ensures nothing { bytes_of [] 1 ≡ 0 ∷ 0 ∷ 0 ∷ 0 ∷ [] }
+    ensures half_red_above { bytes_of (still.Colour 0xFF0000FF ∷ still.Colour 0x80FF0000 ∷ []) 1 ≡ 127 ∷ 0 ∷ 128 ∷ 255 ∷ [] }
+    ensures blue_above { bytes_of (still.Colour 0x80FF0000 ∷ still.Colour 0xFF0000FF ∷ []) 1 ≡ 255 ∷ 0 ∷ 0 ∷ 255 ∷ [] }
+    ensures two_halves { bytes_of (still.Colour 0x800000FF ∷ still.Colour 0x80FF0000 ∷ []) 1 ≡ 64 ∷ 0 ∷ 128 ∷ 192 ∷ [] }
+    ensures nothing_above { bytes_of (still.Colour 0x80FF0000 ∷ still.Nothing ∷ []) 1 ≡ 0 ∷ 0 ∷ 128 ∷ 128 ∷ [] }
+{}
+
+/// A clip shines through a translucent colour above it, and hides an opaque one below it.
+pub fn clip_and_colours()
+    ensures below { reds_of (still.Frame 0 0 ∷ still.Colour 0x80FF0000 ∷ []) 4 ≡ 133 ∷ 138 ∷ 143 ∷ 148 ∷ [] }
+    ensures above { reds_of (still.Colour 0xFFFF0000 ∷ still.Frame 0 0 ∷ []) 4 ≡ 10 ∷ 20 ∷ 30 ∷ 40 ∷ [] }
+    ensures no_frame { reds_of (still.Colour 0xFFFF0000 ∷ still.Frame 0 1 ∷ []) 2 ≡ 255 ∷ 255 ∷ [] }
+{}
+
+/// The frame of a channel at the tick before has its own width.
+pub fn frame_of_a_channel()
+    ensures wider { reds_of (still.Channel 1 ∷ []) 4 ≡ 50 ∷ 50 ∷ 60 ∷ 60 ∷ [] }
+    ensures narrower { reds_of (still.Channel 1 ∷ []) 1 ≡ 60 ∷ [] }
+{}
+
+/// A piece replaces the bytes where it is put.
+pub fn piece_of_bytes()
+    ensures { with_piece 2 (7 ∷ 8 ∷ []) (0 ∷ 1 ∷ 2 ∷ 3 ∷ 4 ∷ []) ≡ 0 ∷ 1 ∷ 7 ∷ 8 ∷ 4 ∷ [] }
 {}

@@ -1,14 +1,23 @@
 //! The pictures of channels.
 //!
-//! A [`Picture`] is what a take shows after a number of ticks: one colour, or the frame of a clip at which its playhead
-//! stands. It is brought to the raster of a channel, pixel by pixel, and painted as the bytes of a frame. Only painting
-//! takes memory, and none where the frame has the room. [`laws`] says that the pixels are those that the definitions of
-//! `history_model` show, and [`examples`] has worked pictures.
+//! [`Frames`] has the bytes of one frame of each channel. [`render_channel`] writes the picture of a channel's scene into
+//! them, pixel by pixel as [`pixel`] composes it: each layer over those below it, by the clips and the frames of the tick
+//! before. Two [`Frames`] that are exchanged at each tick serve a player without taking memory.
+//!
+//! A [`Picture`] is what a single take shows after a number of ticks, and is painted as the bytes of a frame. [`laws`] says
+//! that the pixels are those that the definitions of `history_model` show, and [`examples`] has worked pictures.
 #![tactic(auto)]
 
+mod composition;
 pub mod examples;
+mod frames;
 pub mod laws;
 mod paint;
 mod picture;
+mod raster;
+mod render;
 
+pub use composition::pixel;
+pub use frames::Frames;
 pub use picture::Picture;
+pub use render::render_channel;

@@ -1,5 +1,5 @@
 -- A place that is put into a list: whether the list is then too long, and what it keeps.
-use Rattle.std.proofs.Common.{◌≡◌, ℕ, ◌+◌, ◌<◌, ◌≤◌, eqb, Bool, true, false, inl, inr, List, [], ◌∷◌, ◌++◌, length, get_or, set, insert, remove, take, drop, map, refl, sym, ap, ◌∙◌, subst, arith, eq-eqb, lt-ltb, le-ltb, append-nil, length-set, if◌then◌else◌}
+use Rattle.std.proofs.Common.{◌≡◌, ℕ, ◌+◌, ◌<◌, ◌≤◌, eqb, Bool, true, false, inl, inr, [], ◌++◌, length, set, insert, remove, take, drop, map, refl, sym, ap, ◌∙◌, subst, arith, eq-eqb, lt-ltb, le-ltb, append-nil, length-set, if◌then◌else◌}
 use Rattle.std.proofs.lemmas.Bool.{cases_Bool, cond-true}
 use Rattle.std.proofs.lemmas.List.{length-map, take_all, drop_all}
 use Rattle.std.proofs.lemmas.List.Edits.{length-insert, length-remove}

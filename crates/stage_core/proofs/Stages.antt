@@ -1,5 +1,5 @@
 -- What a stage keeps through each event, and what it answers and shows by that.
-use Rattle.std.proofs.Common.{◌≡◌, ℕ, zero, suc, ◌+◌, ◌-◌, ◌<◌, ◌≤◌, Bool, true, false, List, [], ◌∷◌, ◌++◌, All, length, get_or, set, map, refl, sym, ap, ap₂, ◌∙◌, subst, arith, append-nil, drop, take, if◌then◌else◌}
+use Rattle.std.proofs.Common.{◌≡◌, ℕ, zero, suc, ◌+◌, ◌<◌, ◌≤◌, Bool, true, false, List, [], ◌∷◌, ◌++◌, All, length, get_or, set, map, refl, sym, ap, ap₂, ◌∙◌, subst, arith, append-nil, drop, take, if◌then◌else◌}
 use Rattle.std.proofs.lemmas.List.{drop_all, length-map, take_all}
 use Rattle.std.proofs.lemmas.List.Elements.{All-weaker}
 use Rattle.std.proofs.lemmas.List.FromFn.{length-map-range_with_len, get_or-map-range_with_len}
@@ -10,10 +10,9 @@ use Rattle.play_types.specs.Place.{PlaceView}
 use Rattle.play_types.specs.History.{stop_at, ticks}
 use Rattle.play_types.specs.declared.command.Cmd.{Cmd}
 use Rattle.play_types.specs.declared.command.Cmd.TheVariants.{Load, LoadBg, Play, PlayTake, Pause, Resume, StopLayer, ClearLayer, ClearChannel, SwapLayers, SwapChannels, Set, CommitMixer, ResetLayer, ResetChannel, Value, Info}
-use Rattle.play_types.specs.declared.drawn.Drawn.{Drawn}
 use Rattle.play_types.specs.declared.event.Tag.{Tag}
 use Rattle.play_types.specs.declared.event.Event.{Event}
-use Rattle.play_types.specs.declared.event.Event.TheVariants.{Do, Batch, Tick, Stop}
+use Rattle.play_types.specs.declared.event.Event.TheVariants.{Do, Tick, Stop}
 use Rattle.play_types.specs.declared.event.TheConstants.{MAX_TICKS}
 use Rattle.play_types.proofs.Histories.{stop_at-append, stop_at-stop}
 use Rattle.history_model.specs.pictures.Media.{Setup}
@@ -26,13 +25,12 @@ use Rattle.history_model.specs.stage.Live.{state}
 use Rattle.history_model.specs.stage.Places.{Places, is_over_limit, one_tick_later, places, places_after}
 use Rattle.history_model.specs.stage.Plain.{IsPlain, IsPlainHistory, channel_of}
 use Rattle.history_model.specs.stage.Trail.{acts_on_content, content_origin, trail}
-use Rattle.history_model.proofs.places.Histories.{is_refused-plain, places-command, places-start, places-states, places-stop, places-tick, scene-plain}
+use Rattle.history_model.proofs.places.Histories.{is_refused-plain, places-command, places-states, places-stop, places-tick, scene-plain}
 use Rattle.history_model.proofs.places.Limits.{IsPlainHistory-append, places_after-other}
 use Rattle.layer_state.proofs.Growth.{shown-few}
 use Rattle.layer_state.proofs.Histories.{acts-past}
 use Rattle.layer_state.proofs.Pasts.{IsPast-along}
-use Rattle.layer_state.specs.Past.{Represents}
-use Rattle.stage_core.specs.Kept.{IsStage}
+use Rattle.stage_core.specs.Kept.{IsStage, kept_after}
 use Rattle.stage_core.specs.inner.Shown.{HasTicksLeft}
 
 -- lists by equal functions of the index
@@ -135,11 +133,6 @@ changed_one events tag cmd k plain h apart =
     either : (over : Bool) (one : Places) → (if over then one else one) ≡ one
     either true one = refl
     either false one = refl
-
--- the places of a channel after a command on it
-abbrev pub kept_after : Cmd → Places → Places
-kept_after cmd before =
-    if is_over_limit (places_after cmd (channel_of cmd) before) then before else places_after cmd (channel_of cmd) before
 
 pub IsStage-apply : (events : List Event) (tag : Tag) (cmd : Cmd) (channels : List Places) (at : ℕ) (d : Places) → IsStage events channels →
     IsPlain cmd → at < length channels → at + 1 ≡ channel_of cmd →

@@ -4,7 +4,7 @@ use play_journal::PushFault;
 use std::error::Error;
 use std::fmt;
 
-/// Why a command was not taken. The stage and its journal are as before.
+/// Why a stage did not take a command. The stage and its journal are as before.
 #[derive(Clone, Copy, Debug, PartialEq, Eq)]
 pub enum ApplyFault {
     /// Memory ran out.
@@ -43,7 +43,7 @@ impl From<PushFault> for ApplyFault {
     }
 }
 
-/// Why a tick was not taken. The stage, its journal and the scenes are as before.
+/// Why a stage did not take a tick. The stage, its journal and the scenes are as before.
 #[derive(Clone, Copy, Debug, PartialEq, Eq)]
 pub enum TickFault {
     /// The history was stopped: `at` events come before the stop.
@@ -63,7 +63,7 @@ impl fmt::Display for TickFault {
 
 impl Error for TickFault {}
 
-/// The history was stopped before: `at` events come before the stop.
+/// A stage did not take a stop, since its journal already holds one: `at` events come before that.
 #[derive(Clone, Copy, Debug, PartialEq, Eq)]
 pub struct Ended {
     pub at: u64,

@@ -7,6 +7,7 @@ ghost use Rattle.history_model.specs.stage.Answer.{outcome_of};
 ghost use Rattle.history_model.specs.stage.Places.{is_over_limit, one_tick_later, places_after, standing, taken, with_place};
 ghost use Rattle.history_model.specs.stage.Plain.{IsPlain, channel_of};
 ghost use Rattle.stage_core.specs.inner.Found.{IsAt, IsGapFor};
+ghost use Rattle.stage_core.specs.Kept.{kept_after};
 ghost use Rattle.stage_core.specs.inner.Shown.{HasTicksLeft};
 ghost use Rattle.stage_core.specs.inner.Target.{with_layers};
 
@@ -51,9 +52,7 @@ impl PlaceList {
     pub(crate) fn apply(&mut self, cmd: &Cmd) -> Answer
         requires { IsPlain cmd.now }
         ensures answer { result ≡ outcome_of (is_over_limit (places_after cmd.now (channel_of cmd.now) self.old)) }
-        ensures after { self.new
-            ≡ (if is_over_limit (places_after cmd.now (channel_of cmd.now) self.old) then self.old
-            else places_after cmd.now (channel_of cmd.now) self.old) }
+        ensures after { self.new ≡ kept_after cmd.now self.old }
     {
         match place_of(cmd) {
             Some(at) => self.change(at, cmd),

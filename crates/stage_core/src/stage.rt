@@ -19,10 +19,11 @@ use play_types::{Answer, Cmd, Config, MAX_TICKS, Scenes, Tag};
 use std::alloc::{AllocError, Global};
 use std::marker::Model;
 
-/// The stage of a server, which keeps the journal of its events.
+/// The stage of a server, with the journal of its events.
 ///
-/// Contracts see of it its journal and the number of its channels. What it answers and shows is what the definitions say
-/// of the journal. The steps of a tick grow with the number of live places, and not with the length of the journal.
+/// Contracts see its journal and the number of its channels. The answer to a command and the scenes of a tick are what the
+/// definitions say of the journal before that event. The time that a tick takes grows with the number of live places, and
+/// not with the length of the journal.
 #[derive(Debug, Drop)]
 pub struct Stage {
     journal: Journal,
@@ -59,11 +60,12 @@ impl Stage {
         })
     }
 
-    /// Enters a command into the journal, and answers it: refused where its channel would have more than 64 live places,
-    /// and done otherwise. A refused command stands in the journal and changes nothing that is shown.
+    /// Adds a command to the journal, lets it act, and returns its answer: `Refused` where its channel would have more than
+    /// 64 live places, and `Done` otherwise. A refused command is in the journal too, and changes nothing that is shown.
     ///
-    /// It is not taken where the journal holds a stop, then where the journal is full, and then where memory runs out. The
-    /// stage and its journal are then as before.
+    /// The command is a plain one on a channel of the stage. There is a fault where the journal holds a stop, which is
+    /// tested first, then where the journal is full, and then where memory runs out. After a fault the stage and its journal
+    /// are as before.
     pub fn apply(&mut self, alloc: Global, tag: Tag, cmd: Cmd) -> Result<Answer, ApplyFault>
         requires { IsServed self.old.channels cmd }
         ensures answer { IfOk result (λ reply. (setup : Setup) →
@@ -81,11 +83,11 @@ impl Stage {
         Ok(self.channels[channel].apply(&cmd))
     }
 
-    /// Enters a tick into the journal, and writes what each channel shows at it into the scenes. Returns the number of the
-    /// tick: the first one has 1. It takes no memory.
+    /// Adds a tick to the journal, writes what each channel shows at it into the scenes, and returns the number of the tick.
+    /// The first tick has the number 1. It takes no memory.
     ///
-    /// The scenes have the channels of the stage. The tick is not taken where the journal holds a stop, and then where it
-    /// holds 281,474,976,710,656 ticks. The stage and the scenes are then as before.
+    /// There are as many scenes as the stage has channels. There is a fault where the journal holds a stop, which is tested
+    /// first, and where it holds 281,474,976,710,656 ticks. After a fault the stage, its journal and the scenes are as before.
     pub fn tick(&mut self, scenes: &mut Scenes) -> Result<u64, TickFault>
         requires { length scenes.old ≡ self.old.channels }
         ensures number { IfOk result (λ number. number ≡ ticks self.old.journal.events + 1) }
@@ -108,8 +110,8 @@ impl Stage {
         Ok(self.journal.ticks())
     }
 
-    /// Enters a stop into the journal, after which it takes no event. Returns the number of events before it. Where a stop
-    /// is held already, the stage is as before.
+    /// Adds a stop to the journal, which takes no event after it, and returns the number of events before it. Where the
+    /// journal already holds a stop, the stage is as before.
     pub fn stop(&mut self, tag: Tag) -> Result<u64, Ended>
         ensures position { IfOk result (λ at. at ≡ length self.old.journal.events) }
         ensures journal { OnOk result (self.new ≡ after_event (Stop tag) self.old) }

@@ -1,7 +1,7 @@
 use Rattle.std.proofs.Common.{sym, ap, ◌∙◌}
 use Rattle.play_types.specs.Take.{TakeView}
 use Rattle.play_types.specs.declared.command.Cmd.{Cmd}
-use Rattle.history_model.specs.stage.Life.{Life, effect}
+use Rattle.history_model.specs.stage.Life.{effect}
 use Rattle.play_types.specs.declared.command.Cmd.TheVariants.{LoadBg, Play}
 use Rattle.history_model.specs.stage.Places.{taken}
 use Rattle.stage_core.proofs.command.taken.Goals as goal

@@ -1,5 +1,4 @@
-use Rattle.std.proofs.Common.{◌≡◌, ℕ, ◌+◌, ◌-◌, ◌<◌, ◌∙◌, List, get_or, length, sym, ap, arith, filter_map, take}
-use Rattle.std.specs.Prelude.{Option, Some, None}
+use Rattle.std.proofs.Common.{◌≡◌, ℕ, ◌+◌, ◌<◌, ◌∙◌, List, get_or, length, sym, ap, arith, filter_map, take}
 use Rattle.std.proofs.lemmas.List.{get_or_default}
 use Rattle.play_types.specs.Scene.{with_layer}
 use Rattle.play_types.specs.declared.drawn.Drawn.{Drawn}

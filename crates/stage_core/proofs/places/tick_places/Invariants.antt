@@ -1,6 +1,4 @@
-use Rattle.std.proofs.Common.{◌≡◌, ℕ, ◌+◌, ◌≤◌, ◌++◌, filter_map, length, map, take, drop}
-use Rattle.play_types.specs.declared.place.TheConstants.{MAX_LIVE_LAYERS}
-use Rattle.play_types.specs.Scene.{scene_at}
+use Rattle.std.proofs.Common.{◌≡◌, ◌≤◌, ◌++◌, filter_map, length, map, take, drop}
 use Rattle.history_model.specs.stage.Places.{one_tick_later}
 use Rattle.history_model.specs.pictures.PlainScene.{plain_drawn_place}
 use Rattle.stage_core.specs.inner.Target.{with_layers}

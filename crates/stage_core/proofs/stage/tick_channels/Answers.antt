@@ -1,11 +1,9 @@
-use Rattle.std.proofs.Common.{◌≡◌, ℕ, ◌+◌, ◌<◌, ◌∙◌, ◌++◌, ◌∷◌, [], All, List, get_or, length, map, set, sym, ap, ap₂, arith, filter_map, take, drop}
+use Rattle.std.proofs.Common.{◌≡◌, ℕ, ◌+◌, ◌<◌, ◌∙◌, ◌++◌, ◌∷◌, [], List, get_or, length, map, set, sym, ap, ap₂, arith, filter_map, take, drop}
 use Rattle.std.proofs.lemmas.List.{get_or_default, length-map, length-replicate, length-take-le, take_more, map-append}
 use Rattle.std.proofs.lemmas.List.Edits.{map_over_more}
-use Rattle.std.proofs.lemmas.List.Elements.{All-get_or}
 use Rattle.play_types.specs.declared.drawn.Drawn.{Drawn}
 use Rattle.history_model.specs.pictures.PlainScene.{plain_drawn_place}
 use Rattle.history_model.specs.stage.Places.{Places, one_tick_later}
-use Rattle.stage_core.specs.inner.Shown.{HasTicksLeft}
 use Rattle.stage_core.specs.inner.Target.{with_layers}
 use Rattle.stage_core.proofs.Drawing.{blank, element_left, scenes-more}
 use Rattle.stage_core.proofs.stage.tick_channels.Goals as goal

@@ -1,5 +1,4 @@
-use Rattle.std.proofs.Common.{◌≡◌, ◌++◌, List, length, map, take, drop, filter_map}
-use Rattle.play_types.specs.declared.drawn.Drawn.{Drawn}
+use Rattle.std.proofs.Common.{◌≡◌, ◌++◌, length, map, take, drop, filter_map}
 use Rattle.history_model.specs.stage.Places.{Places, one_tick_later}
 use Rattle.history_model.specs.pictures.PlainScene.{plain_drawn_place}
 use Rattle.stage_core.proofs.Drawing.{blank}

@@ -1,6 +1,6 @@
-use Rattle.std.proofs.Common.{◌≡◌, get_or, sym, ap, ◌∙◌, subst}
+use Rattle.std.proofs.Common.{◌≡◌, get_or, sym, ap, ◌∙◌}
 use Rattle.std.proofs.lemmas.List.{get_or_default}
-use Rattle.history_model.specs.stage.Life.{Life, empty_place}
+use Rattle.history_model.specs.stage.Life.{empty_place}
 use Rattle.history_model.specs.stage.Places.{Places, standing}
 use Rattle.stage_core.specs.inner.Found.{IsAt, place_in}
 use Rattle.stage_core.proofs.Found.{standing-absent, standing-found}

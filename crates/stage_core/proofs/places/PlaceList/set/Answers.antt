@@ -3,7 +3,7 @@ use Rattle.std.proofs.lemmas.Bool.{cond-true}
 use Rattle.play_types.specs.declared.place.TheConstants.{MAX_LIVE_LAYERS}
 use Rattle.history_model.specs.stage.Answer.{outcome_of}
 use Rattle.history_model.specs.stage.Live.{is_live}
-use Rattle.history_model.specs.stage.Places.{ArePlaces, Places, is_over_limit, with_place}
+use Rattle.history_model.specs.stage.Places.{Places, is_over_limit, with_place}
 use Rattle.stage_core.specs.inner.Found.{IsAt, IsGapFor}
 use Rattle.stage_core.proofs.Found.{with_place-set, with_place-remove, with_place-insert, with_place-none}
 use Rattle.stage_core.proofs.Sets.{few-found, few-insert, few-none, kept-insert, kept-remove, kept-set, kept_over, kept_where, many-insert}
@@ -107,7 +107,7 @@ returns-then-len-eq-MAX_LIVE_LAYERS-clause-answer c =
     let same : items ≡ c.args.self.now = c.self.view_is in
     let live : is_live c.args.life ≡ true = sym c.is_live-in-Err.ensures ∙ c.if-not-is_live.false in
     let gap : IsGapFor items c.args.layer c.in-Err.at = rw c.self.view_is c.in-Err.ensures.absent in
-    let full : length items ≡ MAX_LIVE_LAYERS = omega (arith, c.self.invariant.counted, c.len.ensures, c.if-len-eq-MAX_LIVE_LAYERS.true) in
+    let full : length items ≡ MAX_LIVE_LAYERS = omega (arith, c.self.invariant.counted, c.len.ensures) in
     let over : is_over_limit (with_place items c.args.layer c.args.life) ≡ true =
     many-insert items c.args.layer c.in-Err.at c.args.life live full gap in
     ap outcome_of (sym over) ∙ ap (λ (xs : Places). outcome_of (is_over_limit (with_place xs c.args.layer c.args.life))) same
@@ -118,7 +118,7 @@ returns-then-len-eq-MAX_LIVE_LAYERS-clause-after c =
     let same : items ≡ c.args.self.now = c.self.view_is in
     let live : is_live c.args.life ≡ true = sym c.is_live-in-Err.ensures ∙ c.if-not-is_live.false in
     let gap : IsGapFor items c.args.layer c.in-Err.at = rw c.self.view_is c.in-Err.ensures.absent in
-    let full : length items ≡ MAX_LIVE_LAYERS = omega (arith, c.self.invariant.counted, c.len.ensures, c.if-len-eq-MAX_LIVE_LAYERS.true) in
+    let full : length items ≡ MAX_LIVE_LAYERS = omega (arith, c.self.invariant.counted, c.len.ensures) in
     let over : is_over_limit (with_place items c.args.layer c.args.life) ≡ true =
     many-insert items c.args.layer c.in-Err.at c.args.life live full gap in
     subst (λ (xs : Places). xs ≡ (if is_over_limit (with_place xs c.args.layer c.args.life) then xs else with_place xs c.args.layer c.args.life)) same
@@ -131,7 +131,7 @@ invariant_of-self-in-Err c =
     let same : items ≡ c.args.self.now = c.self.view_is in
     let live : is_live c.args.life ≡ true = sym c.is_live-in-Err.ensures ∙ c.if-not-is_live.false in
     let gap : IsGapFor items c.args.layer c.in-Err.at = rw c.self.view_is c.in-Err.ensures.absent in
-    let free : c.self.inside.places.len ≡ MAX_LIVE_LAYERS → ⊥ = λ e. absurd (omega (arith, e, c.len.ensures, c.if-len-eq-MAX_LIVE_LAYERS.false)) in
+    let free : c.self.inside.places.len ≡ MAX_LIVE_LAYERS → ⊥ = λ e. absurd (omega (arith, e, c.len.ensures)) in
     let added : is_ok c.insert.result ≡ true = ap is_ok c.in-Ok-insert.is in
     let put : c.insert.new.self.items ≡ insert items c.in-Err.at (c.args.layer, c.args.life) = c.insert.ensures.items ∙ cond-true (is_ok c.insert.result) _ _ added in
     let count : vec_len c.insert.new.self ≡ c.self.inside.places.len + 1 = c.insert.ensures.len ∙ cond-true (is_ok c.insert.result) _ _ added in
@@ -144,7 +144,7 @@ returns-in-Ok-insert-clause-answer c =
     let same : items ≡ c.args.self.now = c.self.view_is in
     let live : is_live c.args.life ≡ true = sym c.is_live-in-Err.ensures ∙ c.if-not-is_live.false in
     let gap : IsGapFor items c.args.layer c.in-Err.at = rw c.self.view_is c.in-Err.ensures.absent in
-    let free : c.self.inside.places.len ≡ MAX_LIVE_LAYERS → ⊥ = λ e. absurd (omega (arith, e, c.len.ensures, c.if-len-eq-MAX_LIVE_LAYERS.false)) in
+    let free : c.self.inside.places.len ≡ MAX_LIVE_LAYERS → ⊥ = λ e. absurd (omega (arith, e, c.len.ensures)) in
     let fewer : length items < MAX_LIVE_LAYERS = omega (arith, c.self.invariant.counted, c.self.invariant.few, free) in
     let over : is_over_limit (with_place items c.args.layer c.args.life) ≡ false =
     few-insert items c.args.layer c.in-Err.at c.args.life live fewer gap in
@@ -156,7 +156,7 @@ returns-in-Ok-insert-clause-after c =
     let same : items ≡ c.args.self.now = c.self.view_is in
     let live : is_live c.args.life ≡ true = sym c.is_live-in-Err.ensures ∙ c.if-not-is_live.false in
     let gap : IsGapFor items c.args.layer c.in-Err.at = rw c.self.view_is c.in-Err.ensures.absent in
-    let free : c.self.inside.places.len ≡ MAX_LIVE_LAYERS → ⊥ = λ e. absurd (omega (arith, e, c.len.ensures, c.if-len-eq-MAX_LIVE_LAYERS.false)) in
+    let free : c.self.inside.places.len ≡ MAX_LIVE_LAYERS → ⊥ = λ e. absurd (omega (arith, e, c.len.ensures)) in
     let fewer : length items < MAX_LIVE_LAYERS = omega (arith, c.self.invariant.counted, c.self.invariant.few, free) in
     let over : is_over_limit (with_place items c.args.layer c.args.life) ≡ false =
     few-insert items c.args.layer c.in-Err.at c.args.life live fewer gap in

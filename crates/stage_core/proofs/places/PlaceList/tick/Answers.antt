@@ -1,4 +1,4 @@
-use Rattle.std.proofs.Common.{sym, ap, ◌∙◌, map}
+use Rattle.std.proofs.Common.{ap, ◌∙◌, map}
 use Rattle.history_model.specs.stage.Places.{Places, one_tick_later}
 use Rattle.stage_core.proofs.Sets.{kept-tick}
 use Rattle.stage_core.proofs.places.PlaceList.tick.Goals as goal

@@ -1,13 +1,12 @@
 use Rattle.std.proofs.Common.{◌≡◌, ℕ, ◌+◌, ◌-◌, ◌<◌, List, length, set, sym, ap, ◌∙◌, subst₂, arith}
-use Rattle.play_types.specs.declared.event.Event.{Event}
 use Rattle.play_types.specs.declared.event.Event.TheVariants.{Do}
 use Rattle.history_model.specs.stage.Answer.{StageAnswer, answer, outcome_of}
 use Rattle.history_model.specs.stage.Places.{Places, is_over_limit, places_after}
 use Rattle.history_model.specs.stage.Plain.{channel_of}
 use Rattle.play_journal.specs.Journal.{JournalView}
 use Rattle.stage_core.specs.Stage.{StageView}
-use Rattle.stage_core.specs.Kept.{IsStage}
-use Rattle.stage_core.proofs.Stages.{IsStage-apply, answer-plain, kept_after}
+use Rattle.stage_core.specs.Kept.{IsStage, kept_after}
+use Rattle.stage_core.proofs.Stages.{IsStage-apply, answer-plain}
 use Rattle.stage_core.proofs.stage.Stage.apply.Goals as goal
 
 -- the places of the command's channel are those that the history gives after it

@@ -1,8 +1,7 @@
-use Rattle.std.proofs.Common.{◌≡◌, List, ◌∷◌, [], ◌++◌, length, sym, ap, ◌∙◌, subst}
+use Rattle.std.proofs.Common.{◌≡◌, List, length, sym, ap, ◌∙◌, subst}
 use Rattle.std.specs.Prelude.{Some, None}
 use Rattle.play_types.specs.History.{stop_at}
 use Rattle.play_types.specs.declared.event.Event.{Event}
-use Rattle.play_types.specs.declared.event.Event.TheVariants.{Stop}
 use Rattle.play_journal.specs.Journal.{JournalView}
 use Rattle.stage_core.specs.Kept.{IsStage}
 use Rattle.stage_core.proofs.Stages.{IsStage-stop, stop_at-more}

@@ -1,8 +1,7 @@
-use Rattle.std.proofs.Common.{◌≡◌, ℕ, ◌+◌, ◌<◌, ◌∷◌, [], All, List, length, map, filter_map, sym, ap, ◌∙◌, subst, subst₂, arith}
+use Rattle.std.proofs.Common.{◌≡◌, ◌+◌, ◌<◌, ◌∷◌, [], All, List, length, map, filter_map, sym, ap, ◌∙◌, subst, subst₂, arith}
 use Rattle.std.proofs.lemmas.List.{length-map}
 use Rattle.std.specs.List.{range_with_len}
 use Rattle.play_types.specs.History.{ticks}
-use Rattle.play_types.specs.declared.event.Event.{Event}
 use Rattle.play_types.specs.declared.event.Event.TheVariants.{Tick}
 use Rattle.play_types.specs.declared.event.TheConstants.{MAX_TICKS}
 use Rattle.play_types.proofs.Histories.{ticks-append}
@@ -18,7 +17,7 @@ use Rattle.stage_core.proofs.stage.Stage.tick.Goals as goal
 
 pub tick_channels-requires-clause-shown : goal.tick_channels-requires-clause-shown
 tick_channels-requires-clause-shown c =
-    let low : ticks c.self.inside.journal.events < MAX_TICKS = omega (arith, c.ticks.ensures.value, c.ticks.ensures.range.ticks, c.if-ticks-eq-MAX_TICKS.false) in
+    let low : ticks c.self.inside.journal.events < MAX_TICKS = omega (arith, c.ticks.ensures.value, c.ticks.ensures.range.ticks) in
     subst (All (All HasTicksLeft)) (sym c.deref_mut.ensures.value)
     (AllHaveTicksLeft c.self.inside.journal.events c.self.inside.channels.items c.self.invariant low)
 

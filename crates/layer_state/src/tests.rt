@@ -1,13 +1,16 @@
 //! What the ticks of a layer show, in a table that was worked out by hand.
+mod contents;
 mod lives;
+mod starts;
+mod transitions;
 
 use crate::{Layer, Shown};
-use lives::{
-    AUTOMATIC_STARTS, Asked, BROKEN_TRANSITIONS, DUE_STARTS, LOADS_AND_PLAYS, Life,
-    PAUSES_AND_STOPS, PICTURES, Source, Step, TRANSITIONS,
-};
+use contents::{LOADS_AND_PLAYS, PAUSES_AND_STOPS, PICTURES};
+use lives::{Asked, Life, Source, Step};
 use play_types::{Curve, Kind, MAX_TICKS, Spec, Take, Trans};
+use starts::{AUTOMATIC_STARTS, DUE_STARTS};
 use std::test::Fail;
+use transitions::{BROKEN_TRANSITIONS, TRANSITIONS};
 
 /// Returns the producer as a take names it.
 fn spec_of(source: Source) -> Spec {
@@ -144,7 +147,7 @@ fn automatic_starts_when_they_are_due(rt: HostRuntime) -> Result<(), Fail> {
 }
 
 #[test]
-fn transitions(rt: HostRuntime) -> Result<(), Fail> {
+fn transitions_show_their_steps(rt: HostRuntime) -> Result<(), Fail> {
     assert_eq!(rt; first_wrong(&TRANSITIONS)?, None);
     Ok(())
 }

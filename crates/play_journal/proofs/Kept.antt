@@ -1,11 +1,10 @@
 -- The events of a journal: what they have, and what one event more adds.
-use Rattle.std.proofs.Common.{◌≡◌, ℕ, zero, suc, ◌+◌, ◌≤◌, ◌<◌, List, [], ◌∷◌, ◌++◌, length, replicate, Option, Some, None, option_map, refl, sym, ap, ◌∙◌, arith, append_assoc, append-nil, length-append}
+use Rattle.std.proofs.Common.{◌≡◌, ℕ, zero, suc, ◌+◌, ◌≤◌, ◌<◌, List, [], ◌∷◌, ◌++◌, length, replicate, Option, Some, None, option_map, refl, sym, ap, ◌∙◌, arith, lit<, append_assoc, append-nil, length-append}
 use Rattle.std.specs.List.{flat_map, AllByRecursion}
 use Rattle.std.proofs.lemmas.List.{replicate_more}
 use Rattle.std.proofs.lemmas.List.Concat.{flat_map-append}
 use Rattle.play_types.specs.History.{held, held_by, ticks, stop_at, IsHistory}
 use Rattle.play_types.specs.declared.event.Tag.{Tag}
-use Rattle.play_types.specs.declared.command.Cmd.{Cmd}
 use Rattle.play_types.specs.declared.event.Event.{Event}
 use Rattle.play_types.specs.declared.event.Event.TheVariants.{Do, Batch, Tick, Stop}
 use Rattle.play_types.specs.declared.event.TheConstants.{MAX_TICKS}
@@ -182,22 +181,36 @@ counted-tick counts entries after stop counted none time = record {
   few = omega (arith, counted.few);
 }
 
--- after a command
-pub counted-command : (counts : Counts) (entries : List Entry) (after : ℕ) (stop : Option Event) (tag : Tag) (cmd : Cmd) →
-    AreCounted counts entries after stop → stop ≡ None → counts.held < counts.limit →
-    AreCounted (record { limit = counts.limit; held = counts.held + 1; ticks = counts.ticks; before = counts.before + 1 }) (entries ++ record { ticks = after; event = Do tag cmd } ∷ []) 0 stop
-counted-command counts entries after stop tag cmd counted none room = record {
-  commands = all-more entries (record { ticks = after; event = Do tag cmd }) counted.commands tt;
+-- a command or a batch is no tick
+no_tick_held : (event : Event) → HoldsCommands event → ticks (event ∷ []) ≡ 0
+no_tick_held (Do tag cmd) holds = refl
+no_tick_held (Batch tag cmds) holds = refl
+no_tick_held Tick holds = absurd holds
+no_tick_held (Stop tag) holds = absurd holds
+
+-- and holds at least one command
+some_held : (event : Event) → HoldsCommands event → 0 < held_by event
+some_held (Do tag cmd) holds = lit< tt
+some_held (Batch tag cmds) holds = holds
+some_held Tick holds = absurd holds
+some_held (Stop tag) holds = absurd holds
+
+-- after a command or a batch
+pub counted-commands : (counts : Counts) (entries : List Entry) (after : ℕ) (stop : Option Event) (event : Event) →
+    AreCounted counts entries after stop → stop ≡ None → HoldsCommands event → counts.held + held_by event ≤ counts.limit →
+    AreCounted (record { limit = counts.limit; held = counts.held + held_by event; ticks = counts.ticks; before = counts.before + 1 }) (entries ++ record { ticks = after; event = event } ∷ []) 0 stop
+counted-commands counts entries after stop event counted none holds room = record {
+  commands = all-more entries (record { ticks = after; event = event }) counted.commands holds;
   last = counted.last;
-  held = let e = ap held (kept-entry entries after stop (Do tag cmd) none) in
-      omega (arith, e, held-more (kept_events entries after stop) (Do tag cmd), counted.held);
-  ticks = let e = ap ticks (kept-entry entries after stop (Do tag cmd) none) in
-      omega (arith, e, ticks-append (kept_events entries after stop) (Do tag cmd ∷ []), counted.ticks);
-  before = let e = ap length (before-entry entries after (Do tag cmd)) in
-      omega (arith, e, length-append (events_before entries after) (Do tag cmd ∷ []), counted.before);
-  room = omega (arith, room);
+  held = let e = ap held (kept-entry entries after stop event none) in
+      omega (arith, e, held-more (kept_events entries after stop) event, counted.held);
+  ticks = let e = ap ticks (kept-entry entries after stop event none) in
+      omega (arith, e, ticks-append (kept_events entries after stop) (event ∷ []), no_tick_held event holds, counted.ticks);
+  before = let e = ap length (before-entry entries after event) in
+      omega (arith, e, length-append (events_before entries after) (event ∷ []), counted.before);
+  room = room;
   time = counted.time;
-  few = omega (arith, counted.few);
+  few = omega (arith, counted.few, some_held event holds);
 }
 
 -- after a stop

@@ -1,6 +1,7 @@
 //! Worked examples of the definitions in `specs/`, which the checker computes.
-ghost use Rattle.std.specs.Prelude.{◌∷◌, []};
-ghost use Rattle.play_types.specs.declared.event.Event.TheVariants.{Do, Stop, Tick};
+ghost use Rattle.std.specs.Prelude.{◌≡◌, ◌∷◌, []};
+ghost use Rattle.play_types.specs.History.{held};
+ghost use Rattle.play_types.specs.declared.event.Event.TheVariants.{Batch, Do, Stop, Tick};
 ghost use Rattle.play_journal.specs.Journal.{IsRefused};
 ghost use Rattle.play_journal.specs.Runs.{AreRuns};
 ghost use Rattle.play_journal.specs.Worked.{full, once, three_ticks, two_ticks};
@@ -23,4 +24,13 @@ pub fn refusals(tag: Tag, cmd: Cmd)
     ensures refused { IsRefused (full tag cmd) 1 (PushFault.JournalFull 2) }
     ensures another_number { IsRefused (full tag cmd) 1 (PushFault.JournalFull 3) → ⊥ }
     ensures full_before_memory { IsRefused (full tag cmd) 1 PushFault.OutOfMemory → ⊥ }
+{}
+
+/// A journal of three commands at most that holds two: a batch of one fits, and one of two is too many.
+pub fn refusals_of_batches(tag: Tag, cmd: Cmd)
+    ensures refused { IsRefused (record (full tag cmd) { limit = 3 }) 2 (PushFault.JournalFull 2) }
+    ensures full_before_memory { IsRefused (record (full tag cmd) { limit = 3 }) 2 PushFault.OutOfMemory → ⊥ }
+    ensures fits { IsRefused (record (full tag cmd) { limit = 3 }) 1 (PushFault.JournalFull 2) → ⊥ }
+    ensures counted { held (Batch tag (cmd ∷ cmd ∷ []) ∷ Tick ∷ Do tag cmd ∷ []) ≡ 3 }
+    ensures one_run { AreRuns (two_ticks ∷ once (Batch tag (cmd ∷ cmd ∷ [])) ∷ []) (Tick ∷ Tick ∷ Batch tag (cmd ∷ cmd ∷ []) ∷ []) }
 {}

@@ -1,15 +1,16 @@
 //! The journal of a stage.
-ghost use Rattle.std.specs.Prelude.{◌≡◌, ◌+◌, ◌<◌, ◌≤◌, [], IfOk, IfErr, OnOk, OnErr, None};
-ghost use Rattle.play_types.specs.History.{held, stop_at, ticks};
-ghost use Rattle.play_types.specs.declared.event.Event.TheVariants.{Do, Stop, Tick};
+ghost use Rattle.std.specs.Prelude.{◌≡◌, ◌+◌, ◌<◌, ◌≤◌, [], IfOk, IfErr, OnOk, OnErr, None, length};
+ghost use Rattle.play_types.specs.History.{held, held_by, stop_at, ticks};
+ghost use Rattle.play_types.specs.declared.event.Event.TheVariants.{Batch, Do, Stop, Tick};
 ghost use Rattle.play_types.specs.declared.event.TheConstants.{MAX_TICKS};
 ghost use Rattle.play_journal.specs.Journal.{IsJournal, IsRefused, followed_by};
+ghost use Rattle.play_journal.specs.Kept.{HoldsCommands};
 ghost use Rattle.play_journal.specs.Runs.{AreRuns};
 
 use crate::entries::{Entry, EntryList};
 use crate::events::Events;
 use crate::fault::PushFault;
-use play_types::{Cmd, Event, Tag};
+use play_types::{Cmd, CmdList, Event, Tag};
 use std::alloc::{AllocError, Global};
 use std::marker::Model;
 
@@ -77,13 +78,52 @@ impl Journal {
         if self.held >= self.limit {
             return Err(PushFault::JournalFull { held: self.held });
         }
+        self.push_commands(alloc, Event::Do(tag, cmd), 1)?;
+        Ok(())
+    }
+
+    /// Adds a batch of commands at the end, which are one event. There is at least one command. The batch is refused where
+    /// the commands held and those of the batch are more than the limit, which is tested first, and where memory runs out.
+    /// After a fault the journal is as before. No stop may be held.
+    pub fn push_batch(&mut self, alloc: Global, tag: Tag, cmds: &[Cmd]) -> Result<(), PushFault>
+        requires running { stop_at self.old.events ≡ None }
+        requires some { 0 < length cmds.now }
+        ensures ok { OnOk result (self.new ≡ followed_by (Batch tag cmds.now) self.old) }
+        ensures room { OnOk result (held self.old.events + length cmds.now ≤ self.old.limit) }
+        ensures err { OnErr result (self.new ≡ self.old) }
+        ensures fault { IfErr result (λ fault. IsRefused self.old (length cmds.now) fault) }
+    {
+        let room = (self.limit - self.held) as usize;
+        if cmds.len() > room {
+            return Err(PushFault::JournalFull { held: self.held });
+        }
+        let event = Event::Batch(tag, batch_of(alloc, cmds)?);
+        self.push_commands(alloc, event, cmds.len() as u32)?;
+        Ok(())
+    }
+
+    /// Adds a command or a batch of `commands` commands at the end. The journal has room for that many, and no stop is held.
+    /// Where memory runs out, the journal is as before.
+    fn push_commands(
+        &mut self,
+        alloc: Global,
+        event: Event,
+        commands: u32,
+    ) -> Result<(), AllocError>
+        requires running { stop_at self.old.events ≡ None }
+        requires event { HoldsCommands event }
+        requires commands { commands ≡ held_by event }
+        requires room { held self.old.events + commands ≤ self.old.limit }
+        ensures ok { OnOk result (self.new ≡ followed_by event self.old) }
+        ensures err { OnErr result (self.new ≡ self.old) }
+    {
         let entry = Entry {
             ticks: self.after,
-            event: Event::Do(tag, cmd),
+            event,
         };
         self.entries.push(alloc, entry)?;
         self.after = 0;
-        self.held += 1;
+        self.held += commands;
         self.before += 1;
         Ok(())
     }
@@ -153,4 +193,15 @@ impl Journal {
     {
         self.limit
     }
+}
+
+/// Returns a list of the commands.
+fn batch_of(alloc: Global, cmds: &[Cmd]) -> Result<CmdList, AllocError>
+    ensures { IfOk result (λ list. list ≡ cmds.now) }
+{
+    let mut list = CmdList::new(alloc);
+    for cmd in cmds {
+        list.push(*cmd)?;
+    }
+    Ok(list)
 }

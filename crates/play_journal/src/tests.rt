@@ -33,3 +33,20 @@ fn commands_take_memory(rt: HostRuntime) -> Result<(), Fail> {
     }
     Ok(())
 }
+
+#[test]
+fn batches_take_memory(rt: HostRuntime) -> Result<(), Fail> {
+    let alloc = rt.alloc();
+    let tag = Tag {
+        worker: 1,
+        session: 1,
+    };
+    let mut journal = Journal::new(alloc, 2)?;
+    if journal
+        .push_batch(alloc, tag, &[Cmd::Info, Cmd::Info])
+        .is_err()
+    {
+        return Err("room for a batch")?;
+    }
+    Ok(())
+}

@@ -28,15 +28,22 @@ encode_lower-more at count bytes =
     rw piece (rw take-add (encode_lower-append (take at bytes) (take count (drop at bytes))))
 
 -- the text of a prefix, of one piece more, and of the rest
-pub encode_lower-parts : (at count : ℕ) (bytes : List ℕ) → encode_lower bytes
+encode_lower-parts : (at count : ℕ) (bytes : List ℕ) → encode_lower bytes
     ≡ (encode_lower (take at bytes) ++ encode_lower (take (at + count - at) (drop at bytes))) ++ encode_lower (drop (at + count) bytes)
 encode_lower-parts at count bytes =
     rw (← encode_lower-more at count bytes)
     (ap encode_lower (sym (take-append-drop (at + count) bytes)) ∙ encode_lower-append (take (at + count) bytes) (drop (at + count) bytes))
 
--- the line of bytes, after the text of their first ones
-pub line-parts : (at : ℕ) (bytes : List ℕ) → encode_lower bytes ++ 10 ∷ []
-    ≡ encode_lower (take at bytes) ++ (encode_lower (take (length bytes - at) (drop at bytes)) ++ 10 ∷ [])
-line-parts at bytes =
+-- the line of bytes: the text of a prefix, of one piece more, and the rest of the line
+pub line-parts : (at count : ℕ) (bytes : List ℕ) → encode_lower bytes ++ 10 ∷ []
+    ≡ (encode_lower (take at bytes) ++ encode_lower (take (at + count - at) (drop at bytes))) ++ (encode_lower (drop (at + count) bytes) ++ 10 ∷ [])
+line-parts at count bytes =
+    ap (λ (text : List ℕ). text ++ 10 ∷ []) (encode_lower-parts at count bytes)
+    ∙ append_assoc (encode_lower (take at bytes) ++ encode_lower (take (at + count - at) (drop at bytes))) (encode_lower (drop (at + count) bytes)) (10 ∷ [])
+
+-- the line of bytes: the text of a prefix, of all other bytes, and the line feed
+pub line-end : (at : ℕ) (bytes : List ℕ) → encode_lower bytes ++ 10 ∷ []
+    ≡ (encode_lower (take at bytes) ++ encode_lower (take (length bytes - at) (drop at bytes))) ++ 10 ∷ []
+line-end at bytes =
     let rest : take (length bytes - at) (drop at bytes) ≡ drop at bytes = grind (arith, common_steps) in
-    rw (rest, ← append_assoc, ← encode_lower-append, take-append-drop) refl
+    rw (rest, ← encode_lower-append, take-append-drop) refl

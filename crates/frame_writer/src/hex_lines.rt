@@ -1,15 +1,17 @@
 //! Frames as lines of hexadecimal.
-ghost use Rattle.std.specs.Prelude.{◌≡◌, ◌*◌, length};
+ghost use Rattle.std.specs.Prelude.{◌≡◌, ◌*◌, ◌++◌, length};
 ghost use Rattle.play_outside.specs.Sink.{Sends};
+ghost use Rattle.play_outside.specs.Gathered.{Adds};
 ghost use Rattle.history_model.specs.text.Frames.{frame_lines, head_line, row_lines};
 
-use crate::line::{DigitRoom, write_line};
+use crate::line::{Text, add_line};
 use itoa::Buffer;
-use play_outside::{Sent, Sink, send_parts};
+use play_outside::{Sent, Sink};
 use play_types::Geometry;
 
 /// Writes a frame as lines: `F`, the channel and the tick; then each row from the top; then the sound, where the channel
-/// has sound. Rows and sound are in lower-case hexadecimal. A pixel has four bytes, and so has a pair of sound.
+/// has sound. Rows and sound are in lower-case hexadecimal. A pixel has four bytes, and so has a pair of sound. The lines
+/// are gathered and written some 32,000 bytes at a time.
 pub fn write_hex<K: Sink>(
     channel: u8,
     tick: u64,
@@ -22,32 +24,30 @@ pub fn write_hex<K: Sink>(
     requires sound_size { length sound.now ≡ 4 * size.pairs }
     ensures { Sends result (frame_lines channel tick size frame.now sound.now) (K.state to.old) (K.state to.new) }
 {
-    let mut room = DigitRoom::new();
-    match write_head(channel, tick, to) {
+    let mut text = Text::new();
+    match add_head(channel, tick, &mut text, to) {
         Sent::All => {}
         Sent::Failed => return Sent::Failed,
     }
-    match write_rows(
-        4 * usize::from(size.width),
-        size.height,
-        frame,
-        &mut room,
-        to,
-    ) {
+    let row_length = 4 * usize::from(size.width);
+    match add_rows(row_length, size.height, frame, &mut text, to) {
         Sent::All => {}
         Sent::Failed => return Sent::Failed,
     }
     if size.pairs == 0 {
-        return Sent::All;
+        return text.finish(to);
     }
-    write_line(sound, &mut room, to)
+    match add_line(sound, &mut text, to) {
+        Sent::All => text.finish(to),
+        Sent::Failed => Sent::Failed,
+    }
 }
 
-/// Writes the line that names the channel and the tick.
-fn write_head<K: Sink>(channel: u8, tick: u64, to: &mut K) -> Sent
-    ensures { Sends result (head_line channel tick) (K.state to.old) (K.state to.new) }
+/// Adds the line that names the channel and the tick.
+fn add_head<K: Sink>(channel: u8, tick: u64, text: &mut Text, to: &mut K) -> Sent
+    ensures { Adds result (text.old ++ head_line channel tick) text.new (K.state to.old) (K.state to.new) }
 {
-    send_parts(
+    text.add_parts(
         &[
             b"F ",
             Buffer::new().format(channel).as_bytes(),
@@ -59,20 +59,20 @@ fn write_head<K: Sink>(channel: u8, tick: u64, to: &mut K) -> Sent
     )
 }
 
-/// Writes rows of `row_length` bytes, each as a line.
-fn write_rows<K: Sink>(
+/// Adds rows of `row_length` bytes, each as a line.
+fn add_rows<K: Sink>(
     row_length: usize,
     rows: u16,
     frame: &[u8],
-    room: &mut DigitRoom,
+    text: &mut Text,
     to: &mut K,
 ) -> Sent
     requires { length frame.now ≡ row_length * rows }
-    ensures { Sends result (row_lines row_length rows frame.now) (K.state to.old) (K.state to.new) }
+    ensures { Adds result (text.old ++ row_lines row_length rows frame.now) text.new (K.state to.old) (K.state to.new) }
 {
     for row in 0..rows {
         let at = usize::from(row) * row_length;
-        match write_line(&frame[at..at + row_length], room, to) {
+        match add_line(&frame[at..at + row_length], text, to) {
             Sent::All => {}
             Sent::Failed => return Sent::Failed,
         }

@@ -1,4 +1,4 @@
-//! Small frames that are written to a sink with room.
+//! Small frames that are written to a sink with room, and a small frame that is one write.
 use super::*;
 use play_outside::{MemSink, Sent};
 use play_types::Geometry;
@@ -30,5 +30,23 @@ D 1 2 e3b0c44298fc1c149afbf4c8996fb92427ae41e4649b934ca495991b7852b855
 pixelssound"
             .as_slice()
     );
+    Ok(())
+}
+
+#[test]
+fn writes_lines_together(rt: HostRuntime) -> Result<(), Fail> {
+    let mut sink = MemSink::new(rt.alloc(), 0, 99, 99, vec![in rt.alloc(); 2]?)?;
+    let size = Geometry {
+        width: 1,
+        height: 2,
+        pairs: 0,
+    };
+    let pixels = [1, 2, 3, 4, 5, 6, 7, 8];
+    let sent = [
+        write_hex(1, 1, size, &pixels, &[], &mut sink),
+        write_hex(1, 2, size, &pixels, &[], &mut sink),
+    ];
+    assert_eq!(rt; sent, [Sent::All, Sent::Failed]);
+    assert_eq!(rt; sink.taken(), b"F 1 1\n01020304\n05060708\n".as_slice());
     Ok(())
 }

@@ -1,5 +1,6 @@
 pub mod Counting
 mod Finding
+pub mod Gathering
 mod Giving
 pub mod Parts
 pub mod Reading

@@ -10,13 +10,13 @@ use Rattle.play_outside.specs.declared.sink.Sent.TheVariants as sent
 use Rattle.play_outside.proofs.Sending.{taken_more, Fails-within}
 
 -- a prefix of the pieces, and one more
-flat_map-more : {X : Type 0} (f : X → List ℕ) (xs : List X) (at : ℕ) (d : X) → at < length xs
+pub flat_map-more : {X : Type 0} (f : X → List ℕ) (xs : List X) (at : ℕ) (d : X) → at < length xs
     → flat_map f (take (at + 1) xs) ≡ flat_map f (take at xs) ++ f (get_or xs at d)
 flat_map-more f xs at d within =
     rw (add-one, take-suc xs at d within, flat_map-append) (ap (λ (piece : List ℕ). flat_map f (take at xs) ++ piece) (append-nil (f (get_or xs at d))))
 
 -- a prefix of the pieces, one more, and the rest
-flat_map-parts : {X : Type 0} (f : X → List ℕ) (xs : List X) (at : ℕ) (d : X) → at < length xs
+pub flat_map-parts : {X : Type 0} (f : X → List ℕ) (xs : List X) (at : ℕ) (d : X) → at < length xs
     → flat_map f xs ≡ (flat_map f (take at xs) ++ f (get_or xs at d)) ++ flat_map f (drop (at + 1) xs)
 flat_map-parts f xs at d within =
     rw (← flat_map-more f xs at d within)

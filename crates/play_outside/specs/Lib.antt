@@ -3,6 +3,7 @@ pub mod SourceState
 pub mod Source
 pub mod SinkState
 pub mod Sink
+pub mod Gathered
 pub mod FolderState
 pub mod Folder
 pub mod Held

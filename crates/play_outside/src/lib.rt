@@ -6,6 +6,7 @@
 #![tactic(auto)]
 
 mod folder;
+mod gather;
 mod mem_media;
 mod mem_sink;
 mod mem_source;
@@ -19,6 +20,7 @@ mod tests;
 mod unread;
 
 pub use folder::{FileFault, MediaDir};
+pub use gather::Gather;
 pub use mem_media::{MemConfig, MemFile, MemMedia};
 pub use mem_sink::MemSink;
 pub use mem_source::MemSource;

@@ -3,7 +3,11 @@ ghost use Rattle.std.specs.Prelude.{◌<◌, length, decimal, flat_map};
 ghost use Rattle.play_outside.specs.SinkState.{SinkState};
 ghost use Rattle.play_outside.specs.Sink.{Writes, Sends};
 
+use super::Gather;
 use itoa::Buffer;
+
+/// How many bytes of small parts are gathered before they are written.
+const SMALL: usize = 4_096;
 
 /// What a write did.
 #[derive(Clone, Copy, Debug, PartialEq, Eq)]
@@ -49,17 +53,16 @@ pub fn send<K: Sink>(piece: &[u8], to: &mut K) -> Sent
     Sent::All
 }
 
-/// Writes the parts, one after another. After a failed write it writes nothing more.
+/// Writes the parts, one after another: small ones together, and one of more than 4,096 bytes on its own. After a failed
+/// write it writes nothing more.
 pub fn send_parts<K: Sink>(parts: &[&[u8]], to: &mut K) -> Sent
     ensures { Sends result (flat_map (λ part. part.now) parts.now) (K.state to.old) (K.state to.new) }
 {
-    for part in parts {
-        match send(part, to) {
-            Sent::All => {}
-            Sent::Failed => return Sent::Failed,
-        }
+    let mut gather = Gather::<SMALL>::new();
+    match gather.add_parts(parts, to) {
+        Sent::All => gather.finish(to),
+        Sent::Failed => Sent::Failed,
     }
-    Sent::All
 }
 
 /// Writes a number in decimal digits, without leading zeros.

@@ -52,6 +52,23 @@ fn sends(rt: HostRuntime) -> Result<(), Fail> {
 }
 
 #[test]
+fn gathers(rt: HostRuntime) -> Result<(), Fail> {
+    let mut sink = MemSink::new(rt.alloc(), 0, 99, 99, vec![in rt.alloc(); 4]?)?;
+    let mut gather = Gather::<4>::new();
+    let sent = [
+        send_parts(&[b"one ", b"write", b"\n"], &mut sink),
+        gather.add(b"ab", &mut sink),
+        gather.add_parts(&[b"c", b"d", b"e"], &mut sink),
+        gather.add(b"longer", &mut sink),
+        gather.finish(&mut sink),
+    ];
+    let (all, failed) = (Sent::All, Sent::Failed);
+    assert_eq!(rt; sent, [all, all, all, failed, all]);
+    assert_eq!(rt; sink.taken(), b"one write\nabcde".as_slice());
+    Ok(())
+}
+
+#[test]
 fn finds_files(rt: HostRuntime) -> Result<(), Fail> {
     let alloc = rt.alloc();
     let config = MemConfig {

@@ -5,8 +5,8 @@ ghost use Rattle.history_model.specs.text.Replies.{numbers_text, media_line};
 ghost use Rattle.play_outside.specs.Sink.{Sends};
 ghost use Rattle.return_codes.specs.inner.Style.{styled};
 
-use crate::line::LineStyle;
-use crate::quote::send_quoted;
+use crate::line::{Line, LineStyle};
+use crate::quote::add_quoted;
 use itoa::Buffer;
 use play_outside::{Sent, Sink};
 use play_types::{MediaName, MediaNames};
@@ -30,24 +30,31 @@ pub(crate) fn send_names<K: Sink>(media: &MediaNames, style: &LineStyle, to: &mu
 fn send_name<K: Sink>(clip: &MediaName, style: &LineStyle, to: &mut K) -> Sent
     ensures { Sends result (styled style.now (media_line clip.now)) (K.state to.old) (K.state to.new) }
 {
-    match style.begin(to) {
+    let mut line = Line::new();
+    match style.begin(&mut line, to) {
         Sent::All => {}
         Sent::Failed => return Sent::Failed,
     }
-    match send_quoted(clip.name().as_str(), to) {
+    match add_quoted(clip.name().as_str(), &mut line, to) {
         Sent::All => {}
         Sent::Failed => return Sent::Failed,
     }
     if clip.is_readable() {
-        send_numbers(clip, style, to)
+        end_with_numbers(clip, style, &mut line, to)
     } else {
-        style.end(&[b" UNREADABLE"], to)
+        style.end(&[b" UNREADABLE"], &mut line, to)
     }
 }
 
-/// Writes the rest of the line of a readable clip after its name: its size, its frames and its stereo pairs.
-fn send_numbers<K: Sink>(clip: &MediaName, style: &LineStyle, to: &mut K) -> Sent
-    ensures { Sends result (codes " " ++ numbers_text clip.now ++ style.now.after.now) (K.state to.old) (K.state to.new) }
+/// Adds the rest of the line of a readable clip after its name, which is its size, its frames and its stereo pairs, and
+/// writes what waits.
+fn end_with_numbers<K: Sink>(
+    clip: &MediaName,
+    style: &LineStyle,
+    line: &mut Line,
+    to: &mut K,
+) -> Sent
+    ensures { Sends result (line.old ++ (codes " " ++ numbers_text clip.now ++ style.now.after.now)) (K.state to.old) (K.state to.new) }
 {
     style.end(
         &[
@@ -60,6 +67,7 @@ fn send_numbers<K: Sink>(clip: &MediaName, style: &LineStyle, to: &mut K) -> Sen
             b" ",
             Buffer::new().format(clip.pairs()).as_bytes(),
         ],
+        line,
         to,
     )
 }

@@ -2,38 +2,39 @@
 ghost use Rattle.std.specs.Prelude.{◌≡◌, ◌∷◌, ◌++◌, [], codes, encode_utf8_all, chars, IfNone, IfSome};
 ghost use Rattle.std.specs.List.{flat_map};
 ghost use Rattle.history_model.specs.text.Replies.{escaped, quoted};
-ghost use Rattle.play_outside.specs.Sink.{Sends};
+ghost use Rattle.play_outside.specs.Gathered.{Adds};
 
-use play_outside::{Sent, Sink, send, send_parts};
+use crate::line::Line;
+use play_outside::{Sent, Sink};
 
-/// Writes a name in quotation marks, with its escapes.
-pub(crate) fn send_quoted<K: Sink>(name: &str, to: &mut K) -> Sent
-    ensures { Sends result (encode_utf8_all (quoted (chars name.now))) (K.state to.old) (K.state to.new) }
+/// Adds a name in quotation marks, with its escapes, to a line.
+pub(crate) fn add_quoted<K: Sink>(name: &str, line: &mut Line, to: &mut K) -> Sent
+    ensures { Adds result (line.old ++ encode_utf8_all (quoted (chars name.now))) line.new (K.state to.old) (K.state to.new) }
 {
-    match send(b"\"", to) {
+    match line.add(b"\"", to) {
         Sent::All => {}
         Sent::Failed => return Sent::Failed,
     }
-    match send_escaped(name.as_bytes(), to) {
-        Sent::All => send(b"\"", to),
+    match add_escaped(name.as_bytes(), line, to) {
+        Sent::All => line.add(b"\"", to),
         Sent::Failed => Sent::Failed,
     }
 }
 
-/// Writes the bytes of a name, and in place of each byte that has an escape its escape.
-fn send_escaped<K: Sink>(name: &[u8], to: &mut K) -> Sent
-    ensures { Sends result (flat_map escaped name.now) (K.state to.old) (K.state to.new) }
+/// Adds the bytes of a name, and in place of each byte that has an escape its escape.
+fn add_escaped<K: Sink>(name: &[u8], line: &mut Line, to: &mut K) -> Sent
+    ensures { Adds result (line.old ++ flat_map escaped name.now) line.new (K.state to.old) (K.state to.new) }
 {
-    let mut sent = 0;
+    let mut added = 0;
     for (at, byte) in name.iter().enumerate() {
         if let Some(letter) = escape_of(*byte) {
-            match send_parts(&[&name[sent..at], b"\\", &[letter]], to) {
-                Sent::All => sent = at + 1,
+            match line.add_parts(&[&name[added..at], b"\\", &[letter]], to) {
+                Sent::All => added = at + 1,
                 Sent::Failed => return Sent::Failed,
             }
         }
     }
-    send(&name[sent..], to)
+    line.add(&name[added..], to)
 }
 
 /// Returns the second byte of the escape of a quotation mark, a backslash or a new line, whose first byte is a backslash.

@@ -1,5 +1,5 @@
 use Rattle.return_codes.proofs.Lines.{numbers_text-parts}
-use Rattle.return_codes.proofs.media.send_numbers.Goals as goal
+use Rattle.return_codes.proofs.media.end_with_numbers.Goals as goal
 
 pub returns : goal.returns
 returns g c =

@@ -1,0 +1,38 @@
+use Rattle.std.proofs.Common.{◌≡◌, ◌+◌, length, append-nil, arith}
+use Rattle.play_outside.proofs.Gathering.{Gathered-none, Gathered-next, Adds-next, Adds-end}
+use Rattle.return_codes.proofs.Escapes.{plain_none, plain_more, escape-more, escape-parts, plain-whole}
+use Rattle.return_codes.proofs.quote.add_escaped.Goals as goal
+use Rattle.return_codes.proofs.quote.add_escaped.Goals.{in-Some+in-All, in_default}
+
+pub loop-at-init : goal.loop-at-init
+loop-at-init g c = record {
+  order = omega arith;
+  plain = plain_none 0 c.args.name.now;
+  gathered = rw append-nil (Gathered-none c.args.line.now (g.K.Sink.state c.args.to.now));
+}
+
+pub returns-in-Failed : goal.returns-in-Failed
+returns-in-Failed g c =
+    Adds-next _ _ _ _ _ _ _ _ _ _ (escape-parts c.loop-at.added c.loop-at.at c.args.name.now c.loop-at-test.true c.loop-at.invariant.plain)
+    c.loop-at.invariant.gathered (rw c.in-Some.ensures.some c.in-Failed.ensures)
+
+pub loop-at-preserved : goal.loop-at-preserved
+loop-at-preserved g c = elim c.match-escape_of.branch [
+  | in-Some+in-All w ↦ record {
+    order = omega arith;
+    plain = rw w.added-is (plain_none (c.loop-at.at + 1) c.args.name.now);
+    gathered = rw (w.added-is, w.line-is, w.to-is)
+        (Gathered-next _ _ _ _ _ _ _ _ _ (escape-more c.loop-at.added c.loop-at.at c.args.name.now c.loop-at-test.true c.loop-at.invariant.plain)
+        c.loop-at.invariant.gathered (rw w.in-Some.ensures.some w.in-All.ensures));
+  }
+  | in_default w ↦ record {
+    order = omega arith;
+    plain = rw w.added-is (plain_more c.loop-at.added c.loop-at.at c.args.name.now c.loop-at.invariant.order c.loop-at-test.true w.in_default.ensures.none c.loop-at.invariant.plain);
+    gathered = rw (w.added-is, w.line-is, w.to-is) c.loop-at.invariant.gathered;
+  }
+]
+
+pub returns : goal.returns
+returns g c =
+    let end : c.loop-at.at ≡ length c.args.name.now = omega arith in
+    Adds-end _ _ _ _ _ _ _ _ _ _ (plain-whole c.loop-at.added c.args.name.now (rw end at c.loop-at.invariant.plain)) c.loop-at.invariant.gathered c.add.ensures.adds

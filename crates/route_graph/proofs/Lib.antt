@@ -1,0 +1,3 @@
+pub mod ShownLayers
+pub mod Ticks
+pub mod Past

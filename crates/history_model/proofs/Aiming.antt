@@ -1,7 +1,8 @@
--- A play that words ask for is on a configured channel.
-use Rattle.std.proofs.Common.{◌≡◌, ℕ, ◌≤◌, ◌&&◌, Bool, true, false, List, length, refl, ap, subst, arith}
-use Rattle.std.specs.Prelude.{Option, Some, None, Result, Ok, Err, IfOk, ok_or, nat_le, nat_lt, if◌then◌else◌, slice_get}
+-- A command that words ask for names configured channels alone.
+use Rattle.std.proofs.Common.{◌≡◌, ℕ, ◌+◌, ◌-◌, ◌≤◌, ◌&&◌, Bool, true, false, List, length, refl, ap, subst, arith}
+use Rattle.std.specs.Prelude.{Option, Some, None, Result, Ok, Err, IfOk, ok_or, nat_le, nat_lt, if◌then◌else◌, slice_get, drop}
 use Rattle.std.specs.List.{before_first}
+use Rattle.std.specs.Result.{result_ok}
 use Rattle.std.specs.Option.{option_and_then}
 use Rattle.std.specs.Prelude.{codes, ◌==◌}
 use Rattle.std.proofs.lemmas.Bool.Decides.{nat_tests}
@@ -18,17 +19,20 @@ use Rattle.play_types.specs.declared.setting.Prop.{Prop}
 use Rattle.play_types.specs.declared.parsed.Parsed.{Parsed}
 use Rattle.play_types.specs.declared.parsed.Parsed.TheVariants as asked
 use Rattle.play_types.specs.declared.parsed.Refusal.{Refusal}
-use Rattle.play_types.specs.declared.parsed.Refusal.TheVariants.{Channel, Illegal, Missing, Unknown}
-use Rattle.play_types.specs.Take.{loaded, played}
-use Rattle.history_model.specs.commands.Channels.{IsConfigured, IsAimed}
+use Rattle.play_types.specs.declared.parsed.Refusal.TheVariants.{Channel, Illegal, Missing, Unknown, Unreadable}
+use Rattle.play_types.specs.Take.{TakeView, loaded, played}
+use Rattle.play_types.specs.declared.take.Spec.{Spec}
+use Rattle.play_types.specs.declared.take.Spec.TheVariants.{Clip, Colour, RouteChannel, RouteLayer}
+use Rattle.history_model.specs.commands.Channels.{IsConfigured, IsRouted, IsAimed}
+use Rattle.history_model.specs.commands.Options.{Options, options_at}
 use Rattle.history_model.specs.commands.Line.{Line, ◌>>=◌, ended, word_at, legal, flag_at}
 use Rattle.play_types.specs.Words.{is_word, prop_of, name_of}
 use Rattle.history_model.specs.commands.Places.{Area, place_of, area_of, area_at, is_dash, layer_of}
 use Rattle.history_model.specs.commands.Mixer.{mixer, mixer_command, property_command, reset, numbers_of, setting_for, timing_of}
-use Rattle.history_model.specs.commands.Producer.{take_at}
+use Rattle.history_model.specs.commands.Producer.{Producer, plain, is_colour_word, colour_of_digits, is_route_word, route_to, named_colour, clip_named, clip_producer, named_producer, producer_of, played_length, take_for, take_with, take_at}
 use Rattle.history_model.specs.commands.Command.{parsed, enough, meaning, meaning_by_name, least_words, staged, play, load, load_bg, clear, cleared, swap, swapped, only_place, place_command}
 
--- a play among the commands of the stage is on a configured channel
+-- the channels of a command of the stage are configured ones
 abbrev pub IsAimedParsed : ConfigView → Parsed → Type 0
 IsAimedParsed config (asked.Stage command) = IsAimed config command
 IsAimedParsed config asked.Begin = Unit {0}
@@ -91,6 +95,80 @@ area_at-aimed : (line : Line) (at : ℕ) → IfOk (area_at line at) (IsAimedArea
 area_at-aimed line at =
     bound (IsAimedArea line) (word_at line at) (λ word. area_of line at word) (λ word has. area_of-aimed line at word)
 
+-- a value of a result that is there
+result_ok-is : {A : Type 0} (result : Result A Refusal) (value : A) → result_ok result ≡ Some value → result ≡ Ok value
+result_ok-is (Ok other) value is = ap Ok (same_Some other value is)
+result_ok-is (Err reason) value is = absurd (none-some value is)
+
+-- a producer that is a route is one to a configured channel
+abbrev IsRoutedProducer : Line → Producer → Type 0
+IsRoutedProducer line producer = IsRouted line.config producer.spec
+
+-- the route of a take is one to a configured channel
+abbrev IsRoutedTake : Line → TakeView → Type 0
+IsRoutedTake line take = IsRouted line.config take.spec
+
+route_to-routed : (config : ConfigView) (channel : ℕ) (layer : Option ℕ) → IsConfigured config channel → IsRouted config (route_to channel layer)
+route_to-routed config channel None aimed = aimed
+route_to-routed config channel (Some layer) aimed = aimed
+
+-- a clip is no route
+clip_producer-routed : (line : Line) (found : Option (ℕ × MediaNameView)) → IfOk (clip_producer line found) (IsRoutedProducer line)
+clip_producer-routed line None = tt
+clip_producer-routed line (Some entry) = by_readable entry.1.readable
+  where
+    by_readable : (b : Bool) → IfOk (if b then Ok (record { spec = Clip entry.0; frames = entry.1.frames }) else Err (Unreadable line.name)) (IsRoutedProducer line)
+    by_readable true = tt
+    by_readable false = tt
+
+named_producer-routed : (line : Line) (word : List ℕ) (colour : Option ℕ) → IfOk (named_producer line word colour) (IsRoutedProducer line)
+named_producer-routed line word (Some value) = tt
+named_producer-routed line word None = clip_producer-routed line (clip_named line.media word)
+
+-- a route is read as an area is, so that one to a channel that is not configured is refused
+producer_of-routed : (line : Line) (at : ℕ) (word : List ℕ) → IfOk (producer_of line at word) (IsRoutedProducer line)
+unfolding producer_of
+producer_of-routed line at word = by_word (is_colour_word word) (is_route_word word)
+  where
+    by_word : (colour route : Bool) → IfOk
+        (if colour then (legal line at (colour_of_digits (drop 1 word)) >>= (λ value. Ok (plain (Colour value))))
+        else if route then (legal line at (result_ok (area_of line at (drop 8 word))) >>= (λ area. Ok (plain (route_to area.channel area.layer))))
+        else named_producer line word (named_colour word)) (IsRoutedProducer line)
+    by_word true route =
+        bound (IsRoutedProducer line) (legal line at (colour_of_digits (drop 1 word))) (λ value. Ok (plain (Colour value))) (λ value found. tt)
+    by_word false true =
+        let area_there = area_of line at (drop 8 word) in
+        bound (IsRoutedProducer line) (legal line at (result_ok area_there)) (λ area. Ok (plain (route_to area.channel area.layer)))
+        (λ area found. route_to-routed line.config area.channel area.layer
+        (known (IsAimedArea line) area_there area (area_of-aimed line at (drop 8 word))
+        (result_ok-is area_there area (ok_or-is (result_ok area_there) (Illegal line.name at) area found))))
+    by_word false false = named_producer-routed line word (named_colour word)
+
+-- the take of a producer has its route
+take_with-routed : (line : Line) (at : ℕ) (options : Options) (frames : ℕ) (spec : Spec) → IsRouted line.config spec
+    → IfOk (legal line at (take_with options frames spec)) (IsRoutedTake line)
+take_with-routed line at options frames (Clip id) routed = by_seek (nat_lt options.seek frames)
+  where
+    by_seek : (b : Bool) → IfOk (legal line at
+        (if b then Some (take_for (Clip id) options (played_length options.length (frames - options.seek))) else None)) (IsRoutedTake line)
+    by_seek true = tt
+    by_seek false = tt
+take_with-routed line at options frames (Colour value) routed = tt
+take_with-routed line at options frames (RouteChannel channel) routed = routed
+take_with-routed line at options frames (RouteLayer place) routed = routed
+
+take_at-routed : (line : Line) (at : ℕ) → IfOk (take_at line at) (IsRoutedTake line)
+unfolding take_at
+take_at-routed line at =
+    bound (IsRoutedTake line) (options_at line (at + 1))
+    (λ options. word_at line at >>= (λ word. producer_of line at word >>= (λ producer. legal line at (take_with options producer.frames producer.spec))))
+    (λ options found. bound (IsRoutedTake line) (word_at line at)
+    (λ word. producer_of line at word >>= (λ producer. legal line at (take_with options producer.frames producer.spec)))
+    (λ word has. bound (IsRoutedTake line) (producer_of line at word)
+    (λ producer. legal line at (take_with options producer.frames producer.spec))
+    (λ producer is. take_with-routed line at options producer.frames producer.spec
+    (known (IsRoutedProducer line) (producer_of line at word) producer (producer_of-routed line at word) is))))
+
 play-aimed : (line : Line) → IfOk (play line) (IsAimed line.config)
 unfolding play
 play-aimed line =
@@ -101,53 +179,74 @@ play-aimed line =
   where
     by_length : (area : Area) → IsAimedArea line area → (b : Bool)
         → IfOk (if b then Ok (cmd.Play (place_of area)) else (take_at line 2 >>= (λ take. Ok (cmd.PlayTake (place_of area) (played take))))) (IsAimed line.config)
-    by_length area aimed true = tt
+    by_length area aimed true = aimed
     by_length area aimed false =
-        bound (IsAimed line.config) (take_at line 2) (λ take. Ok (cmd.PlayTake (place_of area) (played take))) (λ take found. aimed)
+        bound (IsAimed line.config) (take_at line 2) (λ take. Ok (cmd.PlayTake (place_of area) (played take)))
+        (λ take found. (aimed, known (IsRoutedTake line) (take_at line 2) take (take_at-routed line 2) found))
 
-ended-aimed : (line : Line) (at : ℕ) (command : Cmd) → IsAimed line.config command → IfOk (ended line at command) (IsAimed line.config)
-ended-aimed line at command aimed = by_length (nat_lt at (length line.words))
+-- what a value keeps at the end of its line
+ended-keeps : {A : Type 0} (P : A → Type 0) (line : Line) (at : ℕ) (value : A) → P value → IfOk (ended line at value) P
+ended-keeps {A = A} P line at value has = by_length (nat_lt at (length line.words))
   where
-    by_length : (b : Bool) → IfOk (if b then Err (Illegal line.name at) else Ok command) (IsAimed line.config)
+    by_length : (b : Bool) → IfOk (if b then Err (Illegal line.name at) else Ok value) P
     by_length true = tt
-    by_length false = aimed
+    by_length false = has
 
-place_command-aimed : (line : Line) (command : PlaceView → Cmd) → ((place : PlaceView) → IsAimed line.config (command place))
+-- the place is on a configured channel
+abbrev IsAimedPlace : Line → PlaceView → Type 0
+IsAimedPlace line place = IsConfigured line.config place.channel
+
+only_place-aimed : (line : Line) → IfOk (only_place line) (IsAimedPlace line)
+only_place-aimed line =
+    bound (IsAimedPlace line) (area_at line 1) (λ area. ended line 2 (place_of area))
+    (λ area found. ended-keeps (IsAimedPlace line) line 2 (place_of area) (known (IsAimedArea line) (area_at line 1) area (area_at-aimed line 1) found))
+
+place_command-aimed : (line : Line) (command : PlaceView → Cmd) → ((place : PlaceView) → IsAimedPlace line place → IsAimed line.config (command place))
     → IfOk (place_command line command) (IsAimed line.config)
 place_command-aimed line command aimed =
-    bound (IsAimed line.config) (only_place line) (λ place. Ok (command place)) (λ place found. aimed place)
+    bound (IsAimed line.config) (only_place line) (λ place. Ok (command place))
+    (λ place found. aimed place (known (IsAimedPlace line) (only_place line) place (only_place-aimed line) found))
 
 load-aimed : (line : Line) → IfOk (load line) (IsAimed line.config)
 unfolding load
 load-aimed line =
     bound (IsAimed line.config) (area_at line 1) (λ area. take_at line 2 >>= (λ take. Ok (cmd.Load (place_of area) (loaded take))))
-    (λ area found. bound (IsAimed line.config) (take_at line 2) (λ take. Ok (cmd.Load (place_of area) (loaded take))) (λ take has. tt))
+    (λ area found. bound (IsAimed line.config) (take_at line 2) (λ take. Ok (cmd.Load (place_of area) (loaded take)))
+    (λ take has. (
+      known (IsAimedArea line) (area_at line 1) area (area_at-aimed line 1) found,
+      known (IsRoutedTake line) (take_at line 2) take (take_at-routed line 2) has,
+    )))
 
 load_bg-aimed : (line : Line) → IfOk (load_bg line) (IsAimed line.config)
 unfolding load_bg
 load_bg-aimed line =
     bound (IsAimed line.config) (area_at line 1) (λ area. take_at line 2 >>= (λ take. Ok (cmd.LoadBg (place_of area) take)))
-    (λ area found. bound (IsAimed line.config) (take_at line 2) (λ take. Ok (cmd.LoadBg (place_of area) take)) (λ take has. tt))
+    (λ area found. bound (IsAimed line.config) (take_at line 2) (λ take. Ok (cmd.LoadBg (place_of area) take))
+    (λ take has. (
+      known (IsAimedArea line) (area_at line 1) area (area_at-aimed line 1) found,
+      known (IsRoutedTake line) (take_at line 2) take (take_at-routed line 2) has,
+    )))
 
-cleared-aimed : (config : ConfigView) (channel : ℕ) (layer : Option ℕ) → IsAimed config (cleared channel layer)
-cleared-aimed config channel None = tt
-cleared-aimed config channel (Some layer) = tt
+cleared-aimed : (config : ConfigView) (channel : ℕ) (layer : Option ℕ) → IsConfigured config channel → IsAimed config (cleared channel layer)
+cleared-aimed config channel None aimed = aimed
+cleared-aimed config channel (Some layer) aimed = aimed
 
 clear-aimed : (line : Line) → IfOk (clear line) (IsAimed line.config)
 unfolding clear
 clear-aimed line =
     bound (IsAimed line.config) (area_at line 1) (λ area. ended line 2 (cleared area.channel area.layer))
-    (λ area found. ended-aimed line 2 (cleared area.channel area.layer) (cleared-aimed line.config area.channel area.layer))
+    (λ area found. ended-keeps (IsAimed line.config) line 2 (cleared area.channel area.layer)
+    (cleared-aimed line.config area.channel area.layer (known (IsAimedArea line) (area_at line 1) area (area_at-aimed line 1) found)))
 
--- what exchanges two areas is no play
-exchange-aimed : (line : Line) (one other : Area) (layer layer' : Option ℕ)
+-- an exchange of two areas on configured channels
+exchange-aimed : (line : Line) (one other : Area) (layer layer' : Option ℕ) → IsAimedArea line one → IsAimedArea line other
     → IfOk (legal line 2 (swapped one other layer layer') >>= (λ command. flag_at line 3 (codes "TRANSFORMS") >>= (λ transforms. Ok (command transforms)))) (IsAimed line.config)
-exchange-aimed line one other None None =
-    bound (IsAimed line.config) (flag_at line 3 (codes "TRANSFORMS")) (λ transforms. Ok (cmd.SwapChannels one.channel other.channel transforms)) (λ transforms has. tt)
-exchange-aimed line one other (Some layer) (Some layer') =
-    bound (IsAimed line.config) (flag_at line 3 (codes "TRANSFORMS")) (λ transforms. Ok (cmd.SwapLayers (place_of one) (place_of other) transforms)) (λ transforms has. tt)
-exchange-aimed line one other None (Some layer') = tt
-exchange-aimed line one other (Some layer) None = tt
+exchange-aimed line one other None None first second =
+    bound (IsAimed line.config) (flag_at line 3 (codes "TRANSFORMS")) (λ transforms. Ok (cmd.SwapChannels one.channel other.channel transforms)) (λ transforms has. (first, second))
+exchange-aimed line one other (Some layer) (Some layer') first second =
+    bound (IsAimed line.config) (flag_at line 3 (codes "TRANSFORMS")) (λ transforms. Ok (cmd.SwapLayers (place_of one) (place_of other) transforms)) (λ transforms has. (first, second))
+exchange-aimed line one other None (Some layer') first second = tt
+exchange-aimed line one other (Some layer) None first second = tt
 
 swap-aimed : (line : Line) → IfOk (swap line) (IsAimed line.config)
 unfolding swap
@@ -156,69 +255,66 @@ swap-aimed line =
     (λ one. area_at line 2 >>= (λ other. legal line 2 (swapped one other one.layer other.layer) >>= (λ command. flag_at line 3 (codes "TRANSFORMS") >>= (λ transforms. Ok (command transforms)))))
     (λ one found. bound (IsAimed line.config) (area_at line 2)
     (λ other. legal line 2 (swapped one other one.layer other.layer) >>= (λ command. flag_at line 3 (codes "TRANSFORMS") >>= (λ transforms. Ok (command transforms))))
-    (λ other has. exchange-aimed line one other one.layer other.layer))
+    (λ other has. exchange-aimed line one other one.layer other.layer
+    (known (IsAimedArea line) (area_at line 1) one (area_at-aimed line 1) found)
+    (known (IsAimedArea line) (area_at line 2) other (area_at-aimed line 2) has)))
 
-reset-aimed : (config : ConfigView) (channel : ℕ) (layer : Option ℕ) → IsAimed config (reset channel layer)
-reset-aimed config channel None = tt
-reset-aimed config channel (Some layer) = tt
+reset-aimed : (config : ConfigView) (channel : ℕ) (layer : Option ℕ) → IsConfigured config channel → IsAimed config (reset channel layer)
+reset-aimed config channel None aimed = aimed
+reset-aimed config channel (Some layer) aimed = aimed
 
-property_command-aimed : (line : Line) (place : PlaceView) (property : Prop) → IfOk (property_command line place property) (IsAimed line.config)
-property_command-aimed line place property = by_length (nat_lt 3 (length line.words))
+property_command-aimed : (line : Line) (place : PlaceView) (property : Prop) → IsAimedPlace line place → IfOk (property_command line place property) (IsAimed line.config)
+property_command-aimed line place property aimed = by_length (nat_lt 3 (length line.words))
   where
     by_length : (b : Bool) → IfOk (if b then (numbers_of line property >>= (λ numbers. timing_of line property >>= (λ timing.
         Ok (cmd.Set (setting_for place property numbers timing))))) else Ok (cmd.Value place property)) (IsAimed line.config)
     by_length true =
         bound (IsAimed line.config) (numbers_of line property) (λ numbers. timing_of line property >>= (λ timing. Ok (cmd.Set (setting_for place property numbers timing))))
-        (λ numbers found. bound (IsAimed line.config) (timing_of line property) (λ timing. Ok (cmd.Set (setting_for place property numbers timing))) (λ timing has. tt))
-    by_length false = tt
+        (λ numbers found. bound (IsAimed line.config) (timing_of line property) (λ timing. Ok (cmd.Set (setting_for place property numbers timing))) (λ timing has. aimed))
+    by_length false = aimed
 
 mixer-aimed : (line : Line) → IfOk (mixer line) (IsAimed line.config)
 unfolding mixer
 mixer-aimed line =
     bound (IsAimed line.config) (area_at line 1) (λ area. word_at line 2 >>= (λ word. mixer_command line area word))
     (λ area found. bound (IsAimed line.config) (word_at line 2) (λ word. mixer_command line area word)
-    (λ word has. by_word area word (is_word (codes "COMMIT") word) (is_word (codes "CLEAR") word)))
+    (λ word has. by_word area word (known (IsAimedArea line) (area_at line 1) area (area_at-aimed line 1) found)
+    (is_word (codes "COMMIT") word) (is_word (codes "CLEAR") word)))
   where
-    by_word : (area : Area) (word : List ℕ) (commit clear : Bool) → IfOk
+    by_word : (area : Area) (word : List ℕ) → IsAimedArea line area → (commit clear : Bool) → IfOk
         (if commit then ended line 3 (cmd.CommitMixer area.channel)
         else if clear then ended line 3 (reset area.channel area.layer)
         else (legal line 2 (prop_of word) >>= (λ property. property_command line (place_of area) property))) (IsAimed line.config)
-    by_word area word true clear = ended-aimed line 3 (cmd.CommitMixer area.channel) tt
-    by_word area word false true = ended-aimed line 3 (reset area.channel area.layer) (reset-aimed line.config area.channel area.layer)
-    by_word area word false false =
+    by_word area word aimed true clear = ended-keeps (IsAimed line.config) line 3 (cmd.CommitMixer area.channel) aimed
+    by_word area word aimed false true =
+        ended-keeps (IsAimed line.config) line 3 (reset area.channel area.layer) (reset-aimed line.config area.channel area.layer aimed)
+    by_word area word aimed false false =
         bound (IsAimed line.config) (legal line 2 (prop_of word)) (λ property. property_command line (place_of area) property)
-        (λ property found. property_command-aimed line (place_of area) property)
+        (λ property found. property_command-aimed line (place_of area) property aimed)
 
 staged-aimed : (config : ConfigView) (command : Result Cmd Refusal) → IfOk command (IsAimed config) → IfOk (staged command) (IsAimedParsed config)
 staged-aimed config (Ok command) aimed = aimed
 staged-aimed config (Err reason) aimed = tt
 
-ended-parsed : (line : Line) (what : Parsed) → IsAimedParsed line.config what → IfOk (ended line 1 what) (IsAimedParsed line.config)
-ended-parsed line what aimed = by_length (nat_lt 1 (length line.words))
-  where
-    by_length : (b : Bool) → IfOk (if b then Err (Illegal line.name 1) else Ok what) (IsAimedParsed line.config)
-    by_length true = tt
-    by_length false = aimed
-
 meaning_by_name-aimed : (line : Line) (command : Name) → IfOk (meaning_by_name line command) (IsAimedParsed line.config)
 meaning_by_name-aimed line name.LoadBg = staged-aimed line.config (load_bg line) (load_bg-aimed line)
 meaning_by_name-aimed line name.Load = staged-aimed line.config (load line) (load-aimed line)
 meaning_by_name-aimed line name.Play = staged-aimed line.config (play line) (play-aimed line)
-meaning_by_name-aimed line name.Pause = staged-aimed line.config (place_command line cmd.Pause) (place_command-aimed line cmd.Pause (λ place. tt))
-meaning_by_name-aimed line name.Resume = staged-aimed line.config (place_command line cmd.Resume) (place_command-aimed line cmd.Resume (λ place. tt))
-meaning_by_name-aimed line name.Stop = staged-aimed line.config (place_command line cmd.StopLayer) (place_command-aimed line cmd.StopLayer (λ place. tt))
+meaning_by_name-aimed line name.Pause = staged-aimed line.config (place_command line cmd.Pause) (place_command-aimed line cmd.Pause (λ place aimed. aimed))
+meaning_by_name-aimed line name.Resume = staged-aimed line.config (place_command line cmd.Resume) (place_command-aimed line cmd.Resume (λ place aimed. aimed))
+meaning_by_name-aimed line name.Stop = staged-aimed line.config (place_command line cmd.StopLayer) (place_command-aimed line cmd.StopLayer (λ place aimed. aimed))
 meaning_by_name-aimed line name.Clear = staged-aimed line.config (clear line) (clear-aimed line)
 meaning_by_name-aimed line name.Swap = staged-aimed line.config (swap line) (swap-aimed line)
 meaning_by_name-aimed line name.Mixer = staged-aimed line.config (mixer line) (mixer-aimed line)
-meaning_by_name-aimed line name.Begin = ended-parsed line asked.Begin tt
-meaning_by_name-aimed line name.Commit = ended-parsed line asked.Commit tt
-meaning_by_name-aimed line name.Discard = ended-parsed line asked.Discard tt
-meaning_by_name-aimed line name.Info = ended-parsed line (asked.Stage cmd.Info) tt
-meaning_by_name-aimed line name.Cls = ended-parsed line asked.Cls tt
+meaning_by_name-aimed line name.Begin = ended-keeps (IsAimedParsed line.config) line 1 asked.Begin tt
+meaning_by_name-aimed line name.Commit = ended-keeps (IsAimedParsed line.config) line 1 asked.Commit tt
+meaning_by_name-aimed line name.Discard = ended-keeps (IsAimedParsed line.config) line 1 asked.Discard tt
+meaning_by_name-aimed line name.Info = ended-keeps (IsAimedParsed line.config) line 1 (asked.Stage cmd.Info) tt
+meaning_by_name-aimed line name.Cls = ended-keeps (IsAimedParsed line.config) line 1 asked.Cls tt
 meaning_by_name-aimed line name.Version =
     bound (IsAimedParsed line.config) (flag_at line 1 (codes "SERVER")) (λ named. Ok asked.Version) (λ named found. tt)
-meaning_by_name-aimed line name.Bye = ended-parsed line asked.Bye tt
-meaning_by_name-aimed line name.Kill = ended-parsed line asked.Kill tt
+meaning_by_name-aimed line name.Bye = ended-keeps (IsAimedParsed line.config) line 1 asked.Bye tt
+meaning_by_name-aimed line name.Kill = ended-keeps (IsAimedParsed line.config) line 1 asked.Kill tt
 
 enough-aimed : (line : Line) → IfOk (enough line) (IsAimedParsed line.config)
 enough-aimed line = by_length (nat_lt (least_words line.name) (length line.words))
@@ -236,6 +332,10 @@ parsed-aimed config media words =
     (λ name. enough (record { name = name; words = words; config = config; media = media }))
     (λ name has. enough-aimed (record { name = name; words = words; config = config; media = media })))
 
--- a play that words ask for is on a configured channel
-pub play_is_aimed : (config : ConfigView) (media : List MediaNameView) (words : List (List ℕ)) (command : Cmd) → parsed config media words ≡ Ok (asked.Stage command) → IsAimed config command
-play_is_aimed config media words command is = known (IsAimedParsed config) (parsed config media words) (asked.Stage command) (parsed-aimed config media words) is
+-- the channels of what words ask for are configured ones
+pub parsed_is_aimed : (config : ConfigView) (media : List MediaNameView) (words : List (List ℕ)) (asked : Parsed) → parsed config media words ≡ Ok asked → IsAimedParsed config asked
+parsed_is_aimed config media words asked is = known (IsAimedParsed config) (parsed config media words) asked (parsed-aimed config media words) is
+
+-- the channels of a command that words ask for are configured ones
+pub command_is_aimed : (config : ConfigView) (media : List MediaNameView) (words : List (List ℕ)) (command : Cmd) → parsed config media words ≡ Ok (asked.Stage command) → IsAimed config command
+command_is_aimed config media words command is = parsed_is_aimed config media words (asked.Stage command) is

@@ -3,7 +3,7 @@ use Rattle.std.proofs.Common.{◌≡◌, ℕ, zero, suc, Bool, true, false, cond
 use Rattle.std.proofs.lemmas.Bool.{false≢true}
 use Rattle.play_types.specs.declared.event.Event.{Event}
 use Rattle.play_types.specs.declared.event.Event.TheVariants as event
-use Rattle.history_model.specs.scripts.History.{Playout, PlayedLine, events_at, ends_at, events_after, script_events, goes_on_after, goes_on}
+use Rattle.history_model.specs.scripts.History.{Playout, PlayedLine, Past, events_at, ends_at, events_after, script_events, goes_on_after, goes_on}
 use Rattle.history_model.specs.scripts.Output.{tick_output, ticks_output, output_at, output_after, script_output}
 
 -- the run goes on after lines only where it goes on after the first of them
@@ -32,33 +32,36 @@ pub goes_on-none : (playout : Playout) → goes_on playout [] ≡ true
 unfolding goes_on goes_on_after
 goes_on-none playout = refl
 
--- what the last line adds
-last_events : (b : Bool) (es : List Event) → (es ++ cond b [] []) ≡ es
-last_events true es = append-nil es
-last_events false es = append-nil es
+-- what the last line adds, whether the run ends at it or not
+last_events : (b : Bool) (es : List Event) → cond b es es ≡ es
+last_events true es = refl
+last_events false es = refl
 
-events_after-snoc : (playout : Playout) (before lines : List PlayedLine) (line : PlayedLine) → goes_on_after playout before lines ≡ true
-    → events_after playout before (lines ++ line ∷ []) ≡ events_after playout before lines ++ events_at playout (before ++ lines) line line.line
+events_after-snoc : (playout : Playout) (past : Past) (lines : List PlayedLine) (line : PlayedLine) → goes_on_after playout past.lines lines ≡ true
+    → events_after playout past (lines ++ line ∷ [])
+    ≡ events_after playout past lines ++ events_at playout (record { lines = past.lines ++ lines; events = events_after playout past lines }) line line.line
 unfolding events_after goes_on_after
-events_after-snoc playout before [] line on =
-    last_events (ends_at playout before line line.line) (events_at playout before line line.line)
-    ∙ ap (λ ls. events_at playout ls line line.line) (sym (append-nil before))
-events_after-snoc playout before (first ∷ lines) line on =
-    let here = events_at playout before first first.line in
-    let parts = first_goes_on (ends_at playout before first first.line) (goes_on_after playout (before ++ first ∷ []) lines) on in
-    let later = events_after-snoc playout (before ++ first ∷ []) lines line parts.1 in
-    ap (λ (b : Bool). here ++ cond b [] (events_after playout (before ++ first ∷ []) (lines ++ line ∷ []))) parts.0
-    ∙ ap (λ (es : List Event). here ++ es)
-    (later ∙ ap (λ ls. events_after playout (before ++ first ∷ []) lines ++ events_at playout ls line line.line) (append_assoc before (first ∷ []) lines))
-    ∙ sym (append_assoc here (events_after playout (before ++ first ∷ []) lines) (events_at playout (before ++ first ∷ lines) line line.line))
-    ∙ ap (λ (b : Bool). (here ++ cond b [] (events_after playout (before ++ first ∷ []) lines)) ++ events_at playout (before ++ first ∷ lines) line line.line)
+events_after-snoc playout past [] line on =
+    last_events (ends_at playout past.lines line line.line) (past.events ++ events_at playout past line line.line)
+    ∙ ap (λ ls. past.events ++ events_at playout (record { lines = ls; events = past.events }) line line.line) (sym (append-nil past.lines))
+events_after-snoc playout past (first ∷ lines) line on =
+    let here = past.events ++ events_at playout past first first.line in
+    let next : Past = record { lines = past.lines ++ first ∷ []; events = here } in
+    let parts = first_goes_on (ends_at playout past.lines first first.line) (goes_on_after playout (past.lines ++ first ∷ []) lines) on in
+    ap (λ (b : Bool). cond b here (events_after playout next (lines ++ line ∷ []))) parts.0
+    ∙ events_after-snoc playout next lines line parts.1
+    ∙ ap (λ ls. events_after playout next lines ++ events_at playout (record { lines = ls; events = events_after playout next lines }) line line.line)
+    (append_assoc past.lines (first ∷ []) lines)
+    ∙ ap (λ (b : Bool). cond b here (events_after playout next lines)
+    ++ events_at playout (record { lines = past.lines ++ first ∷ lines; events = cond b here (events_after playout next lines) }) line line.line)
     (sym parts.0)
 
 -- the events of a line come after those of the lines before it
 pub script_events-snoc : (playout : Playout) (lines : List PlayedLine) (line : PlayedLine) → goes_on playout lines ≡ true
-    → script_events playout (lines ++ line ∷ []) ≡ script_events playout lines ++ events_at playout lines line line.line
+    → script_events playout (lines ++ line ∷ [])
+    ≡ script_events playout lines ++ events_at playout (record { lines = lines; events = script_events playout lines }) line line.line
 unfolding script_events goes_on
-script_events-snoc playout lines line on = events_after-snoc playout [] lines line on
+script_events-snoc playout lines line on = events_after-snoc playout (record { lines = []; events = [] }) lines line on
 
 pub script_events-none : (playout : Playout) → script_events playout [] ≡ []
 unfolding script_events events_after

@@ -4,5 +4,4 @@ pub mod commands
 pub mod sessions
 pub mod text
 pub mod scripts
-pub mod first_plays
 pub mod Worked

@@ -24,6 +24,8 @@ use Rattle.history_model.specs.stage.Life.{Life, Outgoing}
 use Rattle.history_model.specs.stage.Live.{state}
 use Rattle.history_model.specs.stage.Acts.{acts}
 use Rattle.history_model.specs.stage.Answer.{ChannelFrame, row_pixels, channel_frame}
+use Rattle.history_model.specs.scripts.History.{Turn}
+use Rattle.history_model.specs.scripts.Output.{plain_config}
 
 -- layer l of channel c
 abbrev pub at : ℕ → ℕ → PlaceView
@@ -187,3 +189,12 @@ old_of take shown paused = record { take = take; shown = shown; paused = paused 
 -- what a channel shows
 abbrev pub frame_of : List PixelView → List ℤ → ChannelFrame
 frame_of pixels samples = record { pixels = pixels; samples = samples }
+
+-- session 1 of worker 1 asks after these events, where the journal takes one command, and whether there is no memory
+abbrev pub turn_after : List Event → Bool → Turn
+turn_after events no_memory = record {
+  playout = record { config = record (plain_config 1 1) { journal_limit = 1 }; names = []; clips = []; digests = false };
+  events = events;
+  tag = record { worker = 1; session = 1 };
+  no_memory = no_memory;
+}

@@ -6,3 +6,5 @@ pub mod Placing
 pub mod Frame
 pub mod Sound
 pub mod PlainScene
+pub mod StageScene
+pub mod TimelineFrame

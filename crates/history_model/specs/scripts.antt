@@ -2,3 +2,5 @@ pub mod Line
 pub mod History
 pub mod Input
 pub mod Output
+pub mod Memory
+pub mod Struck

@@ -10,3 +10,7 @@ pub mod Steps
 pub mod Answer
 pub mod Plain
 pub mod Places
+pub mod StageState
+pub mod StageHistory
+pub mod Timeline
+pub mod Group

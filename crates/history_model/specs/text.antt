@@ -1,3 +1,5 @@
 pub mod Parts
 pub mod Frames
 pub mod Replies
+pub mod Commands
+pub mod History

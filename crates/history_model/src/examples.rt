@@ -4,10 +4,12 @@
 //! letters: blue, green, red and alpha.
 
 pub mod answers;
+pub mod groups;
 pub mod histories;
 pub mod lives;
 pub mod pictures;
 pub mod places;
 pub mod routes;
+pub mod scripts;
 pub mod settings;
 pub mod sounds;

@@ -1,9 +1,14 @@
 //! Laws of the definitions. Each is a function that does nothing, and its contract is the law.
 
-pub mod first_plays;
+pub mod batches;
 pub mod frames;
+pub mod groups;
 pub mod histories;
 pub mod lives;
 pub mod places;
 pub mod placing;
+pub mod script_outputs;
+pub mod scripts;
+pub mod stage;
+pub mod timelines;
 pub mod trails;

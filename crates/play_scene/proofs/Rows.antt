@@ -1,6 +1,5 @@
 -- Rows and columns that are added one after another.
-use Rattle.std.proofs.lemmas.Nat.{mul-le}
-use Rattle.std.proofs.Common.{◌≡◌, ℕ, zero, suc, ◌+◌, ◌*◌, ◌<◌, ◌≤◌, List, [], ◌∷◌, ◌++◌, length, length-append, refl, ap, ◌∙◌, add-one, append_assoc, append-nil, arith}
+use Rattle.std.proofs.Common.{◌≡◌, ℕ, zero, suc, ◌+◌, ◌*◌, List, [], ◌∷◌, ◌++◌, length, length-append, refl, ap, ◌∙◌, add-one, append-nil, arith}
 use Rattle.std.specs.Prelude.{flat_map}
 use Rattle.std.specs.List.{range_with_len}
 use Rattle.std.proofs.lemmas.Grind.{flat_map-append}
@@ -22,11 +21,6 @@ flat_map-range_more {A = A} f n =
     ∙ ap (λ (l : List A). flat_map f (range_with_len 0 n) ++ l) (append-nil (f (0 + n)))
     ∙ ap (λ (k : ℕ). flat_map f (range_with_len 0 n) ++ f k) (omega arith)
 
--- one more piece at the end of a list that has the pieces of the numbers before
-pub pieces_more : {A : Type 0} (f : ℕ → List A) (n : ℕ) (first before after piece : List A) → before ≡ first ++ flat_map f (range_with_len 0 n) → after ≡ before ++ piece → piece ≡ f n → after ≡ first ++ flat_map f (range_with_len 0 (n + 1))
-pieces_more f n first before after piece so_far step is =
-    rw (step, so_far, is, flat_map-range_more f n, append_assoc) refl
-
 -- the bytes of `count` pieces from the one at `first` on, each of one size
 pub length-pieces : (f : ℕ → List ℕ) (size first count : ℕ) → ((k : ℕ) → length (f k) ≡ size) → length (flat_map f (range_with_len first count)) ≡ size * count
 length-pieces f size first zero each = omega arith
@@ -39,13 +33,3 @@ pub length-frame_bytes : (width height : ℕ) (pixel : ℕ → ℕ → PixelView
 length-frame_bytes width height pixel =
     length-pieces (λ y. flat_map (λ x. pixel_bytes (pixel x y)) (range_with_len 0 width)) (4 * width) 0 height
     (λ y. length-pieces (λ x. pixel_bytes (pixel x y)) 4 0 width (λ x. refl))
-
-mul-add-one : (a n : ℕ) → a * (n + 1) ≡ a * n + a
-mul-add-one a n = grind arith
-
--- where there is room for all rows there is room for the next
-pub rows_fit : (width height row so_far room now : ℕ) → so_far ≡ 4 * width * row → 4 * width * height ≤ room → room ≤ now → row < height → so_far + 4 * width ≤ now
-rows_fit width height row so_far room now is fits more inside =
-    let next : (4 * width) * (row + 1) ≤ (4 * width) * height = mul-le (4 * width) (row + 1) (4 * width) height (omega arith) (omega (arith, inside)) in
-    let sum : (4 * width) * (row + 1) ≡ (4 * width) * row + 4 * width = mul-add-one (4 * width) row in
-    omega (arith, is, fits, more, next, sum)

@@ -1,5 +1,5 @@
 pub mod Picture
 pub mod Frames
-pub mod PlainScene
 pub mod Worked
+pub mod WorkedScenes
 pub mod inner

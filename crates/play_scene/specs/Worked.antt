@@ -3,6 +3,7 @@ use Rattle.std.specs.Prelude.{ℕ, false, List, [], ◌∷◌, Option, Some, Non
 use Rattle.std.specs.List.{range_with_len}
 use Rattle.play_types.specs.ClipFile.{ClipView}
 use Rattle.play_types.specs.Take.{TakeView}
+use Rattle.play_types.specs.Playhead.{head}
 use Rattle.play_types.specs.Transition.{cut}
 use Rattle.play_types.specs.Setting.{number_at}
 use Rattle.play_types.specs.declared.setting.Prop.TheVariants as prop
@@ -15,9 +16,9 @@ use Rattle.play_types.specs.declared.take.Spec.TheVariants.{Clip}
 use Rattle.history_model.specs.stage.Value.{default_of}
 use Rattle.history_model.specs.text.Frames.{frame_bytes}
 use Rattle.history_model.specs.pictures.Frame.{scene_pixel}
-use Rattle.history_model.specs.pictures.Raster.{Pictures}
+use Rattle.history_model.specs.pictures.Source.{own_still}
+use Rattle.history_model.specs.pictures.Raster.{Pictures, still_pixel}
 use Rattle.play_scene.specs.Frames.{FrameView, pixel_in}
-use Rattle.play_scene.specs.Picture.{picture_pixel, take_picture}
 
 -- a raster of one row, without sound
 abbrev pub strip : ℕ → Geometry
@@ -47,11 +48,6 @@ bars = played (Clip 0) 0 1
 abbrev pub steps : TakeView
 steps = played (Clip 1) 0 3
 
--- the red of each pixel of a raster of `width` columns that shows a take after `ticks` ticks
-abbrev pub row_of : TakeView → ℕ → ℕ → List ℕ
-row_of take ticks width =
-    map (λ x. (picture_pixel (take_picture media take ticks) (strip width) x 0).r) (range_with_len 0 width)
-
 -- a layer that shows a still, without a transition and by the default mixer values
 abbrev pub layer_of : Still → Drawn
 layer_of still = record {
@@ -76,6 +72,11 @@ pictures = record {
   setup = record { channels = strip 2 ∷ []; clips = media };
   frames = λ channel x y. pixel_in frame_before x y;
 }
+
+-- the red of each pixel of a raster of `width` columns that shows a take after `ticks` ticks
+abbrev pub row_of : TakeView → ℕ → ℕ → List ℕ
+row_of take ticks width =
+    map (λ x. (still_pixel pictures (strip width) (own_still take.spec (head take ticks)) x 0).r) (range_with_len 0 width)
 
 -- the bytes of a raster of `width` columns that shows stills over one another, the lowest first
 abbrev pub bytes_of : List Still → ℕ → List ℕ

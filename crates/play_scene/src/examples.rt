@@ -6,6 +6,8 @@ ghost use Rattle.play_types.specs.declared.drawn.Still.TheVariants as still;
 ghost use Rattle.play_scene.specs.Frames.{with_piece};
 ghost use Rattle.play_scene.specs.Worked.{bars, bytes_of, played, reds_of, row_of, steps};
 
+pub mod scenes;
+
 /// Four columns on a raster of another width: each column shows the one in which its middle lies.
 pub fn columns_of_a_clip()
     ensures one { row_of bars 0 1 ≡ 30 ∷ [] }

@@ -1,39 +1,17 @@
 //! Laws of the definitions in `specs/`, each the contract of a function that does nothing.
 ghost use Rattle.std.specs.Prelude.{◌≡◌, ◌∷◌, ◌++◌, ◌<◌, [], ℕ, List, length, map};
 ghost use Rattle.play_types.specs.Config.{ChannelView};
-ghost use Rattle.play_types.specs.Playhead.{head};
 ghost use Rattle.play_types.specs.Scene.{IsConfigured};
 ghost use Rattle.play_types.specs.declared.event.Event.{Event};
 ghost use Rattle.play_types.specs.declared.event.Event.TheVariants.{Tick};
-ghost use Rattle.play_types.specs.declared.transition.Kind.TheVariants.{Cut};
 ghost use Rattle.pixel_math.specs.Pixel.{PixelView};
 ghost use Rattle.clip_format.specs.Table.{Entry};
 ghost use Rattle.history_model.specs.pictures.Frame.{frame_pixel, pictures_after, scene_pixel};
 ghost use Rattle.history_model.specs.pictures.Media.{Setup};
-ghost use Rattle.history_model.specs.pictures.PlainScene.{plain_drawn};
-ghost use Rattle.history_model.specs.pictures.Raster.{Pictures, still_pixel};
+ghost use Rattle.history_model.specs.pictures.Raster.{Pictures};
 ghost use Rattle.history_model.specs.pictures.Scene.{scene};
-ghost use Rattle.history_model.specs.pictures.Source.{own_still};
-ghost use Rattle.history_model.specs.stage.Life.{Foreground};
-ghost use Rattle.history_model.specs.stage.Plain.{IsPlainHistory};
-ghost use Rattle.play_scene.specs.Frames.{ArePictures, FrameView, Shows, frame_at, pictures_of, pixel_in, zero_frame};
-ghost use Rattle.play_scene.specs.Picture.{clips_of, picture_pixel, take_picture};
-ghost use Rattle.play_scene.specs.PlainScene.{IsPlainDrawn, IsPlainScene};
-
-use play_types::{Geometry, Take};
-
-/// The picture of a take has the pixels of the still that the take is at its playhead.
-pub fn pictures_are_stills(take: Take, ticks: u64, raster: Geometry)
-    ensures { (pictures : Pictures) (x y : ℕ)
-        → picture_pixel (take_picture pictures.setup.clips take ticks) raster x y
-        ≡ still_pixel pictures raster (own_still take.spec (head take ticks)) x y }
-{}
-
-/// A foreground with a cut is drawn as a plain layer, and a plain history has plain scenes.
-pub fn plain_layers_of_plain_commands()
-    ensures layer { (foreground : Foreground) → foreground.take.trans.kind ≡ Cut → IsPlainDrawn (plain_drawn foreground) }
-    ensures scene { (history : List Event) (channel : ℕ) → IsPlainHistory history → IsPlainScene (scene history channel) }
-{}
+ghost use Rattle.play_scene.specs.Frames.{ArePictures, FrameView, IsFrame, Shows, frame_at, pictures_of, pixel_in, with_picture, zero_frame};
+ghost use Rattle.play_scene.specs.Picture.{clips_of};
 
 /// Frames and a media table give the pictures of the next tick. Where they give those after a history, a pixel of the scene of a
 /// channel is the pixel that its frame has at the tick after the history.
@@ -43,6 +21,18 @@ pub fn pixels_of_histories()
         ArePictures (pictures_after setup history) frames entries → IsConfigured (length frames) channel →
         scene_pixel (pictures_after setup history) (frame_at channel frames).size (scene history channel) x y
         ≡ frame_pixel setup history channel x y }
+{}
+
+/// Where the frames of the tick before give the pictures after a history, a frame into which the picture of the channel's scene
+/// is written has the bytes of the channel's frame at the tick after the history.
+pub fn rendered_frames()
+    ensures { (setup : Setup) (history : List Event) (prev next : List FrameView) (entries : List Entry) (channel : ℕ) →
+        ArePictures (pictures_after setup history) prev entries →
+        IsConfigured (length prev) channel → IsConfigured (length next) channel →
+        (frame_at channel next).size ≡ (frame_at channel prev).size →
+        let picture = scene_pixel (pictures_after setup history) (frame_at channel next).size (scene history channel) in
+        IsFrame (frame_at channel (with_picture channel picture next)) →
+        Shows (frame_at channel (with_picture channel picture next)) (frame_pixel setup history channel) }
 {}
 
 /// A frame with the bytes of a picture has its pixels. The zero frames are the pictures before the first tick, and frames with

@@ -6,7 +6,6 @@ ghost use Rattle.play_types.specs.Scene.{IsConfigured, scene_at};
 ghost use Rattle.history_model.specs.pictures.Frame.{scene_pixel};
 ghost use Rattle.history_model.specs.pictures.Raster.{Pictures};
 ghost use Rattle.play_scene.specs.Frames.{ArePictures, frame_at, with_bytes, with_picture, with_piece};
-ghost use Rattle.play_scene.specs.PlainScene.{IsPlainScene};
 
 use crate::composition::pixel;
 use crate::frames::Frames;
@@ -14,8 +13,8 @@ use clip_format::MediaTable;
 use play_types::Scenes;
 
 /// Writes the picture of a channel into its frame of `next`: all pixels of its scene, by the frames of the tick before and
-/// the clips. The sound of the channel and the frames of the other channels stay. The channel is configured, `scenes`, `prev`
-/// and `next` have the same number of channels, and the scene of the channel is one that [`pixel`] takes. It takes no memory.
+/// the clips. The sound of the channel and the frames of the other channels stay. The channel is configured, and `scenes`,
+/// `prev` and `next` have the same number of channels. It takes no memory.
 pub fn render_channel(
     scenes: &Scenes,
     prev: &Frames,
@@ -26,7 +25,6 @@ pub fn render_channel(
     requires channel { IsConfigured (length scenes.now) channel }
     requires prev { length prev.now ≡ length scenes.now }
     requires next { length next.old ≡ length scenes.now }
-    requires plain { IsPlainScene (scene_at channel scenes.now) }
     ensures { (pictures : Pictures) → ArePictures pictures prev.now media.now →
         next.new ≡ with_picture channel (scene_pixel pictures (frame_at channel next.old).size (scene_at channel scenes.now)) next.old }
 {
@@ -47,7 +45,6 @@ fn render_row(
     requires channel { IsConfigured (length scenes.now) channel }
     requires prev { length prev.now ≡ length scenes.now }
     requires next { length next.old ≡ length scenes.now }
-    requires plain { IsPlainScene (scene_at channel scenes.now) }
     requires row { row < (frame_at channel next.old).size.height }
     ensures { (pictures : Pictures) → ArePictures pictures prev.now media.now →
         next.new ≡ with_bytes channel

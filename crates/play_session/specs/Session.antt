@@ -74,7 +74,8 @@ IsBetweenLines session = reader.Represents session.reader []
 abbrev pub IsAsBefore : SessionState → SessionState → Type 0
 IsAsBefore before after = (after.batch_open ≡ before.batch_open) × (after.batch ≡ before.batch) × (after.ended ≡ before.ended)
 
--- a reply fits the configuration, and a command that the stage is asked for is on its channels
+-- a reply fits the configuration, and a command that the stage is asked for names configured channels alone; the commands of
+-- a batch are those of the session
 abbrev pub Fits : ConfigView → Step → Type 0
 Fits config (step.Local answer) = IsReplyTo config answer
 Fits config (step.Ask command) = IsAimed config command

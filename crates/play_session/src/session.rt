@@ -5,6 +5,7 @@ ghost use Rattle.amcp_text.specs.Lines.{is_line_end};
 ghost use Rattle.amcp_text.specs.Reader.{taken_len};
 ghost use Rattle.play_types.specs.Config.{ConfigView};
 ghost use Rattle.play_types.specs.Media.{MediaNameView};
+ghost use Rattle.history_model.specs.commands.Channels.{AreAimed};
 ghost use Rattle.play_session.specs.Step.{ends};
 ghost use Rattle.play_session.specs.Session.{Progress, Represents, Gives, Fits, IsAsBefore, IsBetweenLines, after_bytes, at_start};
 ghost use Rattle.play_session.specs.inner.Following.{Follows, batch_of};
@@ -41,6 +42,7 @@ impl Session {
     pub fn new(alloc: Global) -> Result<Session, AllocError>
         ensures represents { IfOk result (λ session. (config : ConfigView) (media : List MediaNameView)
             → Represents config media session at_start) }
+        ensures batch { IfOk result (λ session. session.batch ≡ []) }
         ensures ended { IfOk result (λ session. session.ended ≡ false) }
         ensures between { IfOk result IsBetweenLines }
     {
@@ -56,6 +58,7 @@ impl Session {
     /// Drops the bytes of the unfinished line and the batch, for a new connection. It takes no memory.
     pub fn restart(&mut self)
         ensures represents { (config : ConfigView) (media : List MediaNameView) → Represents config media self.new at_start }
+        ensures batch { self.new.batch ≡ [] }
         ensures ended { self.new.ended ≡ false }
         ensures between { IsBetweenLines self.new }
     {
@@ -80,7 +83,8 @@ impl Session {
     /// is; `Skip` exactly where the line has no word.
     ///
     /// No step may be asked for after a `Kill` or a `Bye`. A line for which there is no memory is given up with
-    /// `Local(NoMemory)`, which leaves the batch as it was.
+    /// `Local(NoMemory)`, which leaves the batch as it was. Where each command of the batch before the line names configured
+    /// channels alone, so does each command of the batch after it.
     pub fn next(&mut self, alloc: Global, config: &Config, media: &MediaNames) -> Step
         requires { self.old.ended ≡ false }
         ensures needs_more { (result ≡ Step.NeedMore) ↔ (self.old.reader.held ≡ false) }
@@ -89,6 +93,7 @@ impl Session {
             → Gives config.now media.now result self.new progress }
         ensures ended { self.new.ended ≡ ends result }
         ensures fits { Fits config.now result }
+        ensures aimed { AreAimed config.now self.old.batch → AreAimed config.now self.new.batch }
         ensures given_up { result ≡ Step.Local Reply.NoMemory → IsAsBefore self.old self.new }
     {
         let meaning = match self.reader.line() {
@@ -103,7 +108,8 @@ impl Session {
     /// next step asked for. The bytes of an unfinished line are dropped.
     ///
     /// No step may be asked for after a `Kill` or a `Bye`. `Skip` comes exactly where the line has no word. A line for
-    /// which there is no memory is given up with `Local(NoMemory)`, which leaves the batch as it was.
+    /// which there is no memory is given up with `Local(NoMemory)`, which leaves the batch as it was. Where each command of
+    /// the batch before the line names configured channels alone, so does each command of the batch after it.
     pub fn take_line(
         &mut self,
         alloc: Global,
@@ -119,6 +125,7 @@ impl Session {
         ensures between { IsBetweenLines self.new }
         ensures ended { self.new.ended ≡ ends result }
         ensures fits { Fits config.now result }
+        ensures aimed { AreAimed config.now self.old.batch → AreAimed config.now self.new.batch }
         ensures given_up { result ≡ Step.Local Reply.NoMemory → IsAsBefore self.old self.new }
     {
         let meaning = meaning_of(alloc, config, media, LineEvent::of(text));

@@ -124,7 +124,7 @@ module _ (run : Run) (script : Script) (bytes : List ℕ) (before after : SinkSt
   ended_stops halt.Stop plays = (
     reading_of bytes true,
     whole_prefix bytes short,
-    line_stops run (ended_lines bytes) (unended bytes) before after taken.done (reading_of bytes true) (lines-last bytes some) plays,
+    line_stops run (ended_lines bytes) (unended bytes) before after taken.done (reading_of bytes true) (lines-last bytes some) new plays,
   )
   ended_stops halt.Write plays = (
     reading_of bytes true,

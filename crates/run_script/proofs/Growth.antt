@@ -23,7 +23,7 @@ use Rattle.run_script.specs.declared.ending.Halt.TheVariants as halt
 use Rattle.run_script.specs.declared.script.Script.{Script}
 use Rattle.run_script.specs.declared.player.Player.{Player}
 use Rattle.run_script.specs.Script.{Run, Reading, lines_of_reading, meanings, played_meanings, IsDone, IsAtLast, StopsAt, RejectsAt, FailsAt}
-use Rattle.run_script.specs.inner.Player.{Represents, NextLine, IsLineDone, IsLastLine, IsLineFailed, PlaysLine}
+use Rattle.run_script.specs.inner.Player.{Represents, NextLine, Marks, no_marks, IsLineDone, IsLastLine, IsLineFailed, PlaysLine}
 use Rattle.run_script.specs.inner.Taken.{HasTaken, TakesBytes}
 
 -- one line more is said
@@ -41,8 +41,8 @@ said-length played lines said =
     sym (length-map played (λ (one : PlayedLine). one.line)) ∙ ap length said ∙ length-map lines meaning
 
 -- a line as it was played
-abbrev pub played_as : List ℕ → Bool → PlayedLine
-played_as line given_up = record { line = meaning line; given_up = given_up }
+abbrev pub played_as : List ℕ → Marks → PlayedLine
+played_as line marks = record { line = meaning line; given_up = marks.given_up; no_memory = marks.no_memory }
 
 -- the next line after those that are done
 abbrev pub next_line : (run : Run) (lines : List (List ℕ)) (state : SinkState) → IsDone run lines state → List ℕ → NextLine
@@ -50,47 +50,47 @@ next_line run lines state done line = record { playout = run.playout; before = d
 
 module _ (run : Run) (lines : List (List ℕ)) (line : List ℕ) (before after : SinkState) (done : IsDone run lines before) where
   -- the output of one line more
-  pub written-snoc : (given_up : Bool) → after ≡ after_taking before (output_at run.playout done.played (played_as line given_up) (meaning line))
-      → after ≡ after_taking run.first (script_output run.playout (done.played ++ played_as line given_up ∷ []))
-  written-snoc given_up step =
-      let text = output_at run.playout done.played (played_as line given_up) (meaning line) in
+  pub written-snoc : (marks : Marks) → after ≡ after_taking before (output_at run.playout done.played (played_as line marks) (meaning line))
+      → after ≡ after_taking run.first (script_output run.playout (done.played ++ played_as line marks ∷ []))
+  written-snoc marks step =
+      let text = output_at run.playout done.played (played_as line marks) (meaning line) in
       step
       ∙ ap (λ (s : SinkState). after_taking s text) done.written
       ∙ after_taking-after_taking run.first (script_output run.playout done.played) text
-      ∙ ap (after_taking run.first) (sym (script_output-snoc run.playout done.played (played_as line given_up) done.runs_on))
+      ∙ ap (after_taking run.first) (sym (script_output-snoc run.playout done.played (played_as line marks) done.runs_on))
 
   -- one line more is done
   abbrev pub line_done : (player : Player) (all : List (List ℕ)) → all ≡ lines ++ line ∷ [] → (plays : IsLineDone (next_line run lines before done line) player before after)
       → IsDone run all after
   line_done player all is plays = record {
-    played = done.played ++ played_as line plays.given_up ∷ [];
-    said = said-snoc done.played (played_as line plays.given_up) lines all line done.said is refl;
-    runs_on = goes_on-snoc run.playout done.played (played_as line plays.given_up) done.runs_on plays.goes_on;
-    written = written-snoc plays.given_up plays.written;
+    played = done.played ++ played_as line plays.marks ∷ [];
+    said = said-snoc done.played (played_as line plays.marks) lines all line done.said is refl;
+    runs_on = goes_on-snoc run.playout done.played (played_as line plays.marks) done.runs_on plays.goes_on;
+    written = written-snoc plays.marks plays.written;
   }
 
   module _ (reading : Reading) (is : lines_of_reading reading ≡ lines ++ line ∷ []) where
-    abbrev at_last : (given_up : Bool) → IsAtLast run.playout reading
-    at_last given_up = record {
+    abbrev at_last : (marks : Marks) → IsAtLast run.playout reading
+    at_last marks = record {
       before = done.played;
-      last = played_as line given_up;
-      said = said-snoc done.played (played_as line given_up) lines (lines_of_reading reading) line done.said is refl;
+      last = played_as line marks;
+      said = said-snoc done.played (played_as line marks) lines (lines_of_reading reading) line done.said is refl;
       runs_on = done.runs_on;
     }
 
     -- the line ends the run
-    pub line_stops : IsLastLine (next_line run lines before done line) before after → StopsAt run reading after
-    line_stops plays = record {
-      at = at_last plays.given_up;
+    pub line_stops : (player : Player) → IsLastLine (next_line run lines before done line) player before after → StopsAt run reading after
+    line_stops player plays = record {
+      at = at_last plays.marks;
       accepted = plays.accepted;
       ends = plays.ends;
-      written = written-snoc plays.given_up plays.written;
+      written = written-snoc plays.marks plays.written;
     }
 
     -- the line is rejected
     pub line_rejected : (count : ℕ) → count ≡ length lines → meaning line ≡ Rejected → after ≡ before → RejectsAt run reading (count + 1) after
     line_rejected count counts rejected same = record {
-      at = at_last false;
+      at = at_last no_marks;
       rejected = rejected;
       place = ap (λ (n : ℕ). n + 1) (counts ∙ sym (said-length done.played lines done.said));
       written = same ∙ done.written;
@@ -99,11 +99,11 @@ module _ (run : Run) (lines : List (List ℕ)) (line : List ℕ) (before after :
     -- a write of what the line says failed
     pub line_fails : IsLineFailed (next_line run lines before done line) before after → FailsAt run reading after
     line_fails plays =
-        let text = output_at run.playout done.played (played_as line plays.given_up) (meaning line) in
+        let text = output_at run.playout done.played (played_as line plays.marks) (meaning line) in
         record {
-          at = at_last plays.given_up;
+          at = at_last plays.marks;
           accepted = plays.accepted;
-          written = subst (λ t. Fails t run.first after) (sym (script_output-snoc run.playout done.played (played_as line plays.given_up) done.runs_on))
+          written = subst (λ t. Fails t run.first after) (sym (script_output-snoc run.playout done.played (played_as line plays.marks) done.runs_on))
               (Fails-after (script_output run.playout done.played) text run.first after (subst (λ s. Fails text s after) done.written plays.fails));
         }
 
@@ -161,7 +161,7 @@ fed_stops run old new bytes before after taken halt.Stop plays count = (
   bytes ++ 10 ∷ [],
   [],
   sym (append-nil (bytes ++ 10 ∷ [])),
-  line_stops run (ended_lines bytes) (fed_line bytes) before after taken.done (reading_of (bytes ++ 10 ∷ []) false) (received-feed bytes) plays,
+  line_stops run (ended_lines bytes) (fed_line bytes) before after taken.done (reading_of (bytes ++ 10 ∷ []) false) (received-feed bytes) new.player plays,
 )
 fed_stops run old new bytes before after taken halt.Write plays count = (
   bytes ++ 10 ∷ [],

@@ -17,6 +17,8 @@ use Rattle.run_script.specs.Run.{Streams, EndsAs, FaultsOf, RunsScript}
 use Rattle.run_script.specs.inner.Taken.{HasTaken, ReadsOn}
 use Rattle.run_script.proofs.Growth.{reading_of}
 use Rattle.run_script.proofs.Endings.{none_done, taken_done}
+use Rattle.run_script.specs.inner.Player.{IsReady}
+use Rattle.run_script.specs.inner.Ticks.{ticks_due, ticks_per_byte}
 
 -- the run on a playout that begins with an output
 abbrev pub run_from : Playout → SinkState → Run
@@ -28,18 +30,20 @@ pub record HasRead (playout : Playout) (script : Script) (left : ℕ) (before no
   pub consumed : Consumes read before.input now.input
   pub taken : HasTaken (run_from playout before.out) script read now.out
   pub allowed : left + length read ≡ MAX_INPUT_BYTES
-  pub ticks : script.player.ticks ≤ 100000 * length read
+  pub ready : IsReady script.player
+  pub ticks : ticks_due script ≤ ticks_per_byte * length read
   pub lines : script.lines ≤ length read
 
 -- nothing was read yet
-pub none_read : (playout : Playout) (script : Script) (before : Streams) → HasTaken (run_from playout before.out) script [] before.out → script.player.ticks ≡ 0 → script.lines ≡ 0
+pub none_read : (playout : Playout) (script : Script) (before : Streams) → HasTaken (run_from playout before.out) script [] before.out → IsReady script.player → ticks_due script ≡ 0 → script.lines ≡ 0
     → HasRead playout script MAX_INPUT_BYTES before before
-none_read playout script before taken ticks lines = record {
+none_read playout script before taken ready ticks lines = record {
   read = [];
   consumed = Consumes-nil before.input;
   taken = taken;
   allowed = refl;
-  ticks = omega arith;
+  ready = ready;
+  ticks = omega (arith, ticks);
   lines = omega arith;
 }
 
@@ -56,10 +60,10 @@ nothing_read playout before = record {
 module _ (playout : Playout) (script : Script) (left : ℕ) (before now : Streams) (so_far : HasRead playout script left before now) where
   -- one more piece was read and taken
   pub piece_read : (script' : Script) (rest : ℕ) (piece : List ℕ) (input : SourceState) (out : SinkState) → Consumes piece now.input input
-      → script'.player.ticks ≤ script.player.ticks + 100000 * length piece → script'.lines ≤ script.lines + length piece
+      → IsReady script'.player → ticks_due script' ≤ ticks_due script + ticks_per_byte * length piece → script'.lines ≤ script.lines + length piece
       → ReadsOn (run_from playout before.out) (Ok rest) script' (so_far.read ++ piece) out
       → HasRead playout script' rest before (record { input = input; out = out })
-  piece_read script' rest piece input out consumed ticks lines reads =
+  piece_read script' rest piece input out consumed ready ticks lines reads =
       let both = length-append so_far.read piece in
       let ticks_before = so_far.ticks in
       let lines_before = so_far.lines in
@@ -68,7 +72,8 @@ module _ (playout : Playout) (script : Script) (left : ℕ) (before now : Stream
         consumed = Consumes-then so_far.read piece before.input now.input input so_far.consumed consumed;
         taken = reads.1;
         allowed = reads.0;
-        ticks = omega arith;
+        ready = ready;
+        ticks = omega (arith, both, ticks_before, ticks);
         lines = omega arith;
       }
 

@@ -125,10 +125,10 @@ stop_ended playout prefix at accepted = by_size (nat_le 8194 (length (unended pr
         (said ∙ ap (λ (ls : List (List ℕ)). meanings (ended_lines prefix ++ ls)) over.0 ∙ map-append meaning (ended_lines prefix) (unended prefix ∷ [])) in
         absurd (accepted (last ∙ long-meaning (unended prefix) (omega (arith, size))))
 
--- lines that were not played, as if none was given up
+-- lines that were not played, as if there was memory for all
 pub unplayed : List ScriptLine → List PlayedLine
 unplayed [] = []
-unplayed (line ∷ lines) = record { line = line; given_up = false } ∷ unplayed lines
+unplayed (line ∷ lines) = record { line = line; given_up = false; no_memory = false } ∷ unplayed lines
 
 pub said-unplayed : (lines : List ScriptLine) → played_meanings (unplayed lines) ≡ lines
 unfolding unplayed

@@ -1,5 +1,5 @@
 -- Ticks and their channels, one after another.
-use Rattle.std.proofs.Common.{◌≡◌, ℕ, zero, suc, ◌+◌, ◌-◌, ◌<◌, List, [], ◌∷◌, ◌++◌, replicate, sym, ap, ◌∙◌, arith, append-nil, append_assoc}
+use Rattle.std.proofs.Common.{◌≡◌, ℕ, zero, suc, ◌+◌, ◌-◌, ◌<◌, List, [], ◌∷◌, ◌++◌, replicate, refl, sym, ap, ◌∙◌, arith, append-nil, append_assoc}
 use Rattle.std.specs.Prelude.{Err, flat_map}
 use Rattle.std.specs.List.{range_with_len}
 use Rattle.std.proofs.lemmas.Grind.{flat_map-append}
@@ -14,7 +14,10 @@ use Rattle.history_model.proofs.Outputs.{ticks_output-snoc, ticks_output-none}
 use Rattle.run_script.specs.declared.ending.Halt.{Halt}
 use Rattle.run_script.specs.declared.ending.Halt.TheVariants as halt
 use Rattle.run_script.specs.inner.Player.{WritesText, channel_text}
-use Rattle.run_script.proofs.Room.{replicate-more}
+
+replicate-more : {A : Type 0} (n : ℕ) (x : A) → replicate n x ++ x ∷ [] ≡ replicate (n + 1) x
+replicate-more zero x = refl
+replicate-more {A = A} (suc n) x = ap (λ (l : List A). x ∷ l) (replicate-more n x) ∙ ap (λ (k : ℕ). replicate k x) (let same : suc (n + 1) ≡ suc n + 1 = omega arith in same)
 
 -- a run that stopped in a piece of a text, after what stands before it was written, stopped in the text
 stopped_within : (reason : Halt) (whole done piece rest : List ℕ) (first state after : SinkState) → whole ≡ (done ++ piece) ++ rest → state ≡ after_taking first done

@@ -4,3 +4,4 @@ pub mod Clients
 pub mod Player
 pub mod Taken
 pub mod Outcome
+pub mod Ticks

@@ -1,5 +1,5 @@
 //! The connections of a script, each with the session of its lines.
-ghost use Rattle.std.specs.Prelude.{◌≡◌, ◌<◌, IfOk, IfSome, List, Some, [], false, length};
+ghost use Rattle.std.specs.Prelude.{◌≡◌, ◌<◌, Bool, IfOk, IfSome, List, Some, [], false, length};
 ghost use Rattle.std.specs.List.{list_any, position};
 ghost use Rattle.amcp_text.specs.Lines.{is_line_end};
 ghost use Rattle.history_model.specs.scripts.History.{Playout, PlayedLine, same_tag};
@@ -44,9 +44,9 @@ impl Clients {
         media: &MediaNames,
     ) -> Result<Option<Step>, AllocError>
         ensures fits { IfOk result (λ found. IfSome found (Fits config.now)) }
-        ensures takes { (playout : Playout) (played : List PlayedLine) → config.now ≡ playout.config → media.now ≡ playout.names
+        ensures takes { (playout : Playout) (played : List PlayedLine) (no_memory : Bool) → config.now ≡ playout.config → media.now ≡ playout.names
             → list_any is_line_end text.now ≡ false → AreClients playout self.old.list.items played
-            → IfOk result (λ found. ClientsTakeLine (record { playout = playout; played = played; tag = tag; text = text.now }) found self.new.list.items) }
+            → IfOk result (λ found. ClientsTakeLine (record { playout = playout; played = played; tag = tag; text = text.now; no_memory = no_memory }) found self.new.list.items) }
     {
         let at = self.place_of(alloc, tag)?;
         Ok(take_client_line(&mut self.list[at], alloc, text, config, media))
@@ -90,9 +90,9 @@ fn take_client_line(
 ) -> Option<Step>
     ensures tag { client.new.tag ≡ client.old.tag }
     ensures fits { IfSome result (Fits config.now) }
-    ensures takes { (playout : Playout) (played : List PlayedLine) → config.now ≡ playout.config → media.now ≡ playout.names
+    ensures takes { (playout : Playout) (played : List PlayedLine) (no_memory : Bool) → config.now ≡ playout.config → media.now ≡ playout.names
         → list_any is_line_end text.now ≡ false → ServesConnection playout client.old played
-        → ClientTakesLine (record { playout = playout; played = played; tag = client.old.tag; text = text.now }) result client.new }
+        → ClientTakesLine (record { playout = playout; played = played; tag = client.old.tag; text = text.now; no_memory = no_memory }) result client.new }
 {
     if client.session.has_ended() {
         return None;

@@ -6,9 +6,11 @@
 //! fails or memory runs out.
 #![tactic(auto)]
 
+mod built;
 mod clients;
 mod command_line;
 mod ending;
+mod frames;
 mod line;
 mod plain;
 mod player;

@@ -1,10 +1,11 @@
 //! A whole run over an input.
-ghost use Rattle.std.specs.Prelude.{◌≡◌, ◌+◌, ◌*◌, ◌≤◌, ◌++◌, ℕ, List, length, All};
-ghost use Rattle.history_model.specs.declared.limits.TheConstants.{MAX_TICKS_PER_LINE};
+ghost use Rattle.std.specs.Prelude.{◌≡◌, ◌+◌, ◌*◌, ◌≤◌, ◌++◌, ℕ, List, length, All, OnOk};
 ghost use Rattle.run_script.specs.Script.{Run};
 ghost use Rattle.run_script.specs.Run.{RunsScript};
 ghost use Rattle.run_script.specs.Program.{playout_of};
+ghost use Rattle.run_script.specs.inner.Player.{IsReady};
 ghost use Rattle.run_script.specs.inner.Taken.{HasTaken, ReadsOn};
+ghost use Rattle.run_script.specs.inner.Ticks.{ticks_due, ticks_per_byte};
 
 use crate::ending::Ending;
 use crate::script::Script;
@@ -25,9 +26,11 @@ fn take_piece<K: Sink>(
     out: &mut K,
 ) -> Result<u64, Ending>
     requires allowed { left ≤ MAX_INPUT_BYTES }
-    requires ticks { script.old.player.ticks ≤ MAX_TICKS_PER_LINE * MAX_INPUT_BYTES }
+    requires ready { IsReady script.old.player }
+    requires ticks { ticks_due script.old + ticks_per_byte * left ≤ ticks_per_byte * MAX_INPUT_BYTES }
     requires lines { script.old.lines ≤ MAX_INPUT_BYTES }
-    ensures ticks { script.new.player.ticks ≤ script.old.player.ticks + MAX_TICKS_PER_LINE * length piece.now }
+    ensures ready { OnOk result (IsReady script.new.player) }
+    ensures ticks { OnOk result (ticks_due script.new ≤ ticks_due script.old + ticks_per_byte * length piece.now) }
     ensures lines { script.new.lines ≤ script.old.lines + length piece.now }
     ensures reads { (run : Run) (bytes : List ℕ) → HasTaken run script.old bytes (K.state out.old) → left + length bytes ≡ MAX_INPUT_BYTES
         → ReadsOn run result script.new (bytes ++ piece.now) (K.state out.new) }

@@ -1,12 +1,15 @@
 //! The lines of a script, byte by byte.
-ghost use Rattle.std.specs.Prelude.{◌≡◌, ◌≢◌, ◌+◌, ◌*◌, ◌<◌, ◌≤◌, ◌^◌, ◌∷◌, ◌++◌, ℕ, List, [], length, true, IfOk};
+ghost use Rattle.std.specs.Prelude.{◌≡◌, ◌≢◌, ◌+◌, ◌*◌, ◌<◌, ◌≤◌, ◌^◌, ◌∷◌, ◌++◌, ℕ, List, [], length, true, All, IfOk, OnOk};
+ghost use Rattle.play_types.specs.History.{ticks};
+ghost use Rattle.play_types.specs.declared.event.TheConstants.{MAX_TICKS};
 ghost use Rattle.play_outside.specs.SinkState.{SinkState};
 ghost use Rattle.history_model.specs.declared.limits.TheConstants.{MAX_INPUT_BYTES, MAX_TICKS_PER_LINE};
-ghost use Rattle.history_model.specs.scripts.History.{Playout};
 ghost use Rattle.run_script.specs.Run.{EndsAs};
 ghost use Rattle.run_script.specs.Script.{Run};
-ghost use Rattle.run_script.specs.inner.Player.{IsPlayedOn};
+ghost use Rattle.run_script.specs.Program.{playout_of};
+ghost use Rattle.run_script.specs.inner.Player.{IsReady, events_in};
 ghost use Rattle.run_script.specs.inner.Taken.{HasTaken, TakesBytes, TakesPiece};
+ghost use Rattle.run_script.specs.inner.Ticks.{ticks_due, ticks_per_byte};
 
 use crate::ending::{Ending, Halt};
 use crate::player::Player;
@@ -32,9 +35,10 @@ pub struct Script {
 impl Script {
     /// Returns a script of which nothing was taken yet.
     pub fn new(alloc: Global, setup: ServerSetup, digests: bool) -> Result<Script, AllocError>
-        ensures small { IfOk result (λ script. (script.player.ticks ≡ 0) × (script.lines ≡ 0)) }
-        ensures taken { IfOk result (λ script. (playout : Playout) (first : SinkState) → IsPlayedOn setup digests playout
-            → HasTaken (record { playout = playout; first = first }) script [] first) }
+        requires { All (λ channel. channel.pairs ≡ 0) setup.config.channels }
+        ensures ready { IfOk result (λ script. IsReady script.player) }
+        ensures small { IfOk result (λ script. (ticks_due script ≡ 0) × (script.lines ≡ 0)) }
+        ensures taken { IfOk result (λ script. (first : SinkState) → HasTaken (record { playout = playout_of setup digests; first = first }) script [] first) }
     {
         Ok(Script {
             waiting: Vec::new(alloc),
@@ -45,9 +49,11 @@ impl Script {
 
     /// Takes the next bytes, and does what their lines say. It stops at the first line that ends the run.
     pub fn take<K: Sink>(&mut self, alloc: Global, piece: &[u8], out: &mut K) -> Result<(), Ending>
-        requires ticks { self.old.player.ticks + MAX_TICKS_PER_LINE * length piece.now < 2 ^ 62 }
+        requires ready { IsReady self.old.player }
+        requires time { ticks_due self.old + ticks_per_byte * length piece.now + MAX_TICKS_PER_LINE ≤ MAX_TICKS }
         requires lines { self.old.lines + length piece.now < 2 ^ 63 }
-        ensures ticks { self.new.player.ticks ≤ self.old.player.ticks + MAX_TICKS_PER_LINE * length piece.now }
+        ensures ready { OnOk result (IsReady self.new.player) }
+        ensures ticks { OnOk result (ticks_due self.new ≤ ticks_due self.old + ticks_per_byte * length piece.now) }
         ensures lines { self.new.lines ≤ self.old.lines + length piece.now }
         ensures takes { (run : Run) (bytes : List ℕ) → HasTaken run self.old bytes (K.state out.old)
             → TakesPiece run result self.new (bytes ++ piece.now) (K.state out.new) }
@@ -63,7 +69,8 @@ impl Script {
 
     /// Does what the last line says where the input ends without a line feed.
     pub fn finish<K: Sink>(&mut self, alloc: Global, out: &mut K) -> Ending
-        requires ticks { self.old.player.ticks < 2 ^ 62 }
+        requires ready { IsReady self.old.player }
+        requires time { ticks (events_in self.old.player) + MAX_TICKS_PER_LINE ≤ MAX_TICKS }
         requires lines { self.old.lines < 2 ^ 63 }
         ensures { (run : Run) (bytes : List ℕ) → HasTaken run self.old bytes (K.state out.old) → length bytes ≤ MAX_INPUT_BYTES
             → EndsAs run result (record { bytes = bytes; ended = true }) (K.state out.new) }
@@ -79,9 +86,11 @@ impl Script {
 
     /// Takes the next byte, and does what its line says where the byte ends one.
     fn take_byte<K: Sink>(&mut self, alloc: Global, byte: u8, out: &mut K) -> Result<(), Halt>
-        requires ticks { self.old.player.ticks < 2 ^ 62 }
+        requires ready { IsReady self.old.player }
+        requires time { ticks (events_in self.old.player) + MAX_TICKS_PER_LINE ≤ MAX_TICKS }
         requires lines { self.old.lines < 2 ^ 63 }
-        ensures ticks { self.new.player.ticks ≤ self.old.player.ticks + MAX_TICKS_PER_LINE }
+        ensures ready { OnOk result (IsReady self.new.player) }
+        ensures ticks { OnOk result (ticks_due self.new ≤ ticks_due self.old + ticks_per_byte) }
         ensures lines { self.new.lines ≤ self.old.lines + 1 }
         ensures takes { (run : Run) (bytes : List ℕ) → HasTaken run self.old bytes (K.state out.old)
             → TakesBytes run result self.new (bytes ++ byte ∷ []) (K.state out.new) }
@@ -95,9 +104,11 @@ impl Script {
 
     /// Does what the line that waits says.
     fn end_line<K: Sink>(&mut self, alloc: Global, out: &mut K) -> Result<(), Halt>
-        requires ticks { self.old.player.ticks < 2 ^ 62 }
+        requires ready { IsReady self.old.player }
+        requires time { ticks (events_in self.old.player) + MAX_TICKS_PER_LINE ≤ MAX_TICKS }
         requires lines { self.old.lines < 2 ^ 63 }
-        ensures ticks { self.new.player.ticks ≤ self.old.player.ticks + MAX_TICKS_PER_LINE }
+        ensures ready { OnOk result (IsReady self.new.player) }
+        ensures ticks { OnOk result (ticks_due self.new ≤ ticks_due self.old + ticks_per_byte) }
         ensures lines { self.new.lines ≤ self.old.lines + 1 }
         ensures takes { (run : Run) (bytes : List ℕ) → HasTaken run self.old bytes (K.state out.old)
             → TakesBytes run result self.new (bytes ++ 10 ∷ []) (K.state out.new) }
@@ -111,8 +122,10 @@ impl Script {
 
     /// Keeps a byte that ends no line. It stops where the line is too long.
     fn keep_byte(&mut self, byte: u8) -> Result<(), Halt>
-        requires { byte ≢ 10 }
-        ensures ticks { self.new.player.ticks ≡ self.old.player.ticks }
+        requires other { byte ≢ 10 }
+        requires ready { IsReady self.old.player }
+        ensures ready { OnOk result (IsReady self.new.player) }
+        ensures ticks { OnOk result (ticks_due self.new ≤ ticks_due self.old + ticks_per_byte) }
         ensures lines { self.new.lines ≡ self.old.lines }
         ensures takes { (run : Run) (bytes : List ℕ) (state : SinkState) → HasTaken run self.old bytes state
             → TakesBytes run result self.new (bytes ++ byte ∷ []) state }

@@ -22,7 +22,7 @@ const CLIP: &[u8] =
     b"RCLP\0\x01\0\0\0\x01\0\x01\0\0\0\x03\0\0\0\0\0\0\0\xff\0\0\x50\xff\0\0\xa0\xff";
 
 /// Runs: the words, the names of the clip files, the script, the exit status and the output.
-const RUNS: [(&str, &str, &str, u8, &str); 7] = [
+const RUNS: [(&str, &str, &str, u8, &str); 8] = [
     (
         "run 1 1",
         "",
@@ -36,6 +36,13 @@ const RUNS: [(&str, &str, &str, u8, &str); 7] = [
         "1.1 CLS\n1.1 PLAY 2-0 THREE LOOP\nT 2\n",
         0,
         "1.1 200 CLS OK\n1.1 \"THREE\" 1x1 3 0\n1.1 \n1.1 202 PLAY OK\nF 1 1\n0000000000000000\nF 2 1\n000000ff\nF 1 2\n0000000000000000\nF 2 2\n000050ff\n",
+    ),
+    (
+        "run --config two",
+        "three.rclp",
+        "1.1 PLAY 2-0 THREE\nT\n1.1 PAUSE 2-0\nT\n1.1 LOADBG 2-0 RED AUTO\n1.1 RESUME 2-0\nT 3\n1.1 STOP 2-0\n1.1 CLEAR 2\n1.1 INFO\nT\n",
+        0,
+        "1.1 202 PLAY OK\nF 1 1\n0000000000000000\nF 2 1\n000000ff\n1.1 202 PAUSE OK\nF 1 2\n0000000000000000\nF 2 2\n000050ff\n1.1 202 LOADBG OK\n1.1 202 RESUME OK\nF 1 3\n0000000000000000\nF 2 3\n000050ff\nF 1 4\n0000000000000000\nF 2 4\n0000a0ff\nF 1 5\n0000000000000000\nF 2 5\n0000ffff\n1.1 202 STOP OK\n1.1 202 CLEAR OK\n1.1 403 INFO ERROR\nF 1 6\n0000000000000000\nF 2 6\n00000000\n",
     ),
     (
         "run --config two --digest",

@@ -1,4 +1,13 @@
 pub mod Found
 pub mod Sets
 pub mod Drawing
+pub mod Routing
+pub mod Boards
+pub mod Refusals
+pub mod Exchanges
+pub mod Kept
+pub mod Takes
+pub mod Mixing
+pub mod Routed
+pub mod Statuses
 pub mod Stages

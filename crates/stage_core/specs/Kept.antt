@@ -1,17 +1,44 @@
 -- What a stage keeps.
-use Rattle.std.specs.Prelude.{◌≡◌, List, length, map, if◌then◌else◌}
-use Rattle.std.specs.List.{range_with_len}
-use Rattle.play_types.specs.declared.command.Cmd.{Cmd}
+use Rattle.std.specs.Prelude.{◌≡◌, ℕ, ◌≤◌, List, [], ◌∷◌, length}
+use Rattle.play_types.specs.History.{ticks}
+use Rattle.play_types.specs.declared.place.TheConstants.{MAX_CHANNELS}
 use Rattle.play_types.specs.declared.event.Event.{Event}
-use Rattle.history_model.specs.stage.Places.{Places, is_over_limit, places, places_after}
-use Rattle.history_model.specs.stage.Plain.{IsPlainHistory, channel_of}
+use Rattle.history_model.specs.stage.Act.{Act}
+use Rattle.history_model.specs.stage.Acts.{acts}
+use Rattle.history_model.specs.stage.StageHistory.{stage_after}
+use Rattle.history_model.specs.pictures.StageScene.{last_shown}
+use Rattle.mixer_state.specs.Mixer.{MixerView}
+use Rattle.mixer_state.specs.Past.{Represents}
+use Rattle.route_graph.specs.Past.{KeepsForegrounds}
+use Rattle.route_graph.specs.Routes.{RoutesView}
+use Rattle.stage_core.specs.Served.{IsServed}
+use Rattle.stage_core.specs.Board.{BoardView, ShowsStage}
 
--- the journal is a plain history, and each channel has the places that the history gives it
-pub record IsStage (events : List Event) (channels : List Places) : Type 0 where
-  pub plain : IsPlainHistory events
-  pub places : channels ≡ map (places events) (range_with_len 1 (length channels))
+-- each act names channels of the stage alone
+abbrev pub AreServed : ℕ → List Act → Type 0
+AreServed channels [] = Unit {0}
+AreServed channels (act ∷ before) = IsServed channels act.cmd × AreServed channels before
 
--- the places of a channel after a command on it: those before where it is refused
-abbrev pub kept_after : Cmd → Places → Places
-kept_after cmd before =
-    if is_over_limit (places_after cmd (channel_of cmd) before) then before else places_after cmd (channel_of cmd) before
+-- the board shows the stage after the events, whose commands name its channels alone
+pub record IsBoardOf (events : List Event) (board : BoardView) : Type 0 where
+  pub some_channels : 1 ≤ length board.places
+  pub channels : length board.places ≤ MAX_CHANNELS
+  pub served : AreServed (length board.places) (acts events)
+  pub shows : ShowsStage (length board.places) board (stage_after events)
+
+-- the routes keep what the places of the first `channels` channels showed at the last tick of the events
+pub record IsShownBefore (channels : ℕ) (events : List Event) (routes : RoutesView) : Type 0 where
+  pub count : routes.channels ≡ channels
+  pub shown : KeepsForegrounds channels routes.present (last_shown events)
+
+-- the mixer is where the events put it
+pub record IsMixed (channels : ℕ) (events : List Event) (mixer : MixerView) : Type 0 where
+  pub count : mixer.channels ≡ channels
+  pub past : Represents mixer (acts events) (ticks events)
+
+-- a stage after the events: its board, another of as many channels, its mixer, and its routes
+pub record IsStage (events : List Event) (one other : BoardView) (mixer : MixerView) (routes : RoutesView) : Type 0 where
+  pub board : IsBoardOf events one
+  pub saved : length other.places ≡ length one.places
+  pub mixed : IsMixed (length one.places) events mixer
+  pub shown : IsShownBefore (length one.places) events routes

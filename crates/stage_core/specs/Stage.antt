@@ -1,10 +1,8 @@
 -- What contracts see of a stage.
 use Rattle.std.specs.Prelude.{◌≡◌, ℕ, ◌+◌, ◌<◌, ◌≤◌, Some, None}
 use Rattle.play_types.specs.History.{held, stop_at, ticks}
-use Rattle.play_types.specs.declared.command.Cmd.{Cmd}
 use Rattle.play_types.specs.declared.event.Event.{Event}
 use Rattle.play_types.specs.declared.event.TheConstants.{MAX_TICKS}
-use Rattle.history_model.specs.stage.Plain.{IsPlain, channel_of}
 use Rattle.play_journal.specs.Journal.{JournalView, followed_by}
 use Rattle.play_journal.specs.declared.fault.PushFault.{PushFault}
 use Rattle.play_journal.specs.declared.fault.PushFault.TheVariants as push
@@ -22,23 +20,18 @@ pub record StageView : Type 0 where
 abbrev pub after_event : Event → StageView → StageView
 after_event event stage = record stage { journal = followed_by event stage.journal }
 
--- a plain command on one of the channels
-pub record IsServed (channels : ℕ) (cmd : Cmd) : Type 0 where
-  pub plain : IsPlain cmd
-  pub first : 1 ≤ channel_of cmd
-  pub last : channel_of cmd ≤ channels
-
--- a journal takes one command more: it holds no stop, and its commands and this one are no more than its limit
-pub record HasRoom (journal : JournalView) : Type 0 where
+-- a journal takes `more` commands more: it holds no stop, and its commands and these are no more than its limit
+pub record HasRoom (journal : JournalView) (more : ℕ) : Type 0 where
   pub running : stop_at journal.events ≡ None
-  pub commands : held journal.events + 1 ≤ journal.limit
+  pub commands : held journal.events + more ≤ journal.limit
 
--- a command is not taken for this reason: a stop comes first, then the limit of the journal, and then memory
-abbrev pub IsNotTaken : JournalView → ApplyFault → Type 0
-IsNotTaken journal OutOfMemory = HasRoom journal
-IsNotTaken journal (JournalFull already) =
-    (stop_at journal.events ≡ None) × (journal.limit < held journal.events + 1) × (already ≡ held journal.events)
-IsNotTaken journal (Ended at) = stop_at journal.events ≡ Some at
+-- an event of `commands` commands is not taken for this reason: a stop comes first, then the limit of the journal, and then
+-- memory
+abbrev pub IsNotTaken : JournalView → ℕ → ApplyFault → Type 0
+IsNotTaken journal commands OutOfMemory = HasRoom journal commands
+IsNotTaken journal commands (JournalFull already) =
+    (stop_at journal.events ≡ None) × (journal.limit < held journal.events + commands) × (already ≡ held journal.events)
+IsNotTaken journal commands (Ended at) = stop_at journal.events ≡ Some at
 
 -- a journal takes one tick more: it holds no stop, and its ticks are fewer than it may hold
 pub record HasTime (journal : JournalView) : Type 0 where

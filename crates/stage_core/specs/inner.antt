@@ -1,3 +1,5 @@
+pub mod Drawn
 pub mod Found
+pub mod Settled
 pub mod Shown
 pub mod Target

@@ -1,9 +1,8 @@
-//! Where a command acts, and what it makes of the content there.
+//! Where a command acts on contents, and what it makes of the content there.
 ghost use Rattle.std.specs.Prelude.{◌≡◌};
 ghost use Rattle.history_model.specs.stage.Live.{is_live};
 ghost use Rattle.history_model.specs.stage.Places.{taken};
-ghost use Rattle.history_model.specs.stage.Plain.{IsPlain, channel_of};
-ghost use Rattle.stage_core.specs.inner.Target.{place_of};
+ghost use Rattle.stage_core.specs.Board.{place_of};
 
 use layer_state::Layer;
 use play_types::{Cmd, Place};
@@ -17,7 +16,6 @@ pub(crate) fn is_live(life: &Layer) -> bool
 
 /// Returns what stands at the place of a command after it.
 pub(crate) fn taken(cmd: &Cmd, before: Layer) -> Layer
-    requires { IsPlain cmd.now }
     ensures { result ≡ taken cmd.now before }
 {
     let mut life = before;
@@ -41,14 +39,13 @@ pub(crate) fn taken(cmd: &Cmd, before: Layer) -> Layer
         | Cmd::ResetLayer(_)
         | Cmd::ResetChannel(_)
         | Cmd::Value(..)
-        | Cmd::Info => unreachable!(),
+        | Cmd::Info => {}
     }
     life
 }
 
-/// Returns the place on which a command acts, `None` where it acts on a channel.
+/// Returns the place on whose content a command acts, `None` where it acts on no content, on two places, or on channels.
 pub(crate) fn place_of(cmd: &Cmd) -> Option<Place>
-    requires { IsPlain cmd.now }
     ensures { result ≡ place_of cmd.now }
 {
     match cmd {
@@ -60,40 +57,14 @@ pub(crate) fn place_of(cmd: &Cmd) -> Option<Place>
         Cmd::Resume(at) => Some(*at),
         Cmd::StopLayer(at) => Some(*at),
         Cmd::ClearLayer(at) => Some(*at),
-        Cmd::ClearChannel(_) => None,
-        Cmd::SwapLayers(..)
+        Cmd::ClearChannel(_)
+        | Cmd::SwapLayers(..)
         | Cmd::SwapChannels(..)
         | Cmd::Set(_)
         | Cmd::CommitMixer(_)
         | Cmd::ResetLayer(_)
         | Cmd::ResetChannel(_)
         | Cmd::Value(..)
-        | Cmd::Info => unreachable!(),
-    }
-}
-
-/// Returns the channel on which a command acts.
-pub(crate) fn channel_of(cmd: &Cmd) -> u8
-    requires { IsPlain cmd.now }
-    ensures { result ≡ channel_of cmd.now }
-{
-    match cmd {
-        Cmd::Load(at, _) => at.channel(),
-        Cmd::LoadBg(at, _) => at.channel(),
-        Cmd::Play(at) => at.channel(),
-        Cmd::PlayTake(at, _) => at.channel(),
-        Cmd::Pause(at) => at.channel(),
-        Cmd::Resume(at) => at.channel(),
-        Cmd::StopLayer(at) => at.channel(),
-        Cmd::ClearLayer(at) => at.channel(),
-        Cmd::ClearChannel(channel) => *channel,
-        Cmd::SwapLayers(..)
-        | Cmd::SwapChannels(..)
-        | Cmd::Set(_)
-        | Cmd::CommitMixer(_)
-        | Cmd::ResetLayer(_)
-        | Cmd::ResetChannel(_)
-        | Cmd::Value(..)
-        | Cmd::Info => unreachable!(),
+        | Cmd::Info => None,
     }
 }

@@ -4,12 +4,12 @@ use play_journal::PushFault;
 use std::error::Error;
 use std::fmt;
 
-/// Why a stage did not take a command. The stage and its journal are as before.
+/// Why a stage did not take a command or a batch. The stage and its journal are as before.
 #[derive(Clone, Copy, Debug, PartialEq, Eq)]
 pub enum ApplyFault {
     /// Memory ran out.
     OutOfMemory,
-    /// The journal holds `held` commands, and one more is above its limit.
+    /// The journal holds `held` commands, and those of the event are more than its limit leaves.
     JournalFull { held: u32 },
     /// The history was stopped: `at` events come before the stop.
     Ended { at: u64 },

@@ -1,33 +1,38 @@
 //! The stage over its own journal.
-ghost use Rattle.std.specs.Prelude.{◌≡◌, ℕ, ◌+◌, [], All, IfOk, IfErr, OnOk, OnErr, None, Some, filter_map, length, map, replicate};
+ghost use Rattle.std.specs.Prelude.{◌≡◌, ℕ, ◌+◌, ◌<◌, [], All, IfOk, IfErr, OnOk, OnErr, None, Some, false, length, map};
 ghost use Rattle.std.specs.List.{range_with_len};
 ghost use Rattle.play_types.specs.History.{stop_at, ticks};
-ghost use Rattle.play_types.specs.declared.event.Event.TheVariants.{Do, Stop, Tick};
+ghost use Rattle.play_types.specs.declared.event.Event.TheVariants.{Batch, Do, Stop, Tick};
 ghost use Rattle.history_model.specs.pictures.Media.{Setup};
-ghost use Rattle.history_model.specs.pictures.PlainScene.{plain_drawn_place};
 ghost use Rattle.history_model.specs.pictures.Scene.{scene};
-ghost use Rattle.history_model.specs.stage.Answer.{StageAnswer, answer};
-ghost use Rattle.history_model.specs.stage.Places.{one_tick_later};
-ghost use Rattle.stage_core.specs.Stage.{HasRoom, HasTime, IsNoTick, IsNotTaken, IsServed, after_event};
-ghost use Rattle.stage_core.specs.inner.Shown.{HasTicksLeft};
+ghost use Rattle.history_model.specs.stage.Answer.{StageAnswer, answer, command_answer};
+ghost use Rattle.stage_core.specs.Served.{IsServed};
+ghost use Rattle.stage_core.specs.Stage.{HasRoom, HasTime, IsNoTick, IsNotTaken, after_event};
 
-use crate::command::channel_of;
+use crate::board::Board;
 use crate::fault::{ApplyFault, Ended, TickFault};
-use crate::places::PlaceList;
+use crate::settle::{settings_of, settings_of_all, settle, settle_all};
+use crate::status::statuses;
+use mixer_state::Mixer;
 use play_journal::Journal;
 use play_types::{Answer, Cmd, Config, MAX_TICKS, Scenes, Tag};
+use route_graph::Routes;
 use std::alloc::{AllocError, Global};
 use std::marker::Model;
 
 /// The stage of a server, with the journal of its events.
 ///
-/// Contracts see its journal and the number of its channels. The answer to a command and the scenes of a tick are what the
-/// definitions say of the journal before that event. The time that a tick takes grows with the number of live places, and
-/// not with the length of the journal.
+/// Contracts see its journal and the number of its channels. The answer to an event and the scenes of a tick are what the
+/// definitions say of the journal before that event. The time that an event takes grows with the number of live places, of
+/// mixer settings that took place and were not reset, and of its commands, and not with the length of the journal.
 #[derive(Debug, Drop)]
 pub struct Stage {
     journal: Journal,
-    channels: Vec<PlaceList>,
+    board: Board,
+    // The board before a batch, while the batch is judged.
+    saved: Board,
+    mixer: Mixer,
+    routes: Routes,
 }
 
 impl Model for Stage {
@@ -37,50 +42,97 @@ impl Model for Stage {
 
     ghost Value = { StageView };
 
-    ghost view = { λ s. record { journal = s.journal; channels = length s.channels.items } };
+    ghost view = { λ s. record { journal = s.journal; channels = length s.board.places } };
 
-    ghost invariant = { λ s. IsStage s.journal.events s.channels.items };
+    ghost invariant = { λ s. IsStage s.journal.events s.board s.saved s.mixer s.routes };
 }
 
 impl Stage {
-    /// Creates a stage without events, with the channels of a configuration and the limit of its journal. The memory for
-    /// 64 live places of each channel is taken.
+    /// Creates a stage without events, with the channels of a configuration and the limit of its journal. The memory for all
+    /// live places and waiting settings of each channel is taken.
     pub fn new(alloc: Global, config: &Config) -> Result<Stage, AllocError>
         ensures { IfOk result (λ stage. stage
             ≡ record { journal = record { limit = config.now.journal_limit; events = [] }; channels = length config.now.channels }) }
     {
         let count = config.channels().len();
-        let mut channels = Vec::with_capacity(alloc, count)?;
-        for _channel in 0..count {
-            channels.push_reserved(PlaceList::new(alloc)?);
-        }
         Ok(Stage {
             journal: Journal::new(alloc, config.journal_limit())?,
-            channels,
+            board: Board::new(alloc, count)?,
+            saved: Board::new(alloc, count)?,
+            mixer: Mixer::new(alloc, count as u8)?,
+            routes: Routes::new(alloc, count as u8)?,
         })
     }
 
-    /// Adds a command to the journal, lets it act, and returns its answer: `Refused` where its channel would have more than
-    /// 64 live places, and `Done` otherwise. A refused command is in the journal too, and changes nothing that is shown.
+    /// Adds a command to the journal, lets it act, and returns its answer: the value or the statuses that a query asks for,
+    /// and to another command `Refused` where a channel would have more than 64 live places or more than 1,024 waiting
+    /// settings, and `Done` otherwise. A refused command is in the journal too, and changes nothing else.
     ///
-    /// The command is a plain one on a channel of the stage. There is a fault where the journal holds a stop, which is
-    /// tested first, then where the journal is full, and then where memory runs out. After a fault the stage and its journal
-    /// are as before.
+    /// Each place, channel and route that the command names is of a channel of the stage. There is a fault where the journal
+    /// holds a stop, which is tested first, then where the journal is full, and then where memory runs out. After a fault the
+    /// stage and its journal are as before.
     pub fn apply(&mut self, alloc: Global, tag: Tag, cmd: Cmd) -> Result<Answer, ApplyFault>
         requires { IsServed self.old.channels cmd }
-        ensures answer { IfOk result (λ reply. (setup : Setup) →
+        ensures answer { IfOk result (λ reply. (setup : Setup) → length setup.channels ≡ self.old.channels →
             answer setup self.old.journal.events (Do tag cmd) ≡ StageAnswer.Answered reply) }
         ensures journal { OnOk result (self.new ≡ after_event (Do tag cmd) self.old) }
-        ensures room { OnOk result (HasRoom self.old.journal) }
+        ensures room { OnOk result (HasRoom self.old.journal 1) }
         ensures err { OnErr result (self.new ≡ self.old) }
-        ensures fault { IfErr result (λ fault. IsNotTaken self.old.journal fault) }
+        ensures fault { IfErr result (λ fault. IsNotTaken self.old.journal 1 fault) }
     {
-        if let Some(at) = self.journal.stopped() {
-            return Err(ApplyFault::Ended { at });
+        self.room_for(1)?;
+        let reply = self.reply(&cmd);
+        let ticks = self.journal.ticks();
+        // The mixer's memory is taken before anything changes.
+        if self.mixer.reserve(alloc, settings_of(&cmd)).is_err() {
+            return Err(ApplyFault::OutOfMemory);
         }
         self.journal.push(alloc, tag, cmd)?;
-        let channel = usize::from(channel_of(&cmd)) - 1;
-        Ok(self.channels[channel].apply(&cmd))
+        if self.board.apply(&cmd) {
+            return Ok(Answer::Refused);
+        }
+        settle(alloc, &mut self.mixer, &cmd, ticks);
+        Ok(reply)
+    }
+
+    /// Adds a batch to the journal as one event, and lets its commands act one after another. Where one of them is refused
+    /// after the ones before it, the answer is `Refused`, and the batch changes nothing but the journal. Otherwise it is
+    /// `Done`.
+    ///
+    /// The batch is not empty, and its commands are such as [`Stage::apply`] takes. Its faults are those of that call too,
+    /// where the journal is full if it may not hold all commands of the batch.
+    pub fn apply_batch(
+        &mut self,
+        alloc: Global,
+        tag: Tag,
+        cmds: &[Cmd],
+    ) -> Result<Answer, ApplyFault>
+        requires some { 0 < length cmds.now }
+        requires each { All (IsServed self.old.channels) cmds.now }
+        ensures answer { IfOk result (λ reply. (setup : Setup) →
+            answer setup self.old.journal.events (Batch tag cmds.now) ≡ StageAnswer.Answered reply) }
+        ensures journal { OnOk result (self.new ≡ after_event (Batch tag cmds.now) self.old) }
+        ensures room { OnOk result (HasRoom self.old.journal (length cmds.now)) }
+        ensures err { OnErr result (self.new ≡ self.old) }
+        ensures fault { IfErr result (λ fault. IsNotTaken self.old.journal (length cmds.now) fault) }
+    {
+        self.room_for(cmds.len())?;
+        let ticks = self.journal.ticks();
+        // The mixer's memory is taken before anything changes.
+        let Some(settings) = settings_of_all(cmds) else {
+            return Err(ApplyFault::OutOfMemory);
+        };
+        if self.mixer.reserve(alloc, settings).is_err() {
+            return Err(ApplyFault::OutOfMemory);
+        }
+        self.journal.push_batch(alloc, tag, cmds)?;
+        self.saved.copy_from(&self.board);
+        if self.board.apply_all(cmds) {
+            self.board.copy_from(&self.saved);
+            return Ok(Answer::Refused);
+        }
+        settle_all(alloc, &mut self.mixer, cmds, ticks);
+        Ok(Answer::Done)
     }
 
     /// Adds a tick to the journal, writes what each channel shows at it into the scenes, and returns the number of the tick.
@@ -104,10 +156,13 @@ impl Stage {
         if self.journal.ticks() == MAX_TICKS {
             return Err(TickFault::TicksOver);
         }
+        let number = self.journal.ticks() + 1;
         self.journal.push_tick();
+        self.routes.begin_tick();
         scenes.clear();
-        tick_channels(&mut self.channels, scenes);
-        Ok(self.journal.ticks())
+        self.board
+            .tick(number, &self.mixer, &mut self.routes, scenes);
+        Ok(number)
     }
 
     /// Adds a stop to the journal, which takes no event after it, and returns the number of events before it. Where the
@@ -135,16 +190,50 @@ impl Stage {
     {
         &self.journal
     }
-}
 
-/// Lets one tick pass on the places of each channel, and adds what they show at it to the scene of the channel.
-fn tick_channels(channels: &mut [PlaceList], scenes: &mut Scenes)
-    requires shown { All (All HasTicksLeft) channels.old }
-    requires scenes { scenes.old ≡ replicate (length channels.old) [] }
-    ensures after { channels.new ≡ map (map one_tick_later) channels.old }
-    ensures scenes { scenes.new ≡ map (filter_map plain_drawn_place) channels.old }
-{
-    for at in 0..scenes.channels() {
-        channels[usize::from(at)].tick(at + 1, scenes);
+    /// Tests whether the journal takes an event of `commands` commands: where it holds no stop, and where its commands and
+    /// these are no more than its limit.
+    fn room_for(&self, commands: usize) -> Result<(), ApplyFault>
+        ensures room { OnOk result (HasRoom self.now.journal commands) }
+        ensures fault { IfErr result (λ fault. IsNotTaken self.now.journal commands fault) }
+    {
+        if let Some(at) = self.journal.stopped() {
+            return Err(ApplyFault::Ended { at });
+        }
+        let held = self.journal.held();
+        if commands > (self.journal.limit() - held) as usize {
+            return Err(ApplyFault::JournalFull { held });
+        }
+        Ok(())
+    }
+
+    /// Returns the answer to a command that is not refused: the value or the statuses that a query asks for, `Done` to
+    /// another command.
+    fn reply(&self, cmd: &Cmd) -> Answer
+        requires { IsServed self.now.channels cmd.now }
+        ensures { (setup : Setup) → length setup.channels ≡ self.now.channels →
+            result ≡ command_answer setup self.now.journal.events false cmd.now }
+    {
+        match cmd {
+            Cmd::Value(at, prop) => {
+                Answer::Value(self.mixer.value(*at, *prop, self.journal.ticks()))
+            }
+            Cmd::Info => Answer::Info(statuses(self.board.places())),
+            Cmd::Load(..)
+            | Cmd::LoadBg(..)
+            | Cmd::Play(_)
+            | Cmd::PlayTake(..)
+            | Cmd::Pause(_)
+            | Cmd::Resume(_)
+            | Cmd::StopLayer(_)
+            | Cmd::ClearLayer(_)
+            | Cmd::ClearChannel(_)
+            | Cmd::SwapLayers(..)
+            | Cmd::SwapChannels(..)
+            | Cmd::Set(_)
+            | Cmd::CommitMixer(_)
+            | Cmd::ResetLayer(_)
+            | Cmd::ResetChannel(_) => Answer::Done,
+        }
     }
 }

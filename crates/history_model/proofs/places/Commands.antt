@@ -103,7 +103,7 @@ standing-changed true layer n places f g p same =
 standing-changed false layer n places f g p same = same n
 
 -- a channel that is cleared, or another
-standing-cleared : (here : Bool) (n : ℕ) (places : Places) (f : ℕ → Life) → ((k : ℕ) → standing places k ≡ f k) →
+pub standing-cleared : (here : Bool) (n : ℕ) (places : Places) (f : ℕ → Life) → ((k : ℕ) → standing places k ≡ f k) →
     standing (if here then [] else places) n ≡ (if here then empty_place else f n)
 standing-cleared true n places f same = refl
 standing-cleared false n places f same = same n
@@ -114,7 +114,7 @@ both_acts : (on : Bool) (first second : Life → Life) (s : Life) →
 both_acts true first second s = refl
 both_acts false first second s = refl
 
-state-play_take : (acts : List Act) (t : ℕ) (at place : PlaceView) (first second : Cmd) →
+pub state-play_take : (acts : List Act) (t : ℕ) (at place : PlaceView) (first second : Cmd) →
     content_origin first place ≡ place → content_origin second place ≡ place → acts_on_content first place ≡ acts_on_content second place →
     state (act_after t second ∷ act_after t first ∷ acts) t place
     ≡ (if acts_on_content second place then effect second (effect first (state acts t place)) else state acts t place)
@@ -127,7 +127,7 @@ state-play_take acts t at place first second still_first still_second same =
 
 -- the lives after a plain command
 module _ (acts : List Act) (t channel : ℕ) where
-  at_one : (at : PlaceView) (cmd : Cmd) (n : ℕ) →
+  pub at_one : (at : PlaceView) (cmd : Cmd) (n : ℕ) →
       standing (changed_at at cmd channel (live_places acts t channel)) n
       ≡ (if (at.channel == channel) && eqb at.layer n then taken cmd (state acts t (record { channel = channel; layer = n })) else state acts t (record { channel = channel; layer = n }))
   at_one at cmd n =
@@ -160,11 +160,11 @@ module _ (acts : List Act) (t channel : ℕ) where
   standing-after Info h n = absurd h
 
 -- what a plain command makes of places are places
-places_chosen : (here : Bool) (changed places : Places) → ArePlaces changed → ArePlaces places → ArePlaces (if here then changed else places)
+pub places_chosen : (here : Bool) (changed places : Places) → ArePlaces changed → ArePlaces places → ArePlaces (if here then changed else places)
 places_chosen true changed places p q = p
 places_chosen false changed places p q = q
 
-ArePlaces-changed : (at : PlaceView) (cmd : Cmd) (channel : ℕ) (places : Places) → ArePlaces places → ArePlaces (changed_at at cmd channel places)
+pub ArePlaces-changed : (at : PlaceView) (cmd : Cmd) (channel : ℕ) (places : Places) → ArePlaces places → ArePlaces (changed_at at cmd channel places)
 ArePlaces-changed at cmd channel places p =
     places_chosen (at.channel == channel) _ places (ArePlaces-with_place places at.layer (taken cmd (standing places at.layer)) p) p
 

@@ -65,7 +65,7 @@ AreRising-with_number n (m ∷ numbers) rising = elim (cases_order n m) [
 ]
 
 -- a number that is not in the list with one more is neither that one nor in the list
-apart_from : (n m : ℕ) (numbers : List ℕ) → is_in n (with_number m numbers) ≡ false → (eqb m n ≡ false) × (is_in n numbers ≡ false)
+pub apart_from : (n m : ℕ) (numbers : List ℕ) → is_in n (with_number m numbers) ≡ false → (eqb m n ≡ false) × (is_in n numbers ≡ false)
 apart_from n m [] e = or_parts (eqb m n) false e
 apart_from n m (k ∷ numbers) e = elim (cases_order m k) [
   | inl same ↦

@@ -82,7 +82,7 @@ ArePlainActs-more acts t (ResetChannel reset) h plain = absurd h
 ArePlainActs-more acts t (Value at prop) h plain = absurd h
 ArePlainActs-more acts t Info h plain = absurd h
 
-AreBy-more : (acts : List Act) (t : ℕ) (cmd : Cmd) → t ≤ t → AreBy t acts → AreBy t (acts_of t cmd ++ acts)
+pub AreBy-more : (acts : List Act) (t : ℕ) (cmd : Cmd) → t ≤ t → AreBy t acts → AreBy t (acts_of t cmd ++ acts)
 AreBy-more acts t (Load at take) now by = (now, by)
 AreBy-more acts t (LoadBg at take) now by = (now, by)
 AreBy-more acts t (Play at) now by = (now, by)
@@ -101,7 +101,7 @@ AreBy-more acts t (ResetChannel reset) now by = (now, by)
 AreBy-more acts t (Value at prop) now by = by
 AreBy-more acts t Info now by = by
 
-AreBy-later : (acts : List Act) (m n : ℕ) → m ≤ n → AreBy m acts → AreBy n acts
+pub AreBy-later : (acts : List Act) (m n : ℕ) → m ≤ n → AreBy m acts → AreBy n acts
 AreBy-later [] m n low by = tt
 AreBy-later (act ∷ before) m n low by = (omega (arith, by.0), AreBy-later before m n low by.1)
 
@@ -131,7 +131,7 @@ places_after-other (Value at prop) channel places apart = refl
 places_after-other Info channel places apart = refl
 
 -- some commands make no place live
-was_played : (background : Option TakeView) (s : Life) → s.background ≡ background → is_live (after_play background s) ≡ true → is_live s ≡ true
+pub was_played : (background : Option TakeView) (s : Life) → s.background ≡ background → is_live (after_play background s) ≡ true → is_live s ≡ true
 was_played None s e live = paused_live false s live
   where
     paused_live : (paused : Bool) (s : Life) → (is_some (option_map (with_mark paused) s.foreground) || is_some s.background) ≡ true → is_live s ≡ true
@@ -143,17 +143,17 @@ was_played None s e live = paused_live false s live
         by_foreground (Some f) live = refl
 was_played (Some take) s e live = or_right (is_some s.foreground) (is_some s.background) (ap is_some e)
 
-was_marked : (paused : Bool) (foreground : Option Foreground) (backed : Bool) → (is_some (option_map (with_mark paused) foreground) || backed) ≡ true →
+pub was_marked : (paused : Bool) (foreground : Option Foreground) (backed : Bool) → (is_some (option_map (with_mark paused) foreground) || backed) ≡ true →
     (is_some foreground || backed) ≡ true
 was_marked paused None backed live = live
 was_marked paused (Some f) backed live = refl
 
 -- so they make no list of places longer
-no_longer : (here : Bool) (changed places : Places) → length changed ≤ length places → length (if here then changed else places) ≤ length places
+pub no_longer : (here : Bool) (changed places : Places) → length changed ≤ length places → length (if here then changed else places) ≤ length places
 no_longer true changed places fewer = fewer
 no_longer false changed places fewer = omega arith
 
-no_longer_at : (at : PlaceView) (cmd : Cmd) (channel : ℕ) (places : Places) → ArePlaces places →
+pub no_longer_at : (at : PlaceView) (cmd : Cmd) (channel : ℕ) (places : Places) → ArePlaces places →
     ((s : Life) → is_live (taken cmd s) ≡ true → is_live s ≡ true) → length (changed_at at cmd channel places) ≤ length places
 no_longer_at at cmd channel places p was =
     no_longer (at.channel == channel) _ places
@@ -188,11 +188,11 @@ named_or_no_longer acts t (Value at prop) places h p = absurd h
 named_or_no_longer acts t Info places h p = absurd h
 
 -- a test that no number passes, and one that a number of the list passes
-none_passes : (test : ℕ → Bool) (numbers : List ℕ) → ((n : ℕ) → test n ≡ false) → list_any test numbers ≡ false
+pub none_passes : (test : ℕ → Bool) (numbers : List ℕ) → ((n : ℕ) → test n ≡ false) → list_any test numbers ≡ false
 none_passes test [] each = refl
 none_passes test (n ∷ numbers) each = ap (λ (b : Bool). b || list_any test numbers) (each n) ∙ none_passes test numbers each
 
-one_passes : (test : ℕ → Bool) (numbers : List ℕ) (n : ℕ) → is_in n numbers ≡ true → test n ≡ true → list_any test numbers ≡ true
+pub one_passes : (test : ℕ → Bool) (numbers : List ℕ) (n : ℕ) → is_in n numbers ≡ true → test n ≡ true → list_any test numbers ≡ true
 one_passes test [] n among passes = absurd (false≢true among)
 one_passes test (m ∷ numbers) n among passes = elim (cases_eq m n) [
   | inl e ↦ ap (λ (b : Bool). b || list_any test numbers) (ap test e ∙ passes)

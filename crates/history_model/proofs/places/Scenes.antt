@@ -19,9 +19,8 @@ use Rattle.history_model.specs.stage.Resolved.{resolved_act, resolved_acts}
 use Rattle.history_model.specs.stage.Value.{default_of, tuned_value, value_at}
 use Rattle.history_model.specs.stage.Life.{Foreground, Life, after_delay, after_play, delay, effect, life, outgoing, ready, ready_by, run_for, shown_for, start, start_of, with_mark}
 use Rattle.history_model.specs.stage.Live.{is_live, layers, state}
-use Rattle.history_model.specs.stage.Plain.{ArePlainActs, IsPlain, IsPlainTake}
+use Rattle.history_model.specs.stage.Plain.{ArePlainActs, IsPicture, IsPlain, IsPlainTake}
 use Rattle.history_model.specs.stage.Places.{live_places}
-use Rattle.history_model.specs.first_plays.PlayHistory.{IsPicture}
 use Rattle.history_model.specs.pictures.Source.{own_still, source}
 use Rattle.history_model.specs.pictures.Scene.{drawn_layer, drawn_place, is_one, outgoing_still, scene_of}
 use Rattle.history_model.specs.pictures.PlainScene.{plain_drawn, plain_drawn_place}

@@ -1,15 +1,17 @@
 -- The history that the lines of a script make.
-use Rattle.std.specs.Prelude.{ℕ, ◌==◌, ◌&&◌, Bool, true, false, if◌then◌else◌, Option, Some, None, List, [], ◌∷◌, ◌++◌, length, map, filter_map, flat_map, replicate, slice_get}
+use Rattle.std.specs.Prelude.{ℕ, ◌+◌, ◌==◌, ◌&&◌, nat_lt, Bool, true, false, if◌then◌else◌, Option, Some, None, List, [], ◌∷◌, ◌++◌, length, map, filter_map, flat_map, replicate, slice_get}
 use Rattle.std.specs.List.{enumerate_from}
 use Rattle.play_types.specs.Config.{ConfigView, ChannelView}
 use Rattle.play_types.specs.Media.{MediaNameView}
 use Rattle.play_types.specs.ClipFile.{ClipView}
+use Rattle.play_types.specs.History.{held}
 use Rattle.play_types.specs.declared.geometry.Geometry.{Geometry}
+use Rattle.play_types.specs.declared.command.Cmd.{Cmd}
 use Rattle.play_types.specs.declared.event.Tag.{Tag}
 use Rattle.play_types.specs.declared.event.Event.{Event}
 use Rattle.play_types.specs.declared.event.Event.TheVariants as event
 use Rattle.history_model.specs.pictures.Media.{Setup}
-use Rattle.history_model.specs.first_plays.Built.{is_built}
+use Rattle.history_model.specs.stage.Plain.{is_built}
 use Rattle.history_model.specs.sessions.Session.{Step, Local, Ask, AskBatch, KillServer, EndConnection, Skip, steps}
 use Rattle.history_model.specs.scripts.Line.{ScriptLine, Comment, Ticks, Said, Stop, Rejected}
 
@@ -28,10 +30,12 @@ channel_size channel = record { width = channel.width; height = channel.height; 
 abbrev pub setup_of : Playout → Setup
 setup_of playout = record { channels = map channel_size playout.config.channels; clips = playout.clips }
 
--- a line that was played, and whether the connection's session gave it up since memory ran out
+-- a line that was played, whether the connection's session gave it up since memory ran out, and whether the stage had no memory
+-- for what it asks
 pub record PlayedLine : Type 0 where
   pub line : ScriptLine
   pub given_up : Bool
+  pub no_memory : Bool
 
 -- the server itself
 abbrev pub server : Tag
@@ -78,15 +82,53 @@ said_step playout before line tag =
     let all = before ++ line ∷ [] in
     slice_get (steps playout.config playout.names (given_up_of tag all) (stream_of tag all)) (length (texts_of tag before))
 
+-- when the stage is asked: after these events, by a connection, and whether it has no memory for what is asked
+pub record Turn : Type 0 where
+  pub playout : Playout
+  pub events : List Event
+  pub tag : Tag
+  pub no_memory : Bool
+
+-- what becomes of a command that the stage is asked for
+pub data Verdict : Type 0 where
+  -- the stage cannot do it yet
+  NotBuilt : Verdict
+  -- the journal would hold more commands than it may
+  JournalFull : Verdict
+  -- the stage has no memory for it
+  OutOfMemory : Verdict
+  -- it is an event
+  Taken : Verdict
+
+-- whether this number of commands more is above the limit of the journal after these events
+abbrev pub is_full : Playout → List Event → ℕ → Bool
+is_full playout events commands = nat_lt playout.config.journal_limit (held events + commands)
+
+-- what becomes of a command: the limit of the journal comes before memory
+abbrev pub verdict : Turn → Cmd → Verdict
+verdict turn command =
+    if is_built command then
+    (if is_full turn.playout turn.events 1 then JournalFull
+    else if turn.no_memory then OutOfMemory
+    else Taken)
+    else NotBuilt
+
+-- the events of a command by what becomes of it
+abbrev pub verdict_events : Tag → Cmd → Verdict → List Event
+verdict_events tag command NotBuilt = []
+verdict_events tag command JournalFull = []
+verdict_events tag command OutOfMemory = []
+verdict_events tag command Taken = event.Do tag command ∷ []
+
 -- the events of a step
-abbrev pub step_events : Tag → Option Step → List Event
-step_events tag None = []
-step_events tag (Some (Local answer)) = []
-step_events tag (Some (Ask command)) = if is_built command then event.Do tag command ∷ [] else []
-step_events tag (Some (AskBatch commands)) = []
-step_events tag (Some KillServer) = event.Stop tag ∷ []
-step_events tag (Some EndConnection) = []
-step_events tag (Some Skip) = []
+abbrev pub step_events : Turn → Option Step → List Event
+step_events turn None = []
+step_events turn (Some (Local answer)) = []
+step_events turn (Some (Ask command)) = verdict_events turn.tag command (verdict turn command)
+step_events turn (Some (AskBatch commands)) = []
+step_events turn (Some KillServer) = event.Stop turn.tag ∷ []
+step_events turn (Some EndConnection) = []
+step_events turn (Some Skip) = []
 
 -- whether a step stops the server
 abbrev pub is_kill : Option Step → Bool
@@ -106,24 +148,35 @@ ends_at playout before line (Said tag text) = is_kill (said_step playout before 
 ends_at playout before line Stop = true
 ends_at playout before line Rejected = true
 
--- the events of a line after those before it
-abbrev pub events_at : Playout → List PlayedLine → PlayedLine → ScriptLine → List Event
-events_at playout before line Comment = []
-events_at playout before line (Ticks count) = replicate count event.Tick
-events_at playout before line (Said tag text) = step_events tag (said_step playout before line tag)
-events_at playout before line Stop = event.Stop server ∷ []
-events_at playout before line Rejected = []
+-- what was played before a line: the lines, and the events that they made
+pub record Past : Type 0 where
+  pub lines : List PlayedLine
+  pub events : List Event
 
--- the events of lines that follow others, up to the line at which the run ends
-unfoldable pub events_after : Playout → List PlayedLine → List PlayedLine → List Event
-events_after playout before [] = []
-events_after playout before (line ∷ lines) =
-    events_at playout before line line.line
-    ++ (if ends_at playout before line line.line then [] else events_after playout (before ++ line ∷ []) lines)
+-- when the stage is asked by a connection's line after these events
+abbrev pub turn_of : Playout → List Event → PlayedLine → Tag → Turn
+turn_of playout events line tag = record { playout = playout; events = events; tag = tag; no_memory = line.no_memory }
+
+-- the events of a line after what was played before it
+abbrev pub events_at : Playout → Past → PlayedLine → ScriptLine → List Event
+events_at playout past line Comment = []
+events_at playout past line (Ticks count) = replicate count event.Tick
+events_at playout past line (Said tag text) =
+    step_events (turn_of playout past.events line tag) (said_step playout past.lines line tag)
+events_at playout past line Stop = event.Stop server ∷ []
+events_at playout past line Rejected = []
+
+-- the events before some lines and those of the lines, up to the line at which the run ends
+unfoldable pub events_after : Playout → Past → List PlayedLine → List Event
+events_after playout past [] = past.events
+events_after playout past (line ∷ lines) =
+    let events = past.events ++ events_at playout past line line.line in
+    if ends_at playout past.lines line line.line then events
+    else events_after playout (record { lines = past.lines ++ line ∷ []; events = events }) lines
 
 -- the history that the lines of a script make
 unfoldable pub script_events : Playout → List PlayedLine → List Event
-script_events playout lines = events_after playout [] lines
+script_events playout lines = events_after playout (record { lines = []; events = [] }) lines
 
 -- whether the run goes on after lines that follow others
 unfoldable pub goes_on_after : Playout → List PlayedLine → List PlayedLine → Bool

@@ -17,9 +17,8 @@ use Rattle.history_model.specs.pictures.Frame.{frame_pixel}
 use Rattle.history_model.specs.text.Frames.{frame_bytes, frame_lines, digest_line}
 use Rattle.history_model.specs.pictures.Media.{Setup, size}
 use Rattle.history_model.specs.text.Replies.{reply_lines}
-use Rattle.history_model.specs.first_plays.Built.{is_built}
 use Rattle.history_model.specs.scripts.Line.{ScriptLine, Comment, Ticks, Said, Stop, Rejected}
-use Rattle.history_model.specs.scripts.History.{Playout, PlayedLine, setup_of, said_step, ends_at, script_events}
+use Rattle.history_model.specs.scripts.History.{Playout, PlayedLine, Turn, Verdict, NotBuilt, JournalFull, OutOfMemory, Taken, setup_of, verdict, turn_of, said_step, ends_at, script_events}
 use Rattle.history_model.specs.sessions.Session.{Step, Local, Ask, AskBatch, KillServer, EndConnection, Skip}
 
 -- the configuration of a run that names a width and a height alone
@@ -50,22 +49,28 @@ abbrev pub reply_output : Playout → Tag → Option Reply → List ℕ
 reply_output playout tag None = []
 reply_output playout tag (Some answer) = tagged_lines tag (reply_lines playout.config playout.names answer)
 
--- the reply to a command after these events: one that is not built yet is refused
-abbrev pub ask_reply : Playout → List Event → Tag → Cmd → Reply
-ask_reply playout events tag command =
-    if is_built command
-    then answer_reply (command_name command) (command_answer (setup_of playout) events (is_refused events (event.Do tag command)) command)
-    else reply.Refused 403 (command_name command)
+-- the reply to a command by what becomes of it: the stage's answer where it is an event
+abbrev pub verdict_reply : Turn → Cmd → Verdict → Reply
+verdict_reply turn command NotBuilt = reply.Refused 403 (command_name command)
+verdict_reply turn command JournalFull = reply.Refused 503 (command_name command)
+verdict_reply turn command OutOfMemory = reply.Refused 501 (command_name command)
+verdict_reply turn command Taken =
+    answer_reply (command_name command)
+    (command_answer (setup_of turn.playout) turn.events (is_refused turn.events (event.Do turn.tag command)) command)
 
--- the reply of a step after these events: batches are not built yet
-abbrev pub step_reply : Playout → List Event → Tag → Option Step → Option Reply
-step_reply playout events tag None = None
-step_reply playout events tag (Some (Local answer)) = Some answer
-step_reply playout events tag (Some (Ask command)) = Some (ask_reply playout events tag command)
-step_reply playout events tag (Some (AskBatch commands)) = Some (reply.Refused 403 name.Commit)
-step_reply playout events tag (Some KillServer) = Some (reply.Done name.Kill)
-step_reply playout events tag (Some EndConnection) = None
-step_reply playout events tag (Some Skip) = None
+-- the reply to a command that the stage is asked for
+abbrev pub ask_reply : Turn → Cmd → Reply
+ask_reply turn command = verdict_reply turn command (verdict turn command)
+
+-- the reply of a step: batches are not built yet
+abbrev pub step_reply : Turn → Option Step → Option Reply
+step_reply turn None = None
+step_reply turn (Some (Local answer)) = Some answer
+step_reply turn (Some (Ask command)) = Some (ask_reply turn command)
+step_reply turn (Some (AskBatch commands)) = Some (reply.Refused 403 name.Commit)
+step_reply turn (Some KillServer) = Some (reply.Done name.Kill)
+step_reply turn (Some EndConnection) = None
+step_reply turn (Some Skip) = None
 
 -- a sample as 16 bits in two's complement, the lower byte first
 abbrev pub sample_bytes : ℤ → List ℕ
@@ -109,7 +114,8 @@ abbrev pub output_at : Playout → List PlayedLine → PlayedLine → ScriptLine
 output_at playout before line Comment = []
 output_at playout before line (Ticks count) = ticks_output playout (script_events playout before) count
 output_at playout before line (Said tag text) =
-    reply_output playout tag (step_reply playout (script_events playout before) tag (said_step playout before line tag))
+    reply_output playout tag
+    (step_reply (turn_of playout (script_events playout before) line tag) (said_step playout before line tag))
 output_at playout before line Stop = []
 output_at playout before line Rejected = []
 

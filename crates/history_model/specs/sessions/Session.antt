@@ -12,6 +12,7 @@ use Rattle.play_types.specs.declared.reply.Reply.{Reply}
 use Rattle.play_types.specs.declared.reply.Reply.TheVariants as reply
 use Rattle.play_types.specs.declared.parsed.Parsed.{Parsed}
 use Rattle.play_types.specs.declared.parsed.Parsed.TheVariants.{Stage, Begin, Commit, Discard, Cls, Version, Bye, Kill}
+use Rattle.history_model.specs.commands.Channels.{IsAimed, AreAimed}
 use Rattle.history_model.specs.sessions.Line.{LineMeaning, Blank, Wrong, Asks, line_meaning, asked_by}
 
 -- what is done for a line: a reply without the stage, a command or a batch that the stage is asked for, the server's end,
@@ -152,3 +153,12 @@ line_steps config media given_up lines = map (step_of_line config media given_up
 -- the steps of a whole stream, of which the lines of these numbers were given up since memory ran out
 unfoldable pub steps : ConfigView → List MediaNameView → List ℕ → List ℕ → List Step
 steps config media given_up stream = until_end (line_steps config media given_up (lines_of stream))
+
+-- each channel that is named by what the stage is asked for, a command or the commands of a batch, is a configured one
+abbrev pub IsAimedStep : ConfigView → Step → Type 0
+IsAimedStep config (Local answer) = Unit {0}
+IsAimedStep config (Ask command) = IsAimed config command
+IsAimedStep config (AskBatch commands) = AreAimed config commands
+IsAimedStep config KillServer = Unit {0}
+IsAimedStep config EndConnection = Unit {0}
+IsAimedStep config Skip = Unit {0}

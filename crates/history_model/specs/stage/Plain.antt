@@ -1,14 +1,23 @@
 -- Plain commands: those on contents that need neither swaps nor mixer values, and whose takes are clips and colours with a
 -- cut. In lists of acts the last act stands first.
-use Rattle.std.specs.Prelude.{◌≡◌, ℕ, List, [], ◌∷◌}
+use Rattle.std.specs.Prelude.{◌≡◌, ℕ, ◌&&◌, Bool, true, false, List, [], ◌∷◌}
 use Rattle.play_types.specs.Take.{TakeView}
-use Rattle.play_types.specs.declared.transition.Kind.TheVariants.{Cut}
+use Rattle.play_types.specs.declared.take.Spec.{Spec}
+use Rattle.play_types.specs.declared.take.Spec.TheVariants.{Clip, Colour, RouteChannel, RouteLayer}
+use Rattle.play_types.specs.declared.transition.Kind.{Kind}
+use Rattle.play_types.specs.declared.transition.Kind.TheVariants.{Cut, Mix, Push, Slide, Wipe}
 use Rattle.play_types.specs.declared.command.Cmd.{Cmd}
 use Rattle.play_types.specs.declared.command.Cmd.TheVariants.{Load, LoadBg, Play, PlayTake, Pause, Resume, StopLayer, ClearLayer, ClearChannel, SwapLayers, SwapChannels, Set, CommitMixer, ResetLayer, ResetChannel, Value, Info}
 use Rattle.play_types.specs.declared.event.Event.{Event}
 use Rattle.play_types.specs.declared.event.Event.TheVariants.{Do, Batch, Tick, Stop}
 use Rattle.history_model.specs.stage.Act.{Act}
-use Rattle.history_model.specs.first_plays.PlayHistory.{IsPicture}
+
+-- a clip or a colour
+abbrev pub IsPicture : Spec → Type 0
+IsPicture (Clip id) = Unit {0}
+IsPicture (Colour value) = Unit {0}
+IsPicture (RouteChannel channel) = ⊥
+IsPicture (RouteLayer place) = ⊥
 
 -- a clip or a colour with a cut
 pub record IsPlainTake (take : TakeView) : Type 0 where
@@ -34,6 +43,45 @@ IsPlain (ResetLayer place) = ⊥
 IsPlain (ResetChannel channel) = ⊥
 IsPlain (Value place prop) = ⊥
 IsPlain Info = ⊥
+
+-- whether a transition is a cut
+abbrev pub is_cut : Kind → Bool
+is_cut Cut = true
+is_cut Mix = false
+is_cut Push = false
+is_cut Slide = false
+is_cut Wipe = false
+
+-- whether a producer is a clip or a colour
+abbrev pub is_picture : Spec → Bool
+is_picture (Clip id) = true
+is_picture (Colour value) = true
+is_picture (RouteChannel channel) = false
+is_picture (RouteLayer place) = false
+
+-- whether a take is a clip or a colour with a cut
+abbrev pub is_plain_take : TakeView → Bool
+is_plain_take take = is_cut take.trans.kind && is_picture take.spec
+
+-- whether the stage can do a command so far: it does the plain ones. It is used only until the stage does all of them
+abbrev pub is_built : Cmd → Bool
+is_built (Load place take) = is_plain_take take
+is_built (LoadBg place take) = is_plain_take take
+is_built (Play place) = true
+is_built (PlayTake place take) = is_plain_take take
+is_built (Pause place) = true
+is_built (Resume place) = true
+is_built (StopLayer place) = true
+is_built (ClearLayer place) = true
+is_built (ClearChannel channel) = true
+is_built (SwapLayers a b transforms) = false
+is_built (SwapChannels a b transforms) = false
+is_built (Set setting) = false
+is_built (CommitMixer channel) = false
+is_built (ResetLayer place) = false
+is_built (ResetChannel channel) = false
+is_built (Value place prop) = false
+is_built Info = false
 
 -- the channel of a plain command, 0 for another
 abbrev pub channel_of : Cmd → ℕ

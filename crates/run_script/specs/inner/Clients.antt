@@ -51,16 +51,17 @@ abbrev pub gave_up : Option Step → Bool
 gave_up None = false
 gave_up (Some found) = gives_up found
 
--- a line of a connection after the lines that were played before it
+-- a line of a connection after the lines that were played before it, and whether the stage has no memory for what it asks
 pub record NextText : Type 0 where
   pub playout : Playout
   pub played : List PlayedLine
   pub tag : Tag
   pub text : List ℕ
+  pub no_memory : Bool
 
 -- the line as it was played, where this step was found for it
 abbrev pub played_text : NextText → Option Step → PlayedLine
-played_text next found = record { line = Said next.tag next.text; given_up = gave_up found }
+played_text next found = record { line = Said next.tag next.text; given_up = gave_up found; no_memory = next.no_memory }
 
 -- the step that was found, with the batch that is asked for
 abbrev pub step_view : Option Step → List Cmd → Option model.Step

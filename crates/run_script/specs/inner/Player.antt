@@ -1,74 +1,73 @@
--- What the player represents, and what a line makes of it.
-use Rattle.std.specs.Prelude.{◌≡◌, ◌≢◌, ℕ, ◌+◌, ◌-◌, ◌*◌, ◌<◌, ◌≤◌, Bool, true, false, Option, Some, None, IfSome, Result, Ok, Err, List, [], ◌∷◌, ◌++◌, length, map, set, All, vec_capacity, if◌then◌else◌}
+-- What the player keeps, and what a line makes of it.
+use Rattle.std.specs.Prelude.{◌≡◌, ◌≢◌, ℕ, ◌+◌, Bool, true, false, Option, None, Result, Ok, Err, List, [], ◌∷◌, ◌++◌, length, map, All}
 use Rattle.std.specs.List.{range_with_len}
-use Rattle.play_types.specs.Config.{ChannelView}
-use Rattle.play_types.specs.ClipFile.{ClipView}
-use Rattle.play_types.specs.Place.{PlaceView}
-use Rattle.play_types.specs.History.{ticks}
+use Rattle.play_types.specs.History.{stop_at, ticks}
+use Rattle.play_types.specs.Scene.{IsConfigured}
 use Rattle.play_types.specs.declared.command.Cmd.{Cmd}
-use Rattle.play_types.specs.declared.command.Cmd.TheVariants.{PlayTake}
 use Rattle.play_types.specs.declared.event.Tag.{Tag}
 use Rattle.play_types.specs.declared.event.Event.{Event}
 use Rattle.play_types.specs.declared.geometry.Geometry.{Geometry}
+use Rattle.play_types.specs.declared.reply.Reply.{Reply}
 use Rattle.play_outside.specs.SinkState.{SinkState, after_taking}
 use Rattle.play_outside.specs.Sink.{Fails}
-use Rattle.history_model.specs.text.Frames.{frame_bytes, frame_lines, digest_line}
-use Rattle.history_model.specs.pictures.Media.{size}
-use Rattle.history_model.specs.first_plays.PlayHistory.{IsPlayHistory, showing, showing_pixel}
-use Rattle.history_model.specs.first_plays.PlayHistory as model
-use Rattle.history_model.specs.first_plays.Built.{is_built}
+use Rattle.history_model.specs.pictures.Frame.{frame_pixel, pictures_after}
+use Rattle.history_model.specs.pictures.Media.{Setup}
+use Rattle.history_model.specs.pictures.Scene.{scene}
+use Rattle.history_model.specs.stage.Plain.{IsPlainHistory}
 use Rattle.history_model.specs.scripts.Line.{ScriptLine, Rejected}
-use Rattle.history_model.specs.scripts.History.{Playout, PlayedLine, setup_of, step_events, is_kill, ends_at, script_events}
-use Rattle.history_model.specs.scripts.Output.{reply_output, step_reply, channel_output, output_at}
+use Rattle.history_model.specs.scripts.History.{Playout, PlayedLine, Turn, channel_size, ends_at, is_kill, script_events, setup_of, step_events, verdict, verdict_events}
+use Rattle.history_model.specs.scripts.Output.{ask_reply, channel_output, output_at, picture_bytes, reply_output, step_reply}
 use Rattle.history_model.specs.sessions.Session.{Step}
-use Rattle.play_scene.specs.Picture.{PictureView, Nothing, clips_of, take_picture}
+use Rattle.play_scene.specs.Frames.{ArePictures, FrameView, Shows, frame_at}
+use Rattle.run_script.specs.Program.{playout_of}
 use Rattle.run_script.specs.declared.ending.Halt.{Halt}
 use Rattle.run_script.specs.declared.ending.Halt.TheVariants as halt
-use Rattle.run_script.specs.declared.player.Showing.{Showing}
 use Rattle.run_script.specs.declared.player.Player.{Player}
-use Rattle.run_script.specs.declared.player.Start.{Start}
-use Rattle.server_setup.specs.declared.setup.ServerSetup.{ServerSetup}
 use Rattle.run_script.specs.inner.Clients.{AreClients}
 
--- what a channel shows after `now` ticks
-abbrev pub showing_view : ℕ → Option Showing → Option model.Showing
-showing_view now None = None
-showing_view now (Some one) = Some (record { take = one.take; shown = now - one.since })
+-- what the script is played on
+abbrev pub playout_in : Player → Playout
+playout_in player = playout_of player.setup player.digests
 
--- the picture of what is kept for a channel after `now` ticks
-abbrev pub kept_picture : List (Option ClipView) → ℕ → Option (Option Showing) → PictureView
-kept_picture clips now None = Nothing
-kept_picture clips now (Some None) = Nothing
-kept_picture clips now (Some (Some one)) = take_picture clips one.take (now - one.since)
+-- its channels and clips
+abbrev pub setup_in : Player → Setup
+setup_in player = setup_of (playout_in player)
 
--- a take did not begin after `now` ticks
-abbrev pub HasBegun : ℕ → Option Showing → Type 0
-HasBegun now one = IfSome one (λ showing. showing.since ≤ now)
+-- the history so far: the journal of the stage
+abbrev pub events_in : Player → List Event
+events_in player = player.stage.journal.events
 
--- there is room for a frame of a channel
-abbrev pub HasRoom : ℕ → ChannelView → Type 0
-HasRoom room channel = 4 * channel.width * channel.height ≤ room
+-- the number of channels
+abbrev pub channels_in : Player → ℕ
+channels_in player = length player.setup.config.channels
 
--- a script is played on this set-up, whose channels have no sound
-pub record IsPlayedOn (setup : ServerSetup) (as_digests : Bool) (playout : Playout) : Type 0 where
-  pub config : setup.config ≡ playout.config
-  pub names : setup.names ≡ playout.names
-  pub clips : playout.clips ≡ clips_of setup.media
-  pub digests : as_digests ≡ playout.digests
-  pub silent : All (λ channel. channel.pairs ≡ 0) playout.config.channels
+-- the sizes of frames
+abbrev pub sizes_of : List FrameView → List Geometry
+sizes_of frames = map (λ frame. frame.size) frames
 
--- the player is where these events put it: they only play clips and colours on layer 0, and tick
-pub record RepresentsEvents (playout : Playout) (player : Player) (events : List Event) : Type 0 where
-  pub on : IsPlayedOn player.setup player.digests playout
-  pub room : All (HasRoom (vec_capacity player.frame)) playout.config.channels
-  pub plays : IsPlayHistory events
-  pub ticks : player.ticks ≡ ticks events
-  pub begun : All (HasBegun player.ticks) player.shown.items
-  pub shown : map (showing_view player.ticks) player.shown.items ≡ map (λ channel. showing channel events) (range_with_len 1 (length playout.config.channels))
+-- the player can go on: no channel has sound, the stage, the scenes and the frames are those of the configuration, the history
+-- holds plain commands alone and no stop, and the frames that were shown last are those of its last tick
+pub record IsReady (player : Player) : Type 0 where
+  pub silent : All (λ channel. channel.pairs ≡ 0) player.setup.config.channels
+  pub limit : player.stage.journal.limit ≡ player.setup.config.journal_limit
+  pub channels : player.stage.channels ≡ channels_in player
+  pub scenes : length player.scenes ≡ channels_in player
+  pub sizes : sizes_of player.next ≡ map channel_size player.setup.config.channels
+  pub pictures : ArePictures (pictures_after (setup_in player) (events_in player)) player.shown player.setup.media
+  pub plain : IsPlainHistory (events_in player)
+  pub running : stop_at (events_in player) ≡ None
 
--- the player is where the events of these lines put it, and serves their connections
+-- the history has these events more, and what is played on and the connections are as before
+pub record MakesEvents (events : List Event) (old new : Player) : Type 0 where
+  pub setup : new.setup ≡ old.setup
+  pub digests : new.digests ≡ old.digests
+  pub clients : new.clients ≡ old.clients
+  pub history : events_in new ≡ events_in old ++ events
+
+-- the player is where the lines put it: it has their history, and serves their connections
 pub record Represents (playout : Playout) (player : Player) (played : List PlayedLine) : Type 0 where
-  pub shows : RepresentsEvents playout player (script_events playout played)
+  pub on : playout_in player ≡ playout
+  pub history : events_in player ≡ script_events playout played
   pub clients : AreClients playout player.clients.list.items played
 
 -- the text was written, or a write of it failed
@@ -79,56 +78,77 @@ WritesText (Err halt.Memory) text before after = ⊥
 WritesText (Err halt.Stop) text before after = ⊥
 WritesText (Err halt.Rejected) text before after = ⊥
 
+-- the player draws the tick after these events: it has their scenes, and the frames of the tick before
+pub record IsDrawing (events : List Event) (player : Player) : Type 0 where
+  pub silent : All (λ channel. channel.pairs ≡ 0) player.setup.config.channels
+  pub scenes : player.scenes ≡ map (scene events) (range_with_len 1 (channels_in player))
+  pub sizes : sizes_of player.next ≡ map channel_size player.setup.config.channels
+  pub pictures : ArePictures (pictures_after (setup_in player) events) player.shown player.setup.media
+  pub plain : IsPlainHistory events
+
+-- the next frame of a channel is the one of the tick after these events
+abbrev pub IsDrawn : List Event → Player → ℕ → Type 0
+IsDrawn events player channel = Shows (frame_at channel player.next) (frame_pixel (setup_in player) events channel)
+
+-- the frame of one channel was drawn, and all else is as before
+pub record DrawsChannel (channel : ℕ) (events : List Event) (old new : Player) : Type 0 where
+  pub same : new ≡ record old { next = new.next }
+  pub sizes : sizes_of new.next ≡ sizes_of old.next
+  pub drawn : IsDrawn events new channel
+  pub others : (other : ℕ) → IsConfigured (channels_in old) other → other ≢ channel → frame_at other new.next ≡ frame_at other old.next
+
 -- what is written for a channel at the tick after these events
 abbrev pub channel_text : Playout → List Event → ℕ → List ℕ
 channel_text playout events channel =
-    let setup = setup_of playout in
-    channel_output playout (ticks events + 1) channel
-    (frame_bytes (size setup channel).width (size setup channel).height (showing_pixel setup channel (showing channel events))) []
+    channel_output playout (ticks events + 1) channel (picture_bytes (setup_of playout) events channel) []
 
--- what is written for a frame of this size without sound: its lines, or its digest
-abbrev pub frame_text : Bool → ℕ → ℕ → Geometry → List ℕ → List ℕ
-frame_text digests channel tick size picture =
-    if digests then digest_line channel tick picture [] else frame_lines channel tick size picture []
+-- when the stage is asked by a connection of the player
+abbrev pub turn_in : Player → Tag → Bool → Turn
+turn_in player tag no_memory = record {
+  playout = playout_in player;
+  events = events_in player;
+  tag = tag;
+  no_memory = no_memory;
+}
 
--- all is as before but for the bytes of the frame, whose room is no smaller
-pub record PaintsFrame (old new : Player) : Type 0 where
-  pub same : new ≡ record old { frame = new.frame }
-  pub room : vec_capacity old.frame ≤ vec_capacity new.frame
+-- a command was done or refused, by this reply, and it is an event where its verdict says so
+pub record DoesCommand (tag : Tag) (command : Cmd) (answer : Reply) (old new : Player) : Type 0 where
+  pub no_memory : Bool
+  pub replies : answer ≡ ask_reply (turn_in old tag no_memory) command
+  pub makes : MakesEvents (verdict_events tag command (verdict (turn_in old tag no_memory) command)) old new
 
--- a step of a connection, none where that has ended before, after these events
+-- a step of a connection, none where that has ended before, when the stage is asked
 pub record NextStep : Type 0 where
-  pub playout : Playout
-  pub events : List Event
-  pub tag : Tag
+  pub turn : Turn
   pub step : Option Step
 
 -- what is written for it
 abbrev pub step_text : NextStep → List ℕ
-step_text next = reply_output next.playout next.tag (step_reply next.playout next.events next.tag next.step)
+step_text next = reply_output next.turn.playout next.turn.tag (step_reply next.turn next.step)
 
 -- the step was followed and the run goes on, or ends at a kill, or a write of the reply failed
-abbrev pub FollowsStep : NextStep → Result (Unit {0}) Halt → Player → SinkState → SinkState → Type 0
-FollowsStep next (Ok done) player before after =
-    (is_kill next.step ≡ false) × RepresentsEvents next.playout player (next.events ++ step_events next.tag next.step)
-    × (after ≡ after_taking before (step_text next))
-FollowsStep next (Err halt.Stop) player before after =
-    (is_kill next.step ≡ true) × (after ≡ after_taking before (step_text next))
-FollowsStep next (Err halt.Write) player before after = Fails (step_text next) before after
-FollowsStep next (Err halt.Memory) player before after = ⊥
-FollowsStep next (Err halt.Rejected) player before after = ⊥
+abbrev pub IsFollowed : NextStep → Result (Unit {0}) Halt → List Event → SinkState → SinkState → Type 0
+IsFollowed next (Ok done) made before after =
+    (is_kill next.step ≡ false) × (made ≡ step_events next.turn next.step) × (after ≡ after_taking before (step_text next))
+IsFollowed next (Err halt.Stop) made before after =
+    (is_kill next.step ≡ true) × (made ≡ step_events next.turn next.step) × (after ≡ after_taking before (step_text next))
+IsFollowed next (Err halt.Write) made before after = Fails (step_text next) before after
+IsFollowed next (Err halt.Memory) made before after = ⊥
+IsFollowed next (Err halt.Rejected) made before after = ⊥
 
--- the start of a command that the player can do, none for another
-abbrev pub IsStartOf : Cmd → Option Start → Type 0
-IsStartOf command None = is_built command ≡ false
-IsStartOf command (Some start) =
-    (place : PlaceView) × (command ≡ PlayTake place start.take) × (place.channel ≡ start.channel) × (1 ≤ start.channel) × (is_built command ≡ true)
-    × model.IsPlay command
+-- a step that a connection of the player gave, by the commands of the batch that is asked for
+pub record Given : Type 0 where
+  pub player : Player
+  pub tag : Tag
+  pub step : List Cmd → Option Step
 
--- a take is shown on a channel from now on
-pub record StartsTake (start : Start) (old new : Player) : Type 0 where
-  pub same : new ≡ record old { shown = new.shown }
-  pub shown : (start.channel - 1 < length old.shown.items) → new.shown.items ≡ set old.shown.items (start.channel - 1) (Some (record { take = start.take; since = old.ticks }))
+-- the step was followed: it made these events, and the stage had memory for what it asks or not
+pub record FollowsStep (given : Given) (result : Result (Unit {0}) Halt) (new : Player) (before after : SinkState) : Type 0 where
+  pub no_memory : Bool
+  pub made : List Event
+  pub makes : MakesEvents made given.player new
+  pub follows : (commands : List Cmd)
+      → IsFollowed (record { turn = turn_in given.player given.tag no_memory; step = given.step commands }) result made before after
 
 -- a line of a script after those that were played before it
 pub record NextLine : Type 0 where
@@ -136,43 +156,53 @@ pub record NextLine : Type 0 where
   pub before : List PlayedLine
   pub line : ScriptLine
 
+-- for what there was no memory at a line: for its session, or for the stage
+pub record Marks : Type 0 where
+  pub given_up : Bool
+  pub no_memory : Bool
+
+-- there was memory
+abbrev pub no_marks : Marks
+no_marks = record { given_up = false; no_memory = false }
+
 -- the line as it was played
-abbrev pub played_line : NextLine → Bool → PlayedLine
-played_line next given_up = record { line = next.line; given_up = given_up }
+abbrev pub played_line : NextLine → Marks → PlayedLine
+played_line next marks = record { line = next.line; given_up = marks.given_up; no_memory = marks.no_memory }
 
 -- what is written for it
-abbrev pub line_text : NextLine → Bool → List ℕ
-line_text next given_up = output_at next.playout next.before (played_line next given_up) next.line
+abbrev pub line_text : NextLine → Marks → List ℕ
+line_text next marks = output_at next.playout next.before (played_line next marks) next.line
 
 -- whether the run ends at it
-abbrev pub ends_run : NextLine → Bool → Bool
-ends_run next given_up = ends_at next.playout next.before (played_line next given_up) next.line
+abbrev pub ends_run : NextLine → Marks → Bool
+ends_run next marks = ends_at next.playout next.before (played_line next marks) next.line
 
 -- all that the line says was done, and the run goes on
 pub record IsLineDone (next : NextLine) (player : Player) (before after : SinkState) : Type 0 where
-  pub given_up : Bool
+  pub marks : Marks
   pub accepted : next.line ≢ Rejected
-  pub goes_on : ends_run next given_up ≡ false
-  pub represents : Represents next.playout player (next.before ++ played_line next given_up ∷ [])
-  pub written : after ≡ after_taking before (line_text next given_up)
+  pub goes_on : ends_run next marks ≡ false
+  pub represents : Represents next.playout player (next.before ++ played_line next marks ∷ [])
+  pub written : after ≡ after_taking before (line_text next marks)
 
--- all that the line says was done, and the run ends
-pub record IsLastLine (next : NextLine) (before after : SinkState) : Type 0 where
-  pub given_up : Bool
+-- all that the line says was done, the run ends, and the history ends with a stop
+pub record IsLastLine (next : NextLine) (player : Player) (before after : SinkState) : Type 0 where
+  pub marks : Marks
   pub accepted : next.line ≢ Rejected
-  pub ends : ends_run next given_up ≡ true
-  pub written : after ≡ after_taking before (line_text next given_up)
+  pub ends : ends_run next marks ≡ true
+  pub history : events_in player ≡ script_events next.playout (next.before ++ played_line next marks ∷ [])
+  pub written : after ≡ after_taking before (line_text next marks)
 
 -- a write of what the line says failed
 pub record IsLineFailed (next : NextLine) (before after : SinkState) : Type 0 where
-  pub given_up : Bool
+  pub marks : Marks
   pub accepted : next.line ≢ Rejected
-  pub fails : Fails (line_text next given_up) before after
+  pub fails : Fails (line_text next marks) before after
 
 -- the line was played; out of memory, and where it is rejected, nothing was written for it
 abbrev pub PlaysLine : NextLine → Result (Unit {0}) Halt → Player → SinkState → SinkState → Type 0
 PlaysLine next (Ok done) player before after = IsLineDone next player before after
-PlaysLine next (Err halt.Stop) player before after = IsLastLine next before after
+PlaysLine next (Err halt.Stop) player before after = IsLastLine next player before after
 PlaysLine next (Err halt.Write) player before after = IsLineFailed next before after
 PlaysLine next (Err halt.Memory) player before after = after ≡ before
 PlaysLine next (Err halt.Rejected) player before after = (next.line ≡ Rejected) × (after ≡ before)

@@ -1,15 +1,22 @@
 -- Where a layer stands in a list of places, and what a list keeps.
-use Rattle.std.specs.Prelude.{◌≡◌, ℕ, ◌<◌, ◌≤◌, length, slice_index_or}
-use Rattle.play_types.specs.declared.place.TheConstants.{MAX_LIVE_LAYERS}
+use Rattle.std.specs.Prelude.{◌≡◌, ℕ, ◌+◌, ◌<◌, ◌≤◌, [], ◌∷◌, length, slice_index_or}
+use Rattle.play_types.specs.declared.place.TheConstants.{MAX_LAYER, MAX_LIVE_LAYERS}
 use Rattle.history_model.specs.stage.Life.{Life, empty_place}
 use Rattle.history_model.specs.stage.Places.{ArePlaces, Places}
 
--- a list of places with its length and its room: it has no more than a channel may have, and room for all of them
+-- each is a layer that a channel has
+abbrev pub AreLayers : Places → Type 0
+AreLayers [] = Unit {0}
+AreLayers (place ∷ more) = (place.0 ≤ MAX_LAYER) × AreLayers more
+
+-- a list of places with its length and its room: it has at most three more than a channel may have, and room for all of
+-- them
 pub record AreKept (places : Places) (len room : ℕ) : Type 0 where
   pub rising : ArePlaces places
+  pub layers : AreLayers places
   pub counted : length places ≡ len
-  pub few : len ≤ MAX_LIVE_LAYERS
-  pub roomy : MAX_LIVE_LAYERS ≤ room
+  pub few : len ≤ MAX_LIVE_LAYERS + 3
+  pub roomy : MAX_LIVE_LAYERS + 3 ≤ room
 
 -- the layer at an index of a list, with what stands there
 abbrev pub place_in : Places → ℕ → ℕ × Life

@@ -7,10 +7,7 @@ use Rattle.run_script.proofs.run.run.Goals as goal
 pub pieces-init : goal.pieces-init
 pieces-init g c = record {
   buffer = refl;
-  progress = none_read _ _ _
-      (c.in-Ok.ensures.taken (playout_of c.args.setup c.args.digests) _
-      (record { config = refl; names = refl; clips = refl; digests = refl; silent = c.requires }))
-      c.in-Ok.ensures.small.0 c.in-Ok.ensures.small.1;
+  progress = none_read _ _ _ (c.in-Ok.ensures.taken _) c.in-Ok.ensures.ready c.in-Ok.ensures.small.0 c.in-Ok.ensures.small.1;
 }
 
 pub returns-in_default : goal.returns-in_default
@@ -30,7 +27,7 @@ pieces-preserved g c =
     let progress : HasRead (playout_of c.args.setup c.args.digests) c.take_piece.new.script c.in-Ok-take_piece.rest
     (record { input = g.I.Source.state c.args.input.now; out = g.K.Sink.state c.args.out.now })
     (record { input = g.I.Source.state c.read.new.self; out = g.K.Sink.state c.take_piece.new.out }) =
-    piece_read _ _ _ _ _ before c.take_piece.new.script c.in-Ok-take_piece.rest piece _ _ c.in-Got.ensures.2 c.in-Ok-take_piece.ensures.ticks c.in-Ok-take_piece.ensures.lines reads in
+    piece_read _ _ _ _ _ before c.take_piece.new.script c.in-Ok-take_piece.rest piece _ _ c.in-Got.ensures.2 c.in-Ok-take_piece.ensures.ready c.in-Ok-take_piece.ensures.ticks c.in-Ok-take_piece.ensures.lines reads in
     record { buffer = search rules; progress = progress }
 
 pub pieces-smaller : goal.pieces-smaller

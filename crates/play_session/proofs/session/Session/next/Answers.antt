@@ -4,7 +4,8 @@ use Rattle.amcp_text.specs.Reader.{line_view}
 use Rattle.amcp_text.specs.Reader as reader
 use Rattle.play_session.specs.SessionState.{SessionState}
 use Rattle.play_session.specs.Session.{Represents}
-use Rattle.play_session.proofs.Fitting.{followed_fits}
+use Rattle.history_model.specs.commands.Channels.{AreAimed}
+use Rattle.play_session.proofs.Fitting.{followed_aimed, followed_fits}
 use Rattle.play_session.proofs.Standing.{all_given}
 use Rattle.play_session.proofs.NextLine.{TookLine, Gives-followed}
 use Rattle.play_session.proofs.session.Session.next.Goals as goal
@@ -31,3 +32,11 @@ returns-clause-fits c =
     let before : SessionState = record { reader = inside.reader; batch_open = inside.batch.is_open; batch = inside.batch.commands; ended = inside.ended } in
     followed_fits c.args.config.now c.args.media.now (line_view c.in-Some.line) c.meaning_of-meaning.result c.follow.result before c.follow.new.self
     c.meaning_of-meaning.ensures c.follow.ensures.follows
+
+pub returns-clause-aimed : goal.returns-clause-aimed
+returns-clause-aimed c = λ aimed.
+    let inside = c.self.inside in
+    let before : SessionState = record { reader = inside.reader; batch_open = inside.batch.is_open; batch = inside.batch.commands; ended = inside.ended } in
+    let inner = subst (λ (session : SessionState). AreAimed c.args.config.now session.batch) (sym c.self.view_is) aimed in
+    followed_aimed c.args.config.now c.args.media.now (line_view c.in-Some.line) c.meaning_of-meaning.result c.follow.result before c.follow.new.self
+    c.meaning_of-meaning.ensures c.follow.ensures.follows inner

@@ -1,11 +1,13 @@
-use Rattle.std.proofs.Common.{◌∙◌, length, replicate, ap, arith, refl}
-use Rattle.std.specs.Prelude.{None}
-use Rattle.run_script.proofs.Beginning.{nothing_played}
+use Rattle.std.proofs.Common.{ap}
+use Rattle.stage_core.specs.Stage.{StageView}
+use Rattle.run_script.proofs.Beginning.{nothing_played, nothing_shown}
 use Rattle.run_script.proofs.player.Player.new.Goals as goal
 
+pub returns-clause-ready : goal.returns-clause-ready
+returns-clause-ready c = nothing_shown _ c.requires c.in_ok-stage.ensures c.in_ok-scenes.ensures c.in_ok-shown.ensures c.in_ok-next.ensures
+
+pub returns-clause-empty : goal.returns-clause-empty
+returns-clause-empty c = ap (λ (s : StageView). s.journal.events) c.in_ok-stage.ensures
+
 pub returns-clause-represents : goal.returns-clause-represents
-returns-clause-represents c = λ playout on.
-    let size = c.len.ensures.value ∙ ap length c.channels.ensures.value in
-    nothing_played playout _ on c.new.ensures
-    (λ k d inside. (let fits = c.largest_frame.ensures k d inside in let cap = c.in_ok-frame.ensures.capacity in omega (arith, fits, cap)))
-    (c.in_ok-shown.ensures ∙ ap (λ n. replicate n None) size) refl
+returns-clause-represents c = nothing_played _ (ap (λ (s : StageView). s.journal.events) c.in_ok-stage.ensures) c.new-5.ensures

@@ -1,28 +1,36 @@
-use Rattle.std.proofs.Common.{sym, ap, subst, refl}
-use Rattle.std.specs.Prelude.{Some, None, Ok}
-use Rattle.history_model.specs.scripts.History.{script_events}
-use Rattle.run_script.specs.inner.Clients.{NextText, ClientsTakeLine}
-use Rattle.run_script.proofs.Following.{follows_nothing, shows_clients}
+use Rattle.std.proofs.Common.{refl, ap, subst}
+use Rattle.std.specs.Prelude.{None, Ok, Some}
+use Rattle.history_model.specs.scripts.History.{Playout}
+use Rattle.play_session.specs.Step.{viewed}
+use Rattle.run_script.specs.inner.Clients.{ClientsTakeLine, NextText}
+use Rattle.run_script.specs.inner.Player.{FollowsStep, Given}
+use Rattle.run_script.proofs.Following.{follows_nothing, ready_clients}
 use Rattle.run_script.proofs.Lines.{step_followed}
 use Rattle.run_script.proofs.player.Player.take_client_line.Goals as goal
 
+pub follow_step-requires-clause-ready : goal.follow_step-requires-clause-ready
+follow_step-requires-clause-ready g c = ready_clients c.args.self.now c.take_line.new.self c.requires
+
+pub returns-in-None-clause-ready : goal.returns-in-None-clause-ready
+returns-in-None-clause-ready g c = ready_clients c.args.self.now c.take_line.new.self c.requires
+
 pub returns-in-Some-clause-plays : goal.returns-in-Some-clause-plays
 returns-in-Some-clause-plays g c = λ playout played none on represents.
-    let next : NextText = record { playout = playout; played = played; tag = c.args.tag; text = c.args.text.now } in
     let step = c.in-Some.step in
-    let took = c.in_ok-step.ensures.takes playout played represents.shows.on.config represents.shows.on.names none represents.clients in
-    let takes : ClientsTakeLine next (Some step) c.follow_step.new.self.clients.list.items =
-    subst (λ l. ClientsTakeLine next (Some step) l) (sym (ap (λ p. p.clients.list.items) c.follow_step.ensures.same))
-    (subst (λ f. ClientsTakeLine next f c.take_line.new.self.list.items) c.in-Some.is took) in
-    step_followed next (Some step) c.follow_step.result c.follow_step.new.self _ _ on takes
-    (c.follow_step.ensures.follows playout (script_events playout played) takes.commands
-    (shows_clients playout c.args.self.now c.take_line.new.self (script_events playout played) represents.shows))
+    let old = record c.args.self.now { clients = c.take_line.new.self } in
+    let follows = c.follow_step.ensures.follows in
+    let next : NextText = record { playout = playout; played = played; tag = c.args.tag; text = c.args.text.now; no_memory = follows.no_memory } in
+    let took = c.in_ok-step.ensures.takes playout played follows.no_memory (ap (λ (p : Playout). p.config) represents.on) (ap (λ (p : Playout). p.names) represents.on) none represents.clients in
+    let takes : ClientsTakeLine next (Some step) c.take_line.new.self.list.items =
+    subst (λ f. ClientsTakeLine next f c.take_line.new.self.list.items) c.in-Some.is took in
+    step_followed next (Some step) (viewed step) c.follow_step.result old c.follow_step.new.self _ _ on represents.on represents.history follows refl takes (λ commands. refl)
 
 pub returns-in-None-clause-plays : goal.returns-in-None-clause-plays
 returns-in-None-clause-plays g c = λ playout played none on represents.
-    let next : NextText = record { playout = playout; played = played; tag = c.args.tag; text = c.args.text.now } in
-    let took = c.in_ok-step.ensures.takes playout played represents.shows.on.config represents.shows.on.names none represents.clients in
+    let old = record c.args.self.now { clients = c.take_line.new.self } in
+    let given : Given = record { player = old; tag = c.args.tag; step = λ commands. None } in
+    let follows : FollowsStep given (Ok tt) old (g.K.Sink.state c.args.out.now) (g.K.Sink.state c.args.out.now) = follows_nothing given tt _ (λ commands. (refl, refl, refl)) in
+    let next : NextText = record { playout = playout; played = played; tag = c.args.tag; text = c.args.text.now; no_memory = follows.no_memory } in
+    let took = c.in_ok-step.ensures.takes playout played follows.no_memory (ap (λ (p : Playout). p.config) represents.on) (ap (λ (p : Playout). p.names) represents.on) none represents.clients in
     let takes : ClientsTakeLine next None c.take_line.new.self.list.items = subst (λ f. ClientsTakeLine next f c.take_line.new.self.list.items) c.in-None.is took in
-    step_followed next None (Ok tt) (record c.args.self.now { clients = c.take_line.new.self }) _ _ on takes
-    (follows_nothing (record { playout = playout; events = script_events playout played; tag = c.args.tag; step = None }) tt (record c.args.self.now { clients = c.take_line.new.self }) _
-    (shows_clients playout c.args.self.now c.take_line.new.self (script_events playout played) represents.shows) refl refl refl)
+    step_followed next None (λ commands. None) (Ok tt) old old _ _ on represents.on represents.history follows refl takes (λ commands. refl)

@@ -1,36 +1,50 @@
-use Rattle.std.proofs.Common.{◌++◌, refl, sym, ◌∙◌, subst, arith, replicate, append-nil}
+use Rattle.std.proofs.Common.{◌∷◌, [], ◌+◌, ap₂, ◌∙◌, subst₂, arith, replicate}
+use Rattle.std.specs.Prelude.{Err}
 use Rattle.std.proofs.lemmas.Result.{err_from_is_err_and}
 use Rattle.play_types.specs.declared.event.Event.TheVariants.{Tick}
-use Rattle.run_script.specs.inner.Player.{RepresentsEvents}
-use Rattle.run_script.proofs.Ticking.{no_ticks, tick-more, tick_written, tick_stopped}
+use Rattle.play_outside.specs.SinkState.{after_taking}
+use Rattle.history_model.specs.scripts.Output.{tick_output}
+use Rattle.run_script.specs.Program.{playout_of}
+use Rattle.run_script.specs.inner.Player.{WritesText, events_in, playout_in}
+use Rattle.run_script.proofs.Counting.{ticks-replicate, ticks_made}
+use Rattle.run_script.proofs.Following.{makes_nothing, makes_then}
+use Rattle.run_script.proofs.Ticking.{no_ticks, tick-more, tick_stopped, tick_written}
 use Rattle.run_script.proofs.player.Player.tick.Goals as goal
 
 pub loop-turn-init : goal.loop-turn-init
 loop-turn-init g c = record {
-  clients = refl;
-  grows = omega arith;
-  shows = λ playout events shows. subst (RepresentsEvents playout c.args.self.now) (sym (append-nil events)) shows;
-  written = λ playout events shows. no_ticks playout events _;
+  ready = c.requires.ready;
+  makes = makes_nothing c.args.self.now;
+  written = no_ticks (playout_in c.args.self.now) (events_in c.args.self.now) _;
 }
+
+pub write_tick-requires-clause-time : goal.write_tick-requires-clause-time
+write_tick-requires-clause-time g c =
+    let before = c.loop-turn.invariant in
+    let made = ticks_made (replicate c.loop-turn._turn Tick) c.args.self.now c.loop-turn.self before.makes in
+    omega (arith, made, ticks-replicate c.loop-turn._turn, c.requires.time, c.loop-turn-test.true)
 
 pub loop-turn-preserved : goal.loop-turn-preserved
 loop-turn-preserved g c =
     let before = c.loop-turn.invariant in
+    let old = c.args.self.now in
+    let now = c.loop-turn.self in
+    let turn = c.loop-turn._turn in
+    let one = c.in_ok-write_tick.ensures.makes in
     record {
-      clients = c.write_tick.ensures.clients ∙ before.clients;
-      grows = (let a = before.grows in let b = c.write_tick.ensures.grows in omega (arith, a, b));
-      shows = λ playout events shows.
-          subst (RepresentsEvents playout c.write_tick.new.self) (tick-more events c.loop-turn._turn)
-          (c.in_ok-write_tick.ensures.shows playout (events ++ replicate c.loop-turn._turn Tick) (before.shows playout events shows));
-      written = λ playout events shows.
-          tick_written playout events c.loop-turn._turn _ _ _ (before.written playout events shows)
-          (c.in_ok-write_tick.ensures.written playout (events ++ replicate c.loop-turn._turn Tick) (before.shows playout events shows));
+      ready = c.in_ok-write_tick.ensures.ready;
+      makes = makes_then (replicate turn Tick) (Tick ∷ []) (replicate (turn + 1) Tick) old now c.write_tick.new.self before.makes one (tick-more [] turn);
+      written = tick_written (playout_in old) (events_in old) turn _ _ _ before.written
+          (c.in_ok-write_tick.ensures.written
+          ∙ ap₂ (λ p es. after_taking (g.K.Sink.state c.loop-turn.out) (tick_output p es)) (ap₂ playout_of before.makes.setup before.makes.digests) before.makes.history);
     }
 
 pub returns-in_err-write_tick-clause-written : goal.returns-in_err-write_tick-clause-written
-returns-in_err-write_tick-clause-written g c = λ playout events shows.
+returns-in_err-write_tick-clause-written g c =
     let p = err_from_is_err_and c.from_residual.result c.from_residual.ensures.1 in
     let before = c.loop-turn.invariant in
+    let old = c.args.self.now in
     rw (p.1, p.2)
-    (tick_stopped playout events c.loop-turn._turn c.args.count _ _ _ c.in_err-write_tick.field-0.0 (before.written playout events shows) c.loop-turn-test.true
-    (c.in_err-write_tick.ensures.written playout (events ++ replicate c.loop-turn._turn Tick) (before.shows playout events shows)))
+    (tick_stopped (playout_in old) (events_in old) c.loop-turn._turn c.args.count _ _ _ c.in_err-write_tick.field-0.0 before.written c.loop-turn-test.true
+    (subst₂ (λ q es. WritesText (Err c.in_err-write_tick.field-0.0) (tick_output q es) (g.K.Sink.state c.loop-turn.out) (g.K.Sink.state c.write_tick.new.out))
+    (ap₂ playout_of before.makes.setup before.makes.digests) before.makes.history c.in_err-write_tick.ensures.written))

@@ -1,4 +1,4 @@
-use Rattle.std.proofs.Common.{refl, ap, subst, ◌∙◌}
+use Rattle.std.proofs.Common.{refl, ap, subst, ◌∙◌, length, arith}
 use Rattle.std.specs.Prelude.{Ok, Err}
 use Rattle.std.specs.Str.Lines.{strip_carriage_return}
 use Rattle.std.proofs.lemmas.Result.{err_from_is_err_and}
@@ -8,6 +8,7 @@ use Rattle.run_script.specs.inner.Player.{PlaysLine}
 use Rattle.run_script.proofs.Growth.{fed_done, fed_stops}
 use Rattle.run_script.proofs.OneLine.{stripped_one_line}
 use Rattle.run_script.proofs.script.Script.end_line.Goals as goal
+use Rattle.run_script.proofs.Counting.{stripped_shorter}
 
 pub returns-in_err-take_line-clause-takes : goal.returns-in_err-take_line-clause-takes
 returns-in_err-take_line-clause-takes g c = λ run bytes taken.
@@ -30,3 +31,11 @@ returns-clause-takes g c = λ run bytes taken.
     line_is
     (c.in_ok-take_line.ensures.plays run.playout taken.done.played (stripped_one_line _ (unended bytes) line_is taken.one_line) taken.done.runs_on taken.player))
     c.clear.ensures.items refl
+
+pub returns-clause-ticks : goal.returns-clause-ticks
+returns-clause-ticks g c =
+    let grows = c.in_ok-take_line.ensures.grows in
+    let line = ap length (c.without_carriage_return-line.ensures ∙ ap strip_carriage_return c.as_slice.ensures.value) in
+    let short = stripped_shorter c.args.self.now.waiting.items in
+    let none = ap length c.clear.ensures.items in
+    omega (arith, grows, line, short, none)

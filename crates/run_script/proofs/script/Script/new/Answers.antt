@@ -1,6 +1,10 @@
-use Rattle.std.proofs.Common.{refl}
+use Rattle.std.proofs.Common.{ap, arith, length, refl}
+use Rattle.play_types.specs.History.{ticks}
 use Rattle.run_script.proofs.Endings.{none_taken}
 use Rattle.run_script.proofs.script.Script.new.Goals as goal
 
+pub returns-clause-small : goal.returns-clause-small
+returns-clause-small c = (omega (arith, ap ticks c.in_ok-new.ensures.empty, ap length c.new.ensures.items), refl)
+
 pub returns-clause-taken : goal.returns-clause-taken
-returns-clause-taken c = λ playout first on. none_taken _ _ c.new.ensures.items refl (c.in_ok-new.ensures.represents playout on)
+returns-clause-taken c = λ first. none_taken _ _ c.new.ensures.items refl c.in_ok-new.ensures.represents

@@ -22,7 +22,8 @@ returns-in-Err-clause-takes g c = λ run bytes taken.
 
 pub loop-byte-preserved : goal.loop-byte-preserved
 loop-byte-preserved g c = record {
-  ticks = (let before = c.loop-byte.invariant.ticks in let step = c.take_byte.ensures.ticks in omega (arith, before, step));
+  ready = c.in-Ok.ensures.ready;
+  ticks = (let before = c.loop-byte.invariant.ticks in let step = c.in-Ok.ensures.ticks in omega (arith, before, step));
   lines = (let before = c.loop-byte.invariant.lines in let step = c.take_byte.ensures.lines in omega (arith, before, step));
   taken = λ run bytes taken.
       let piece = c.args.piece.now in

@@ -7,8 +7,8 @@ use Rattle.stage_core.proofs.Found.{standing-absent, standing-found}
 use Rattle.stage_core.proofs.places.PlaceList.get.Goals as goal
 
 -- the layer is at its index
-pub returns-in-Ok : goal.returns-in-Ok
-returns-in-Ok c =
+pub returns-in-Ok-clause-value : goal.returns-in-Ok-clause-value
+returns-in-Ok-clause-value c =
     let items : Places = c.self.inside.places.items in
     let at = c.in-Ok.at in
     let found : IsAt items c.args.layer at = rw c.self.view_is c.in-Ok.ensures.found in
@@ -19,5 +19,5 @@ returns-in-Ok c =
     ∙ ap (λ (xs : Places). standing xs c.args.layer) c.self.view_is
 
 -- the layer is not there
-pub returns-in-Err : goal.returns-in-Err
-returns-in-Err c = c.new.ensures.value ∙ sym (standing-absent c.args.self.now c.args.layer c.in-Err.field-0 c.in-Err.ensures.absent)
+pub returns-in-Err-clause-value : goal.returns-in-Err-clause-value
+returns-in-Err-clause-value c = c.new.ensures.value ∙ sym (standing-absent c.args.self.now c.args.layer c.in-Err.field-0 c.in-Err.ensures.absent)

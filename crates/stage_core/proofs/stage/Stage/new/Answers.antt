@@ -1,18 +1,17 @@
-use Rattle.std.proofs.Common.{ℕ, ◌+◌, ◌∷◌, [], ◌++◌, List, sym, ap, ap₂, ◌∙◌, arith}
-use Rattle.std.proofs.lemmas.List.FromFn.{map-range_with_len_more}
-use Rattle.history_model.specs.stage.Places.{Places, places}
-use Rattle.history_model.proofs.places.Histories.{places-start}
+use Rattle.std.proofs.Common.{◌≡◌, ℕ, ◌≤◌, length, sym, ap, ◌∙◌, subst, arith}
+use Rattle.play_types.specs.declared.place.TheConstants.{MAX_CHANNELS}
+use Rattle.play_journal.specs.Journal.{JournalView}
+use Rattle.stage_core.specs.Kept.{IsStage}
+use Rattle.stage_core.proofs.Stages.{IsStage-new}
 use Rattle.stage_core.proofs.stage.Stage.new.Goals as goal
 
--- a channel without places is what a history without events gives
-pub loop-channel-preserved : goal.loop-channel-preserved
-loop-channel-preserved c =
-    let k : ℕ = c.loop-channel._channel in
-    record {
-      channels =
-          c.push_reserved.ensures.items
-          ∙ ap₂ (λ (xs : List Places) (x : Places). xs ++ x ∷ []) c.loop-channel.invariant.channels (c.in_ok-new.ensures ∙ sym (places-start (k + 1)))
-          ∙ sym (map-range_with_len_more (places []) 1 k (k + 1) (omega arith));
-      len = c.push_reserved.ensures.len ∙ ap (λ (n : ℕ). n + 1) c.loop-channel.invariant.len;
-      room = omega (arith, c.push_reserved.ensures.capacity, c.loop-channel.invariant.room);
-    }
+-- nothing stands on a new board, and nothing waits
+pub invariant_of-result : goal.invariant_of-result
+invariant_of-result c =
+    let n : ℕ = c.len-count.result in
+    let count : n ≡ length c.args.config.now.channels = c.len-count.ensures.value ∙ ap length c.channels.ensures.value in
+    let some : 1 ≤ n = omega (arith, count, c.channels.ensures.range.parts) in
+    let few : n ≤ MAX_CHANNELS = omega (arith, count, c.channels.ensures.range.parts) in
+    subst (λ (j : JournalView). IsStage j.events c.in_ok-new-2.field-0 c.in_ok-new-3.field-0 c.in_ok-new-4.field-0 c.in_ok-new-5.field-0) (sym c.in_ok-new.ensures)
+    (IsStage-new n c.in_ok-new-2.field-0 c.in_ok-new-3.field-0 c.in_ok-new-4.field-0 c.in_ok-new-5.field-0 some few c.in_ok-new-2.ensures c.in_ok-new-3.ensures
+    c.in_ok-new-4.ensures.channels (c.in_ok-new-4.ensures.acts 0) c.in_ok-new-5.ensures.value)

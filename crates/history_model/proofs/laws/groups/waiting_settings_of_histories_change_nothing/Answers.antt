@@ -1,0 +1,21 @@
+use Rattle.std.proofs.Common.{sym, ◌∙◌}
+use Rattle.history_model.specs.stage.Timeline.{timeline}
+use Rattle.history_model.proofs.Timelines.{pixel-timeline, sample-timeline, value-timeline, statuses-timeline}
+use Rattle.history_model.proofs.Groups.{pixel-without, sample-without, value-without, statuses-without}
+use Rattle.history_model.proofs.laws.groups.waiting_settings_of_histories_change_nothing.Goals as goal
+
+pub returns-clause-pixels : goal.returns-clause-pixels
+returns-clause-pixels c setup which history channel x y =
+    pixel-timeline setup history channel x y ∙ sym (pixel-without setup which (timeline history) channel x y)
+
+pub returns-clause-samples : goal.returns-clause-samples
+returns-clause-samples c setup which history channel pair side =
+    sample-timeline setup history channel pair side ∙ sym (sample-without setup which (timeline history) channel pair side)
+
+pub returns-clause-values : goal.returns-clause-values
+returns-clause-values c which history place prop now =
+    value-timeline history place prop now ∙ sym (value-without which (timeline history) place prop now)
+
+pub returns-clause-statuses : goal.returns-clause-statuses
+returns-clause-statuses c setup which history =
+    statuses-timeline setup history ∙ sym (statuses-without setup which (timeline history))

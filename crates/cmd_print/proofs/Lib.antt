@@ -1,0 +1,14 @@
+pub mod Escapes
+pub mod Spaced
+pub mod Texts
+pub mod Ticks
+pub mod Tokens
+pub mod Numbers
+pub mod Known
+pub mod Reading
+pub mod ReadsBack
+pub mod Asked
+pub mod Producers
+pub mod Takes
+pub mod Settings
+pub mod Runs

@@ -1,0 +1,13 @@
+use Rattle.std.proofs.Common.{[], ◌∷◌}
+use Rattle.play_outside.proofs.Sending.{Sends-last}
+use Rattle.history_model.specs.text.Commands.{number_word, Plain}
+use Rattle.cmd_print.proofs.Spaced.{spaced-append, first_failed}
+use Rattle.cmd_print.proofs.command.print_of_channel.Goals as goal
+
+pub returns-in-All : goal.returns-in-All
+returns-in-All g c =
+    Sends-last _ _ _ _ _ _ _ (spaced-append (number_word c.args.channel ∷ []) (Plain c.args.word.now ∷ [])) c.in-All.ensures c.print_word.ensures
+
+pub returns-in-Failed : goal.returns-in-Failed
+returns-in-Failed g c =
+    first_failed _ _ _ _ _ (spaced-append (number_word c.args.channel ∷ []) (Plain c.args.word.now ∷ [])) c.in-Failed.ensures

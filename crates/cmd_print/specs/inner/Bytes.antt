@@ -1,0 +1,13 @@
+-- The bytes of printed words.
+use Rattle.std.specs.Prelude.{List, ℕ, ◌∷◌, flat_map, encode_utf8_all}
+use Rattle.history_model.specs.text.Replies.{quoted}
+use Rattle.history_model.specs.text.Commands.{Word, Plain, Quoted}
+
+-- the bytes of a word: one that stands as it is has ASCII characters alone
+abbrev pub word_bytes : Word → List ℕ
+word_bytes (Plain word) = word
+word_bytes (Quoted name) = encode_utf8_all (quoted name)
+
+-- the bytes of words, each after a space
+unfoldable pub spaced : List Word → List ℕ
+spaced words = flat_map (λ word. 32 ∷ word_bytes word) words

@@ -1,0 +1,52 @@
+//! Names in quotation marks.
+ghost use Rattle.std.specs.Prelude.{◌≡◌, ◌∷◌, ◌++◌, [], codes, chars, IfNone, IfSome};
+ghost use Rattle.std.specs.List.{flat_map};
+ghost use Rattle.history_model.specs.text.Replies.{escaped};
+ghost use Rattle.play_outside.specs.Sink.{Sends};
+ghost use Rattle.history_model.specs.text.Commands.{Quoted};
+ghost use Rattle.cmd_print.specs.inner.Bytes.{spaced};
+
+use play_outside::{Sent, Sink, send, send_parts};
+
+/// Writes a name in quotation marks, with its escapes, after a space.
+pub(crate) fn print_quoted<K: Sink>(name: &str, to: &mut K) -> Sent
+    ensures { Sends result (spaced (Quoted (chars name.now) ∷ [])) (K.state to.old) (K.state to.new) }
+{
+    match send(b" \"", to) {
+        Sent::All => {}
+        Sent::Failed => return Sent::Failed,
+    }
+    match send_escaped(name.as_bytes(), to) {
+        Sent::All => send(b"\"", to),
+        Sent::Failed => Sent::Failed,
+    }
+}
+
+/// Writes the bytes of a name, and in place of each byte that has an escape its escape.
+fn send_escaped<K: Sink>(name: &[u8], to: &mut K) -> Sent
+    ensures { Sends result (flat_map escaped name.now) (K.state to.old) (K.state to.new) }
+{
+    let mut sent = 0;
+    for (at, byte) in name.iter().enumerate() {
+        if let Some(letter) = escape_of(*byte) {
+            match send_parts(&[&name[sent..at], b"\\", &[letter]], to) {
+                Sent::All => sent = at + 1,
+                Sent::Failed => return Sent::Failed,
+            }
+        }
+    }
+    send(&name[sent..], to)
+}
+
+/// Returns the second byte of the escape of a quotation mark, a backslash or a new line, whose first byte is a backslash.
+/// Another byte has no escape.
+fn escape_of(byte: u8) -> Option<u8>
+    ensures none { IfNone result (escaped byte ≡ byte ∷ []) }
+    ensures some { IfSome result (λ letter. escaped byte ≡ codes "\\" ++ letter ∷ []) }
+{
+    match byte {
+        b'"' | b'\\' => Some(byte),
+        b'\n' => Some(b'n'),
+        _ => None,
+    }
+}

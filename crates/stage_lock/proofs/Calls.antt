@@ -1,0 +1,89 @@
+-- What a call leaves its pass.
+use Rattle.std.proofs.Common.{◌≡◌, ◌⊎◌, ℕ, ◌+◌, ◌||◌, ◌&&◌, ◌==◌, Bool, true, false, cond, List, [], ◌∷◌, ◌++◌, length, refl, sym, ap, subst, ◌∙◌, inl, inr, eq-eqb}
+use Rattle.atomic_table.specs.Seated.{TableId}
+use Rattle.play_types.specs.declared.answer.Answer.{Answer}
+use Rattle.play_types.specs.declared.event.Event.{Event}
+use Rattle.play_types.specs.declared.event.Event.TheVariants.{Stop}
+use Rattle.history_model.specs.pictures.Media.{Setup}
+use Rattle.play_types.specs.History.{held_by}
+use Rattle.play_journal.specs.Journal.{JournalView}
+use Rattle.history_model.specs.stage.Answer.{StageAnswer, answer}
+use Rattle.stage_core.specs.Stage.{HasRoom, StageView, after_event}
+use Rattle.stage_lock.specs.Own.{is_final, is_own, made_by}
+use Rattle.stage_lock.specs.Views.{Sizes, journal_of}
+use Rattle.stage_lock.specs.Calls.{Adds, IsAnswered, Looks, added, looked, stop_tag, tag_of}
+use Rattle.stage_lock.specs.Seats.{SeatView, ends_final, grown, holding, pass_view, released}
+use Rattle.stage_lock.specs.Rule.{Seat}
+use Rattle.stage_lock.specs.Steps.{HasEvent, HasWon}
+use Rattle.stage_lock.proofs.Positions.{ends_final-snoc, made_by-other, made_by-own}
+
+-- what was won, by the sizes of the shared stage
+pub journal_is : (m m' : Seat) (c : StageView) (sizes : Sizes) → HasWon m c m' → m.0.sizes ≡ sizes → c.journal ≡ journal_of sizes c.journal.events
+journal_is m m' c sizes won same = ap (λ (x : StageView). x.journal) won.whole ∙ ap (λ (x : Sizes). journal_of x c.journal.events) same
+
+pub channels_are : (m m' : Seat) (c : StageView) (sizes : Sizes) → HasWon m c m' → m.0.sizes ≡ sizes → c.channels ≡ sizes.channels
+channels_are m m' c sizes won same = ap (λ (x : StageView). x.channels) won.whole ∙ ap (λ (x : Sizes). x.channels) same
+
+-- a seat whose event has entered, as contracts see it
+grown_as_added : (t : TableId) (v : SeatView) (log : List Event) (e : Event) → made_by v.number log ≡ v.made
+    → pass_view t (released (grown (holding v log) (log ++ e ∷ []))) ≡ added (pass_view t v) log e
+grown_as_added t v log e known =
+    let made : made_by v.number (log ++ e ∷ []) ≡ cond (is_own v.number e) (v.made ++ length log ∷ []) v.made = go (is_own v.number e) refl in
+    let ends : (v.ends || ends_final (log ++ e ∷ [])) ≡ (v.ends || is_final e) = ap (λ b. v.ends || b) (ends_final-snoc log e) in
+    λ i. record (pass_view t v) { seen = log ++ e ∷ []; turns = v.turns + 1; made = made i; ends = ends i }
+  where
+    go : (b : Bool) → is_own v.number e ≡ b → made_by v.number (log ++ e ∷ []) ≡ cond b (v.made ++ length log ∷ []) v.made
+    go true own = made_by-own v.number log e own ∙ ap (λ l. l ++ length log ∷ []) known
+    go false own = made_by-other v.number log e own ∙ known
+
+-- a call whose event has entered
+pub adds_at : (t t' : TableId) (m m' n : Seat) (c c' : StageView) (e : Event) (IsTold : List Event → Type 0) → HasWon m c m' → t' ≡ t → c' ≡ after_event e c
+    → n ≡ (released (grown m'.0 c'.journal.events), []) → IsTold c.journal.events → Adds (pass_view t m.0) e IsTold (pass_view t' n.0)
+adds_at t t' m m' n c c' e IsTold won table grew is told =
+    let log : List Event = c.journal.events in
+    let first : pass_view t' n.0 ≡ pass_view t (released (grown m'.0 c'.journal.events)) = λ i. pass_view (table i) (is i).0 in
+    let second : pass_view t (released (grown m'.0 c'.journal.events)) ≡ pass_view t (released (grown (holding m.0 log) (log ++ e ∷ []))) = λ i. pass_view t (released (grown (won.after i).0 (grew i).journal.events)) in
+    record {
+      history = log;
+      found = record { seen = won.seen; made = won.made; made_seen = won.made_seen };
+      told = told;
+      after = first ∙ (second ∙ grown_as_added t m.0 log e won.made);
+    }
+
+-- a call that left the history as it found it
+pub looks_at : (t t' : TableId) (m m' n : Seat) (c : StageView) (IsTold : List Event → Type 0) → HasWon m c m' → t' ≡ t
+    → n ≡ (released m'.0, []) → IsTold c.journal.events → Looks (pass_view t m.0) IsTold (pass_view t' n.0)
+looks_at t t' m m' n c IsTold won table is told =
+    let first : pass_view t' n.0 ≡ pass_view t (released m'.0) = λ i. pass_view (table i) (is i).0 in
+    let second : pass_view t (released m'.0) ≡ looked (pass_view t m.0) c.journal.events = λ i. pass_view t (released (won.after i).0) in
+    record {
+      history = c.journal.events;
+      found = record { seen = won.seen; made = won.made; made_seen = won.made_seen };
+      told = told;
+      after = first ∙ second;
+    }
+
+-- what a command is told, where f is the event by the pass's number, and e the same by that of its view
+pub answered_at : (m m' : Seat) (c : StageView) (sizes : Sizes) (f e : Event) (reply : Answer) → HasWon m c m' → m.0.sizes ≡ sizes → f ≡ e → HasRoom c.journal (held_by f)
+    → ((setup : Setup) → length setup.channels ≡ c.channels → answer setup c.journal.events f ≡ StageAnswer.Answered reply) → IsAnswered sizes e reply c.journal.events
+answered_at m m' c sizes f e reply won same is room replies = record {
+  room = subst (λ (x : Event). HasRoom (journal_of sizes c.journal.events) (held_by x)) is (subst (λ (j : JournalView). HasRoom j (held_by f)) (journal_is m m' c sizes won same) room);
+  reply = λ setup channels. ap (λ (x : Event). answer setup c.journal.events x) (sym is) ∙ replies setup (channels ∙ sym (channels_are m m' c sizes won same));
+}
+
+-- the stage that holds one event more than was won
+pub event_at : (m m' : Seat) (c c' : StageView) (e : Event) → HasWon m c m' → c' ≡ after_event e c → (is_own m.0.number e ≡ true) ⊎ (is_final e ≡ true) → HasEvent m'.0 c'
+event_at m m' c c' e won grew own =
+    subst (λ (x : Seat). HasEvent x.0 c') (sym won.after) record { event = e; own = own; whole = grew ∙ ap (λ (x : StageView). after_event e x) won.whole }
+
+-- a stop of a pass is its own event, or that of tag 0.0
+pub stop_is_own : (number session : ℕ) → (is_own number (Stop (stop_tag number session)) ≡ true) ⊎ (is_final (Stop (stop_tag number session)) ≡ true)
+stop_is_own number session = go (session == 0) refl
+  where
+    and_false : (a b : Bool) → b ≡ false → (a && b) ≡ false
+    and_false true b h = h
+    and_false false b h = refl
+
+    go : (b : Bool) → (session == 0) ≡ b → (is_own number (Stop (cond b (tag_of 0 0) (tag_of number session))) ≡ true) ⊎ (is_final (Stop (cond b (tag_of 0 0) (tag_of number session))) ≡ true)
+    go true h = inr refl
+    go false h = inl (ap (λ b. cond b false (number == number)) (and_false (number == 0) (session == 0) h) ∙ eq-eqb number number refl)

@@ -1,0 +1,12 @@
+pub mod Prefixes
+pub mod Positions
+pub mod Views
+pub mod Few
+pub mod Keeps
+pub mod Joins
+pub mod Steps
+pub mod Calls
+pub mod Sharing
+pub mod Taking
+pub mod Counting
+pub mod Closing

@@ -1,0 +1,336 @@
+//! The shared stage.
+ghost use Rattle.std.specs.Prelude.{◌≡◌, ℕ, ◌+◌, ◌<◌, ◌≤◌, true, false, [], length, map, vec_capacity};
+ghost use mathlib.Core.Option.{some};
+ghost use lib.ListN.{get_elem?};
+ghost use Rattle.stage_lock.specs.Calls.{new_passes, stop_tag};
+ghost use Rattle.stage_lock.specs.Views.{PassView};
+ghost use Rattle.stage_lock.specs.Seats.{first_view};
+ghost use Rattle.stage_lock.specs.Steps.{AreEnrolled, HasTaken, IsSized};
+
+use crate::note::Note;
+use crate::pass::Pass;
+use crate::rule::StageRule;
+use crate::slot::{Board, Seat, absorb, count, enroll, enter, give_back, meet, take, tell};
+use crate::view::{SeatView, Shape};
+use atomic_table::{Refused, Table};
+use play_types::{Answer, Cmd, Scenes, Tag};
+use stage_core::{ApplyFault, Ended, Stage, TickFault};
+use std::alloc::Global;
+use std::marker::Model;
+use std::snapshot::Snapshot;
+use std::sync::Wait;
+
+/// The most passes of a shared stage: one that ticks, and one for each of 64 connection workers.
+pub const MAX_PASSES: u32 = 65;
+
+/// A stage that any number of threads share, each with a pass: contracts see which one it is, the limit of its journal, and
+/// how many channels and passes it has.
+#[derive(Drop)]
+pub struct SharedStage {
+    table: Table<Option<Stage>, SeatView, Shape, StageRule, Global>,
+}
+
+impl Model for SharedStage {
+    ghost use Rattle.std.specs.Prelude.{◌<◌};
+    ghost use Rattle.stage_lock.specs.Views.{SharedView};
+    ghost use Rattle.stage_lock.specs.Steps.{IsSized};
+
+    ghost Value = { SharedView };
+
+    ghost view = { λ s. record { table_id = s.table.shared.table_id; sizes = s.table.shared.key } };
+
+    ghost invariant = { λ s. IsSized s.table.shared.table_id × (0 < s.table.shared.key.passes) };
+}
+
+impl SharedStage {
+    ghost use Rattle.std.specs.Prelude.{◌≡◌, ◌<◌, ◌≤◌, [], All, IfOk, IfErr, MatchResult, length};
+    ghost use Rattle.play_types.specs.History.{stop_at};
+    ghost use Rattle.play_types.specs.declared.event.Event.TheVariants.{Batch, Do, Stop, Tick};
+    ghost use Rattle.stage_core.specs.Served.{IsServed};
+    ghost use Rattle.stage_core.specs.Stage.{IsNoTick, IsNotTaken};
+    ghost use Rattle.stage_lock.specs.declared.shared.TheConstants.{MAX_PASSES};
+    ghost use Rattle.stage_lock.specs.Calls.{Adds, IsAnswered, IsStopped, IsTicked, Looks, Meets, new_passes, stop_tag, tag_of};
+    ghost use Rattle.stage_lock.specs.Closing.{AreAll, Closes};
+    ghost use Rattle.stage_lock.specs.Views.{journal_of, sizes_of, stage_of};
+
+    /// Shares a stage among `passes` passes, 1 to 65, which are numbered from 0. The stage holds no event. Where memory runs
+    /// out, it is handed back.
+    pub fn share(
+        alloc: Global,
+        stage: Stage,
+        passes: u32,
+    ) -> Result<(SharedStage, Vec<Pass>), Stage>
+        requires passes { (1 ≤ passes) × (passes ≤ MAX_PASSES) }
+        requires empty { stage.journal.events ≡ [] }
+        ensures sizes { IfOk result (λ shared. shared.0.sizes ≡ sizes_of stage passes) }
+        ensures passes { IfOk result (λ shared. shared.1.items ≡ new_passes shared.0) }
+        ensures err { IfErr result (λ back. back ≡ stage) }
+    {
+        let Ok(mut list) = Vec::with_capacity(alloc, passes as usize) else {
+            return Err(stage);
+        };
+        let Ok(mut slots) = Vec::with_capacity(alloc, 1) else {
+            return Err(stage);
+        };
+        let shape = Shape {
+            stage: Snapshot::of(&stage),
+            passes,
+        };
+        slots.push_reserved(Some(stage));
+        match Table::new(alloc, &[0, 0], slots, &shape) {
+            Ok((table, seat)) => {
+                enroll_all(&table.shared, seat, &mut list, passes);
+                Ok((SharedStage { table }, list))
+            }
+            Err(Refused { mut slots }) => {
+                let Some(Some(stage)) = slots.pop() else {
+                    unreachable!()
+                };
+                Err(stage)
+            }
+        }
+    }
+
+    /// Adds a command to the history, with the pass's number and the session as its tag, and returns its answer there. The
+    /// command is one that the stage serves. There is a fault where the history holds a stop, which is tested first, then
+    /// where its journal is full, and then where memory runs out. After a fault the history is as it was found.
+    pub fn ask<R: Wait>(
+        &self,
+        rt: &R,
+        alloc: Global,
+        pass: &mut Pass,
+        session: u32,
+        cmd: Cmd,
+    ) -> Result<Answer, ApplyFault>
+        requires of { pass.old.stage ≡ self.now }
+        requires names { IsServed self.now.sizes.channels cmd }
+        ensures of { pass.new.stage ≡ self.now }
+        ensures call { MatchResult result
+            (λ reply. Adds pass.old (Do (tag_of pass.old.number session) cmd)
+            (IsAnswered self.now.sizes (Do (tag_of pass.old.number session) cmd) reply) pass.new)
+            (λ fault. Looks pass.old (λ history. IsNotTaken (journal_of self.now.sizes history) 1 fault) pass.new) }
+    {
+        let mut stage = take(rt, &self.table.shared, &mut pass.seat);
+        let tag = Tag {
+            worker: pass.number,
+            session,
+        };
+        match stage.apply(alloc, tag, cmd) {
+            Ok(reply) => {
+                enter(&self.table.shared, &mut pass.seat, stage);
+                Ok(reply)
+            }
+            Err(fault) => {
+                give_back(&self.table.shared, &mut pass.seat, stage);
+                Err(fault)
+            }
+        }
+    }
+
+    /// Adds a batch to the history as one event, with the pass's number and the session as its tag, and returns its answer
+    /// there. The batch is not empty, and its commands are such as [`SharedStage::ask`] takes. Its faults are those of that
+    /// call too, where the journal is full if it may not hold all commands of the batch.
+    pub fn ask_batch<R: Wait>(
+        &self,
+        rt: &R,
+        alloc: Global,
+        pass: &mut Pass,
+        session: u32,
+        cmds: &[Cmd],
+    ) -> Result<Answer, ApplyFault>
+        requires of { pass.old.stage ≡ self.now }
+        requires some { 0 < length cmds.now }
+        requires names { All (IsServed self.now.sizes.channels) cmds.now }
+        ensures of { pass.new.stage ≡ self.now }
+        ensures call { MatchResult result
+            (λ reply. Adds pass.old (Batch (tag_of pass.old.number session) cmds.now)
+            (IsAnswered self.now.sizes (Batch (tag_of pass.old.number session) cmds.now) reply) pass.new)
+            (λ fault. Looks pass.old
+            (λ history. IsNotTaken (journal_of self.now.sizes history) (length cmds.now) fault) pass.new) }
+    {
+        let mut stage = take(rt, &self.table.shared, &mut pass.seat);
+        let tag = Tag {
+            worker: pass.number,
+            session,
+        };
+        match stage.apply_batch(alloc, tag, cmds) {
+            Ok(reply) => {
+                enter(&self.table.shared, &mut pass.seat, stage);
+                Ok(reply)
+            }
+            Err(fault) => {
+                give_back(&self.table.shared, &mut pass.seat, stage);
+                Err(fault)
+            }
+        }
+    }
+
+    /// Adds a tick to the history, writes what each channel shows at it into the scenes, and returns its number. The pass has
+    /// the number 0, and there are as many scenes as the stage has channels. There is a fault where the history holds a
+    /// stop, which is tested first, and where it holds as many ticks as it may. After a fault the scenes are as before, and
+    /// the history is as it was found. It takes no memory.
+    pub fn tick<R: Wait>(
+        &self,
+        rt: &R,
+        pass: &mut Pass,
+        scenes: &mut Scenes,
+    ) -> Result<u64, TickFault>
+        requires of { pass.old.stage ≡ self.now }
+        requires first { pass.old.number ≡ 0 }
+        requires scenes { length scenes.old ≡ self.now.sizes.channels }
+        ensures of { pass.new.stage ≡ self.now }
+        ensures call { MatchResult result
+            (λ number. Adds pass.old Tick (IsTicked self.now.sizes number scenes.new) pass.new)
+            (λ fault. (scenes.new ≡ scenes.old)
+            × Looks pass.old (λ history. IsNoTick (journal_of self.now.sizes history) fault) pass.new) }
+    {
+        let mut stage = take(rt, &self.table.shared, &mut pass.seat);
+        match stage.tick(scenes) {
+            Ok(number) => {
+                enter(&self.table.shared, &mut pass.seat, stage);
+                Ok(number)
+            }
+            Err(fault) => {
+                give_back(&self.table.shared, &mut pass.seat, stage);
+                Err(fault)
+            }
+        }
+    }
+
+    /// Adds a stop to the history and returns its position. Its tag is the pass's number and the session, and 0.0 in session
+    /// 0. There is a fault exactly where the history already holds a stop, and it is then as it was found. It takes no
+    /// memory.
+    pub fn stop<R: Wait>(&self, rt: &R, pass: &mut Pass, session: u32) -> Result<u64, Ended>
+        requires of { pass.old.stage ≡ self.now }
+        ensures of { pass.new.stage ≡ self.now }
+        ensures call { MatchResult result
+            (λ at. Adds pass.old (Stop (stop_tag pass.old.number session)) (IsStopped at) pass.new)
+            (λ ended. Looks pass.old (λ history. stop_at history ≡ Some ended.at) pass.new) }
+    {
+        let mut stage = take(rt, &self.table.shared, &mut pass.seat);
+        match stage.stop(tag_of_stop(pass.number, session)) {
+            Ok(at) => {
+                enter(&self.table.shared, &mut pass.seat, stage);
+                Ok(at)
+            }
+            Err(ended) => {
+                give_back(&self.table.shared, &mut pass.seat, stage);
+                Err(ended)
+            }
+        }
+    }
+
+    /// Returns the position of the stop, `None` exactly where the history that this look found holds none.
+    pub fn ended<R: Wait>(&self, rt: &R, pass: &mut Pass) -> Option<u64>
+        requires of { pass.old.stage ≡ self.now }
+        ensures of { pass.new.stage ≡ self.now }
+        ensures look { Looks pass.old (λ history. result ≡ stop_at history) pass.new }
+    {
+        let stage = take(rt, &self.table.shared, &mut pass.seat);
+        let at = stage.journal().stopped();
+        give_back(&self.table.shared, &mut pass.seat, stage);
+        at
+    }
+
+    /// Makes a note of what the pass has seen, to tell another pass of it. It waits for no other thread.
+    pub fn note(&self, pass: &mut Pass) -> Note
+        requires of { pass.old.stage ≡ self.now }
+        ensures same { pass.new ≡ pass.old }
+        ensures note { result ≡ record { table_id = self.now.table_id; seen = pass.old.seen } }
+    {
+        let seat = tell(&self.table.shared, &mut pass.seat);
+        Note { seat }
+    }
+
+    /// Makes the pass see at least what the note has: it has then seen the longer of the two histories, of which the shorter
+    /// is a prefix. It waits for no other thread.
+    pub fn meet(&self, pass: &mut Pass, note: Note)
+        requires of { pass.old.stage ≡ self.now }
+        requires note { note.table_id ≡ self.now.table_id }
+        ensures of { pass.new.stage ≡ self.now }
+        ensures meets { Meets pass.old note.seen pass.new }
+    {
+        let Note { seat } = note;
+        meet(&self.table.shared, &mut pass.seat, seat);
+    }
+
+    /// Takes every pass back, in any order, and returns the stage. What the passes have seen and made is in its journal, and
+    /// each event of it was made by exactly one of them, but a stop of tag 0.0. It takes no memory.
+    pub fn close<R: Wait>(self, rt: &R, mut passes: Vec<Pass>) -> Stage
+        requires { AreAll self passes.items }
+        ensures sizes { result ≡ stage_of self.sizes result.journal.events }
+        ensures closes { Closes passes.items result.journal.events }
+    {
+        let SharedStage { table } = self;
+        let Some(last) = passes.pop() else {
+            unreachable!()
+        };
+        let Pass {
+            mut seat,
+            number: _,
+        } = last;
+        absorb_all(&table.shared, &mut seat, passes);
+        let stage = take(rt, &table.shared, &mut seat);
+        count(&table.shared, &mut seat);
+        stage
+    }
+}
+
+/// Returns the tag of a stop: 0.0 in session 0.
+fn tag_of_stop(number: u32, session: u32) -> Tag
+    ensures { result ≡ stop_tag number session }
+{
+    if session == 0 {
+        return Tag {
+            worker: 0,
+            session: 0,
+        };
+    }
+    Tag {
+        worker: number,
+        session,
+    }
+}
+
+/// Makes the passes from number 1 on, and puts all of them in the list, the first pass first.
+fn enroll_all(board: &Board, mut first: Seat, list: &mut Vec<Pass>, passes: u32)
+    requires board { IsSized board.now.table_id }
+    requires of { first.table_id ≡ board.now.table_id }
+    requires first { first.me ≡ (first_view first.me.0.sizes, []) }
+    requires passes { (first.me.0.sizes.passes ≡ passes) × (0 < passes) }
+    requires list { (list.old.items ≡ []) × (passes ≤ vec_capacity list.old) }
+    ensures { list.new.items ≡ new_passes (record { table_id = first.table_id; sizes = first.me.0.sizes }) }
+{
+    for number in 1..passes {
+        let seat = enroll(board, &mut first);
+        list.push_reserved(Pass { seat, number });
+    }
+    let first = Pass {
+        seat: first,
+        number: 0,
+    };
+    if list.insert(0, first).is_err() {
+        unreachable!();
+    }
+}
+
+/// Takes all these passes in.
+fn absorb_all(board: &Board, seat: &mut Seat, mut passes: Vec<Pass>)
+    requires board { IsSized board.now.table_id }
+    requires of { seat.old.table_id ≡ board.now.table_id }
+    requires free { seat.old.me.1 ≡ [] }
+    requires rests { (seat.old.me.0.holds ≡ false) × (seat.old.me.0.olds ≡ []) × (seat.old.me.0.kept ≡ []) }
+    requires pass { seat.old.me.0.is_pass ≡ true }
+    requires passes { (k : ℕ) (p : PassView) → get_elem? passes.items k ≡ some p → p.stage.table_id ≡ board.now.table_id }
+    ensures same { seat.new.table_id ≡ seat.old.table_id }
+    ensures free { seat.new.me.1 ≡ [] }
+    ensures all { HasTaken passes.items seat.old.me.0 seat.new.me.0 }
+{
+    while let Some(pass) = passes.pop() {
+        let Pass {
+            seat: other,
+            number: _,
+        } = pass;
+        absorb(board, seat, other);
+    }
+}

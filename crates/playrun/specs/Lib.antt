@@ -1,2 +1,3 @@
 pub mod Stream
-pub mod inner
+pub mod Play
+pub mod Faults

@@ -1,23 +1,25 @@
 //! Configurations and media in files of the system.
 ghost use Rattle.std.specs.Prelude.{◌≡◌, None};
-ghost use Rattle.std.specs.IoError.{error_kind};
 ghost use Rattle.play_outside.specs.Folder.{Misses};
-ghost use Rattle.playrun.specs.inner.Faults.{fault_of};
+ghost use Rattle.playrun.specs.Faults.{fault_of};
 
+use super::complaint::{complain, complain_of_file};
+use super::read_fault::ReadFault;
 use play_outside::{FileFault, MediaDir};
 use std::alloc::Global;
-use std::io::{ErrorKind, Read};
+use std::fs;
+use std::io::{Eprint, Error, ErrorKind, Read};
 use std::rt::Files;
-use std::{fs, io};
 
-/// Reads configurations and media from the files of the system. It does not tell what it holds.
+/// Reads configurations and media from the regular files of the system, and says on standard error which file or folder
+/// could not be read. It does not tell what it holds.
 #[derive(Drop)]
 pub struct FolderMedia<R> {
     rt: R,
     faults: u64,
 }
 
-impl<R: Files + AllocGlobal + Clone + Drop> FolderMedia<R> {
+impl<R: Files + Eprint + AllocGlobal + Clone + Drop> FolderMedia<R> {
     /// Returns the files of the system. No read of them has failed yet.
     pub fn new(rt: R) -> FolderMedia<R>
         ensures { ⟦<FolderMedia<R> as MediaDir>⟧.state result ≡ record { files = None; faults = 0 } }
@@ -25,12 +27,12 @@ impl<R: Files + AllocGlobal + Clone + Drop> FolderMedia<R> {
         FolderMedia { rt, faults: 0 }
     }
 
-    /// Returns the fault of an error, and counts it unless memory ran out.
-    fn missed(&mut self, error: io::Error) -> FileFault
-        ensures fault { result ≡ fault_of (error_kind error) }
+    /// Returns the fault, and counts it unless memory ran out.
+    fn missed(&mut self, fault: ReadFault) -> FileFault
+        ensures fault { result ≡ fault_of fault }
         ensures misses { Misses result (⟦<FolderMedia<R> as MediaDir>⟧.state self.old) (⟦<FolderMedia<R> as MediaDir>⟧.state self.new) }
     {
-        if matches!(error.kind(), ErrorKind::OutOfMemory) {
+        if fault.is_memory() {
             return FileFault::OutOfMemory;
         }
         self.faults = self.faults.saturating_add(1);
@@ -38,14 +40,17 @@ impl<R: Files + AllocGlobal + Clone + Drop> FolderMedia<R> {
     }
 }
 
-impl<R: Files + AllocGlobal + Clone + Drop> MediaDir for FolderMedia<R> {
+impl<R: Files + Eprint + AllocGlobal + Clone + Drop> MediaDir for FolderMedia<R> {
     ghost state = { λ m. record { files = None; faults = m.faults } };
 
     /// Reads the file of a configuration.
     fn config(&mut self, alloc: Global, path: &str) -> Result<Vec<u8>, FileFault> {
         match read_file(&self.rt, alloc, path) {
             Ok(bytes) => Ok(bytes),
-            Err(error) => Err(self.missed(error)),
+            Err(fault) => {
+                complain(&self.rt, path, &fault);
+                Err(self.missed(fault))
+            }
         }
     }
 
@@ -53,7 +58,10 @@ impl<R: Files + AllocGlobal + Clone + Drop> MediaDir for FolderMedia<R> {
     fn names(&mut self, alloc: Global, folder: &str) -> Result<Vec<String>, FileFault> {
         match list_names(&self.rt, alloc, folder) {
             Ok(names) => Ok(names),
-            Err(error) => Err(self.missed(error)),
+            Err(fault) => {
+                complain(&self.rt, folder, &fault);
+                Err(self.missed(fault))
+            }
         }
     }
 
@@ -61,13 +69,20 @@ impl<R: Files + AllocGlobal + Clone + Drop> MediaDir for FolderMedia<R> {
     fn bytes(&mut self, alloc: Global, folder: &str, name: &str) -> Result<Vec<u8>, FileFault> {
         match read_file_in(&self.rt, alloc, folder, name) {
             Ok(bytes) => Ok(bytes),
-            Err(error) => Err(self.missed(error)),
+            Err(fault) => {
+                complain_of_file(&self.rt, folder, name, &fault);
+                Err(self.missed(fault))
+            }
         }
     }
 }
 
-/// Reads a whole file.
-fn read_file<R: Files>(rt: &R, alloc: Global, path: &str) -> io::Result<Vec<u8>> {
+/// Reads a whole file, where it is a regular one. Another is not opened, since a read of it may wait for ever or have no
+/// end.
+fn read_file<R: Files>(rt: &R, alloc: Global, path: &str) -> Result<Vec<u8>, ReadFault> {
+    if !fs::metadata(rt, path)?.is_file() {
+        return Err(ReadFault::NotRegular);
+    }
     let mut file = fs::open(rt, path)?;
     let mut bytes = Vec::new(alloc);
     file.read_to_end(&mut bytes)?;
@@ -75,8 +90,13 @@ fn read_file<R: Files>(rt: &R, alloc: Global, path: &str) -> io::Result<Vec<u8>>
 }
 
 /// Reads a whole file of a folder.
-fn read_file_in<R: Files>(rt: &R, alloc: Global, folder: &str, name: &str) -> io::Result<Vec<u8>> {
-    let path = format!(in alloc; "{folder}/{name}")?;
+fn read_file_in<R: Files>(
+    rt: &R,
+    alloc: Global,
+    folder: &str,
+    name: &str,
+) -> Result<Vec<u8>, ReadFault> {
+    let path = format!(in alloc; "{folder}/{name}").map_err(Error::from)?;
     read_file(rt, alloc, path.as_str())
 }
 
@@ -85,13 +105,15 @@ fn list_names<R: Files + AllocGlobal + Clone + Drop>(
     rt: &R,
     alloc: Global,
     folder: &str,
-) -> io::Result<Vec<String>> {
+) -> Result<Vec<String>, ReadFault> {
     let mut names = Vec::new(alloc);
     for entry in fs::read_dir(rt, folder)? {
         match entry {
-            Ok(entry) => names.push(String::from_str(alloc, entry.file_name())?)?,
+            Ok(entry) => names
+                .push(String::from_str(alloc, entry.file_name()).map_err(Error::from)?)
+                .map_err(Error::from)?,
             Err(error) if matches!(error.kind(), ErrorKind::InvalidFilename) => {}
-            Err(error) => return Err(error),
+            Err(error) => return Err(ReadFault::System(error)),
         }
     }
     Ok(names)

@@ -3,34 +3,40 @@ ghost use Rattle.std.specs.Prelude.{◌≡◌, ◌<◌, None, length};
 ghost use Rattle.play_outside.specs.Sink.{Writes};
 ghost use Rattle.playrun.specs.Stream.{AddsTo};
 
+use super::complaint::complain;
 use super::std_source::INTERRUPTIONS;
 use play_outside::{Sink, WriteStep};
-use std::io::{ErrorKind, Write};
+use std::io::{Eprint, ErrorKind, Write};
 
-/// Writes to a stream of the system, such as standard output, and keeps nothing back: what a write took, the system
-/// took. It does not tell what was taken.
+/// Writes to standard output, and keeps nothing back: what a write took, the system took. It says on standard error why a
+/// write failed. It does not tell what was taken.
 #[derive(Drop)]
-pub struct StdSink<W> {
+pub struct StdSink<W, E> {
     output: W,
+    errors: E,
     faults: u64,
 }
 
-impl<W: Write + Drop> StdSink<W> {
+impl<W: Write + Drop, E: Eprint + Drop> StdSink<W, E> {
     /// Returns a sink over a stream. No write has failed yet.
-    pub fn new(output: W) -> StdSink<W>
-        ensures { ⟦<StdSink<W> as Sink>⟧.state result ≡ record { taken = None; faults = 0; mark = 0; at_fault = None } }
+    pub fn new(output: W, errors: E) -> StdSink<W, E>
+        ensures { ⟦<StdSink<W, E> as Sink>⟧.state result ≡ record { taken = None; faults = 0; mark = 0; at_fault = None } }
     {
-        StdSink { output, faults: 0 }
+        StdSink {
+            output,
+            errors,
+            faults: 0,
+        }
     }
 }
 
-impl<W: Write + Drop> Sink for StdSink<W> {
+impl<W: Write + Drop, E: Eprint + Drop> Sink for StdSink<W, E> {
     ghost state = { λ s. record { taken = None; faults = s.faults; mark = 0; at_fault = None } };
 
     /// Writes a prefix of the piece. An interrupted write is made again, but for the last of `INTERRUPTIONS` interruptions.
     fn write(&mut self, piece: &[u8]) -> WriteStep
         requires { 0 < length piece.now }
-        ensures writes { Writes result piece.now (⟦<StdSink<W> as Sink>⟧.state self.old) (⟦<StdSink<W> as Sink>⟧.state self.new) }
+        ensures writes { Writes result piece.now (⟦<StdSink<W, E> as Sink>⟧.state self.old) (⟦<StdSink<W, E> as Sink>⟧.state self.new) }
         ensures stream { AddsTo result piece.now (W.contents self.old.output) (W.contents self.new.output) }
     {
         for _ in 0..INTERRUPTIONS {
@@ -38,7 +44,10 @@ impl<W: Write + Drop> Sink for StdSink<W> {
                 Ok(0) => break,
                 Ok(count) => return WriteStep::Took(count),
                 Err(error) if matches!(error.kind(), ErrorKind::Interrupted) => {}
-                Err(_) => break,
+                Err(error) => {
+                    complain(&self.errors, "standard output", &error);
+                    break;
+                }
             }
         }
         self.faults = self.faults.saturating_add(1);

@@ -3,35 +3,41 @@ ghost use Rattle.std.specs.Prelude.{◌≡◌, ◌<◌, None, length};
 ghost use Rattle.play_outside.specs.Source.{Reads};
 ghost use Rattle.playrun.specs.Stream.{GivesFrom};
 
+use super::complaint::complain;
 use play_outside::{ReadStep, Source};
-use std::io::{ErrorKind, Read};
+use std::io::{Eprint, ErrorKind, Read};
 
 /// The interruption of this number in one call counts as a failure.
 pub const INTERRUPTIONS: u32 = 1000;
 
-/// Reads a stream of the system, such as standard input. It does not tell what is left.
+/// Reads standard input, and says on standard error why a read failed. It does not tell what is left.
 #[derive(Drop)]
-pub struct StdSource<R> {
+pub struct StdSource<R, E> {
     input: R,
+    errors: E,
     faults: u64,
 }
 
-impl<R: Read + Drop> StdSource<R> {
+impl<R: Read + Drop, E: Eprint + Drop> StdSource<R, E> {
     /// Returns a source over a stream. No read has failed yet.
-    pub fn new(input: R) -> StdSource<R>
-        ensures { ⟦<StdSource<R> as Source>⟧.state result ≡ record { left = None; faults = 0 } }
+    pub fn new(input: R, errors: E) -> StdSource<R, E>
+        ensures { ⟦<StdSource<R, E> as Source>⟧.state result ≡ record { left = None; faults = 0 } }
     {
-        StdSource { input, faults: 0 }
+        StdSource {
+            input,
+            errors,
+            faults: 0,
+        }
     }
 }
 
-impl<R: Read + Drop> Source for StdSource<R> {
+impl<R: Read + Drop, E: Eprint + Drop> Source for StdSource<R, E> {
     ghost state = { λ s. record { left = None; faults = s.faults } };
 
     /// Reads the next bytes. An interrupted read is made again, but for the last of `INTERRUPTIONS` interruptions.
     fn read(&mut self, buf: &mut [u8]) -> ReadStep
         requires { 0 < length buf.old }
-        ensures reads { Reads result buf.new (⟦<StdSource<R> as Source>⟧.state self.old) (⟦<StdSource<R> as Source>⟧.state self.new) }
+        ensures reads { Reads result buf.new (⟦<StdSource<R, E> as Source>⟧.state self.old) (⟦<StdSource<R, E> as Source>⟧.state self.new) }
         ensures stream { GivesFrom result buf.new (R.remaining self.old.input) (R.remaining self.new.input) }
     {
         for _ in 0..INTERRUPTIONS {
@@ -39,7 +45,10 @@ impl<R: Read + Drop> Source for StdSource<R> {
                 Ok(0) => return ReadStep::End,
                 Ok(count) => return ReadStep::Got(count),
                 Err(error) if matches!(error.kind(), ErrorKind::Interrupted) => {}
-                Err(_) => break,
+                Err(error) => {
+                    complain(&self.errors, "standard input", &error);
+                    break;
+                }
             }
         }
         self.faults = self.faults.saturating_add(1);

@@ -5,7 +5,8 @@ use super::*;
 use play_outside::{
     FileFault, MediaDir, MemSink, MemSource, ReadStep, Sent, Sink, Source, WriteStep, send,
 };
-use std::io::{ErrorKind, Read, Write};
+use run_script::run_main;
+use std::io::{Eprint, ErrorKind, Read, Write};
 use std::rt::Files;
 use std::test::Fail;
 use std::{fs, io};
@@ -67,11 +68,11 @@ impl Write for Shaky {
 #[test]
 fn reads_again_after_interruptions(rt: HostRuntime) -> Result<(), Fail> {
     let mut buf = [0; 4];
-    let mut source = StdSource::new(Shaky::new(INTERRUPTIONS - 1));
+    let mut source = StdSource::new(Shaky::new(INTERRUPTIONS - 1), rt.clone()?);
     for step in [ReadStep::Got(2), ReadStep::Failed, ReadStep::End] {
         assert_eq!(rt; source.read(&mut buf), step);
     }
-    let mut stuck = StdSource::new(Shaky::new(INTERRUPTIONS));
+    let mut stuck = StdSource::new(Shaky::new(INTERRUPTIONS), rt.clone()?);
     for step in [ReadStep::Failed, ReadStep::Got(2)] {
         assert_eq!(rt; stuck.read(&mut buf), step);
     }
@@ -81,11 +82,11 @@ fn reads_again_after_interruptions(rt: HostRuntime) -> Result<(), Fail> {
 /// No clause says that an interruption alone is no failure.
 #[test]
 fn writes_again_after_interruptions(rt: HostRuntime) -> Result<(), Fail> {
-    let mut sink = StdSink::new(Shaky::new(INTERRUPTIONS - 1));
+    let mut sink = StdSink::new(Shaky::new(INTERRUPTIONS - 1), rt.clone()?);
     for step in [WriteStep::Took(2), WriteStep::Failed, WriteStep::Failed] {
         assert_eq!(rt; sink.write(b"abc"), step);
     }
-    let mut stuck = StdSink::new(Shaky::new(INTERRUPTIONS));
+    let mut stuck = StdSink::new(Shaky::new(INTERRUPTIONS), rt.clone()?);
     for step in [WriteStep::Failed, WriteStep::Took(2)] {
         assert_eq!(rt; stuck.write(b"abc"), step);
     }
@@ -98,11 +99,15 @@ fn reads_files(rt: HostRuntime) -> Result<(), Fail> {
     let alloc = rt.alloc();
     fs::create_dir_all(&rt, "playrun_test/inner")?;
     write_file(&rt, "playrun_test/one", b"abc")?;
+    let large = vec![in alloc; 7; 1_048_577]?;
+    write_file(&rt, "playrun_test/.large", large.as_slice())?;
     let mut media = FolderMedia::new(rt.clone()?);
     let read = media.config(alloc, "playrun_test/one")?;
     assert_eq!(rt; read.as_slice(), b"abc".as_slice());
     let read = media.bytes(alloc, "playrun_test", "one")?;
     assert_eq!(rt; read.as_slice(), b"abc".as_slice());
+    let read = media.bytes(alloc, "playrun_test", ".large")?;
+    assert_eq!(rt; read.len(), large.len());
     // A file that is missing, and a folder, cannot be read.
     for name in ["two", "inner"] {
         let fault = media.bytes(alloc, "playrun_test", name).err();
@@ -110,9 +115,10 @@ fn reads_files(rt: HostRuntime) -> Result<(), Fail> {
     }
     let mut names = media.names(alloc, "playrun_test")?;
     names.as_mut_slice().sort_unstable();
-    assert_eq!(rt; names.len(), 2);
-    assert_eq!(rt; names[0].as_str(), "inner");
-    assert_eq!(rt; names[1].as_str(), "one");
+    assert_eq!(rt; names.len(), 3);
+    assert_eq!(rt; names[0].as_str(), ".large");
+    assert_eq!(rt; names[1].as_str(), "inner");
+    assert_eq!(rt; names[2].as_str(), "one");
     let fault = media.names(alloc, "playrun_test/none").err();
     assert_eq!(rt; fault, Some(FileFault::Failed));
     fs::remove_dir_all(&rt, "playrun_test")?;
@@ -172,8 +178,12 @@ T 3
 ";
 
 /// Writes a file of the system.
-fn write_file<R: Files>(rt: &R, path: &str, bytes: &[u8]) -> Result<(), Fail> {
-    match send(bytes, &mut StdSink::new(fs::create(rt, path)?)) {
+fn write_file<R: Files + Eprint + Clone + Drop>(
+    rt: &R,
+    path: &str,
+    bytes: &[u8],
+) -> Result<(), Fail> {
+    match send(bytes, &mut StdSink::new(fs::create(rt, path)?, rt.clone()?)) {
         Sent::All => Ok(()),
         Sent::Failed => Err(Fail::new("a file is not written")),
     }

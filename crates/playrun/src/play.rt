@@ -1,0 +1,75 @@
+//! The whole program, over its words and its devices.
+ghost use Rattle.std.specs.Prelude.{◌≡◌, IfOk, IfErr, map, string_bytes};
+ghost use Rattle.server_setup.specs.Fault.{fault_line, status_of};
+ghost use Rattle.run_script.specs.Program.{PlaysScript, WritesFaultLine};
+ghost use Rattle.playrun.specs.Play.{EndsAtOnce, run_fault_of};
+
+use super::complaint::say_usage;
+use play_outside::{MediaDir, Sink, Source};
+use run_script::run_main;
+use server_setup::RunFault;
+use std::alloc::Global;
+use std::env::Args;
+use std::io::{self, Eprint, ErrorKind};
+use std::thread::Threads;
+
+/// Why the words of a command line are not known.
+#[derive(Clone, Copy, Debug, PartialEq, Eq)]
+pub enum WordsFault {
+    /// The system does not tell them, or one of them is not UTF-8.
+    Unreadable,
+    /// Memory ran out.
+    OutOfMemory,
+}
+
+/// Returns the words after the program's own name.
+pub fn words_of(alloc: Global, args: io::Result<Args>) -> Result<Vec<String>, WordsFault> {
+    match args {
+        Ok(args) => args
+            .skip(1)
+            .collect(alloc)
+            .map_err(|_| WordsFault::OutOfMemory),
+        Err(error) if matches!(error.kind(), ErrorKind::OutOfMemory) => {
+            Err(WordsFault::OutOfMemory)
+        }
+        Err(_) => Err(WordsFault::Unreadable),
+    }
+}
+
+/// Plays a script as `run_main` does with these words. Words that cannot be read are no command line, with status 1, and
+/// where memory ran out for them the status is 5; nothing is read then. At status 1 standard error says which words there
+/// are.
+pub fn play<R: Threads + Sync + Eprint, I: Source, M: MediaDir, O: Sink>(
+    rt: &R,
+    alloc: Global,
+    words: Result<Vec<String>, WordsFault>,
+    input: &mut I,
+    media: &mut M,
+    out: &mut O,
+) -> u8
+    ensures known { IfOk words (λ list. PlaysScript (map string_bytes list.items) result
+        (record { media = M.state media.old; input = I.state input.old; out = O.state out.old })
+        (record { media = M.state media.new; input = I.state input.new; out = O.state out.new })) }
+    ensures unknown { IfErr words (λ fault. EndsAtOnce (run_fault_of fault) result
+        (record { media = M.state media.old; input = I.state input.old; out = O.state out.old })
+        (record { media = M.state media.new; input = I.state input.new; out = O.state out.new })) }
+{
+    let status = match words {
+        Ok(words) => run_main(rt, alloc, words.as_slice(), input, media, out),
+        Err(WordsFault::Unreadable) => end(RunFault::Usage, out),
+        Err(WordsFault::OutOfMemory) => end(RunFault::OutOfMemory, out),
+    };
+    if status == RunFault::Usage.status() {
+        say_usage(rt);
+    }
+    status
+}
+
+/// Writes the line of a fault, and returns its exit status.
+fn end<O: Sink>(fault: RunFault, out: &mut O) -> u8
+    ensures status { result ≡ status_of fault }
+    ensures said { WritesFaultLine (fault_line fault) (O.state out.old) (O.state out.new) }
+{
+    let _ = fault.send_line(out);
+    fault.status()
+}

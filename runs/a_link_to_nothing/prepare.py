@@ -1,0 +1,3 @@
+import os
+
+os.symlink('nothing', 'clips/lost.rclp')

@@ -1,0 +1,3 @@
+import os
+
+os.mkfifo('clips/pipe.rclp')

@@ -266,7 +266,7 @@ fit_name name.Bye = refl
 fit_name name.Kill = refl
 
 -- plain characters are ASCII
-ascii_of_plain : (cs : List ℕ) → list_all is_plain cs ≡ true → IsAscii cs
+pub ascii_of_plain : (cs : List ℕ) → list_all is_plain cs ≡ true → IsAscii cs
 ascii_of_plain [] h = IsAscii-nil
 ascii_of_plain (c ∷ cs) h =
     let plain = and_parts (is_plain c) (list_all is_plain cs) h in

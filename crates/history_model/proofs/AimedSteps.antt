@@ -19,7 +19,7 @@ use Rattle.history_model.proofs.Aiming.{IsAimedParsed, parsed_is_aimed}
 use Rattle.history_model.proofs.Asking.{IsMeant, line_meant}
 
 -- what holds of all that elements give
-All-filter_map : {X Y : Type 0} (P : X → Type 0) (Q : Y → Type 0) (f : X → Option Y) (xs : List X) → ((x : X) → P x → IfSome (f x) Q) → All P xs → All Q (filter_map f xs)
+pub All-filter_map : {X Y : Type 0} (P : X → Type 0) (Q : Y → Type 0) (f : X → Option Y) (xs : List X) → ((x : X) → P x → IfSome (f x) Q) → All P xs → All Q (filter_map f xs)
 All-filter_map P Q f [] gives all = All-nil Q
 All-filter_map {X = X} {Y = Y} P Q f (x ∷ xs) gives all =
     more (f x) (gives x (All-head P x xs all)) (All-filter_map P Q f xs gives (All-tail P x xs all))

@@ -4,12 +4,13 @@ use Rattle.std.specs.Prelude.{Option, Some, None}
 use Rattle.std.specs.List.{cons_option, list_any}
 use Rattle.std.proofs.Math.Bool.{or-false}
 use Rattle.amcp_text.specs.Lines.{is_line_end, line_of_text, lines_of}
-use Rattle.play_types.specs.declared.command.Cmd.{Cmd}
+use Rattle.play_types.specs.declared.event.Event.{Event}
+use Rattle.play_types.specs.declared.event.Event.TheVariants as event
 use Rattle.play_types.specs.declared.event.Tag.{Tag}
 use Rattle.play_types.specs.declared.parsed.Parsed.{Parsed}
 use Rattle.history_model.specs.sessions.Line.{asked_by, line_meaning}
 use Rattle.history_model.specs.sessions.Session.{Step, Local, Ask, AskBatch, KillServer, EndConnection, Skip, asks, is_end, line_steps}
-use Rattle.history_model.specs.scripts.History.{Playout, PlayedLine, Turn, Verdict, NotBuilt, JournalFull, OutOfMemory, Taken, is_kill, step_events, text_by, verdict, verdict_events}
+use Rattle.history_model.specs.scripts.History.{Playout, PlayedLine, Turn, Verdict, JournalFull, OutOfMemory, Taken, is_kill, step_events, text_by, verdict, verdict_events}
 use Rattle.history_model.specs.scripts.Struck.{IsNotTaken, IsRefusedStep}
 use Rattle.history_model.proofs.OpenBatch.{IsRefusal, IsSameBatch, IsSameBatch-snoc, refused-left, step-same}
 use Rattle.history_model.proofs.Sides.{Side, Side-other, Side-said, asked_of, asked_of-said, has_ended, has_ended-said, own_step}
@@ -89,17 +90,16 @@ no_kill turn (Some KillServer) refused = absurd refused
 no_kill turn (Some EndConnection) refused = refl
 no_kill turn (Some Skip) refused = refl
 
-not_taken : (tag : Tag) (command : Cmd) (what : Verdict) → IsNotTaken what → verdict_events tag command what ≡ []
-not_taken tag command NotBuilt refused = refl
-not_taken tag command JournalFull refused = refl
-not_taken tag command OutOfMemory refused = refl
-not_taken tag command Taken refused = absurd refused
+not_taken : (event : Event) (what : Verdict) → IsNotTaken what → verdict_events event what ≡ []
+not_taken event JournalFull refused = refl
+not_taken event OutOfMemory refused = refl
+not_taken event Taken refused = absurd refused
 
 pub no_events : (turn : Turn) (found : Option Step) → IsRefusedStep turn found → step_events turn found ≡ []
 no_events turn None refused = refl
 no_events turn (Some (Local answer)) refused = refl
-no_events turn (Some (Ask command)) refused = not_taken turn.tag command (verdict turn command) refused
-no_events turn (Some (AskBatch commands)) refused = refl
+no_events turn (Some (Ask command)) refused = not_taken (event.Do turn.tag command) (verdict turn 1) refused
+no_events turn (Some (AskBatch commands)) refused = absurd refused
 no_events turn (Some KillServer) refused = absurd refused
 no_events turn (Some EndConnection) refused = refl
 no_events turn (Some Skip) refused = refl

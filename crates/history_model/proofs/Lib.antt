@@ -8,6 +8,7 @@ pub mod Silent
 pub mod Frames
 pub mod Parts
 pub mod Outputs
+pub mod Filled
 pub mod Scripts
 pub mod Streams
 pub mod Asking
@@ -30,3 +31,5 @@ pub mod OpenBatch
 pub mod Sides
 pub mod Besides
 pub mod Striking
+pub mod Played
+pub mod OnLiterals

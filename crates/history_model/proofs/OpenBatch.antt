@@ -1,5 +1,5 @@
 -- The open batch after one more ask, and which asks leave it as it was.
-use Rattle.std.proofs.Common.{◌≡◌, ℕ, ◌+◌, ◌-◌, Bool, true, false, cond, not, ◌||◌, List, [], ◌∷◌, ◌++◌, take, length, refl, sym, ap, ◌∙◌, arith, inl, inr, append-nil}
+use Rattle.std.proofs.Common.{◌≡◌, ℕ, ◌+◌, ◌-◌, ◌<◌, Bool, true, false, cond, not, ◌||◌, List, [], ◌∷◌, ◌++◌, take, length, refl, sym, ap, ◌∙◌, arith, inl, inr, append-nil}
 use Rattle.std.specs.Prelude.{Option, None, nat_lt, filter_map}
 use Rattle.std.specs.List.{list_any, suffix_len, after_first, after_last, position_or_len, cons_option}
 use Rattle.std.proofs.lemmas.Bool.{cases_Bool, cases_lt, lt-ltb, le-ltb, false≢true}
@@ -61,10 +61,10 @@ take-snoc n xs x = elim (cases_lt (length xs) n) [
 ]
 
 -- whether a batch is open after one more ask
-is_open-closing : (asked : List Parsed) (ask : Parsed) → is_closing ask ≡ true → is_open (asked ++ ask ∷ []) ≡ false
+pub is_open-closing : (asked : List Parsed) (ask : Parsed) → is_closing ask ≡ true → is_open (asked ++ ask ∷ []) ≡ false
 is_open-closing asked ask closes = ap (list_any is_begin) (after_last-passes is_closing asked ask closes)
 
-is_open-other : (asked : List Parsed) (ask : Parsed) → is_closing ask ≡ false
+pub is_open-other : (asked : List Parsed) (ask : Parsed) → is_closing ask ≡ false
     → is_open (asked ++ ask ∷ []) ≡ (is_open asked || list_any is_begin (ask ∷ []))
 is_open-other asked ask other =
     ap (list_any is_begin) (after_last-fails is_closing asked ask other)
@@ -103,7 +103,14 @@ batch-command asked command opened = elim (cases_Bool (is_query command)) [
       ∙ sym (batch-other asked (Stage command) refl opened)))
 ]
 
-batch-begin : (asked : List Parsed) → is_open asked ≡ false → batch (asked ++ Begin ∷ []) ≡ []
+-- a command that is no query waits where there is room
+pub batch-waits : (asked : List Parsed) (command : Cmd) → is_open asked ≡ true → is_query command ≡ false → length (batch asked) < MAX_BATCH_COMMANDS
+    → batch (asked ++ Stage command ∷ []) ≡ batch asked ++ command ∷ []
+unfolding added
+batch-waits asked command opened acts room =
+    batch-command asked command opened ∙ rw (acts, lt-ltb (length (batch asked)) MAX_BATCH_COMMANDS room) refl
+
+pub batch-begin : (asked : List Parsed) → is_open asked ≡ false → batch (asked ++ Begin ∷ []) ≡ []
 batch-begin asked closed =
     ap (λ (since : List Parsed). take MAX_BATCH_COMMANDS (filter_map batched (after_first is_begin since))) (after_last-fails is_closing asked Begin refl)
     ∙ ap (λ (since : List Parsed). take MAX_BATCH_COMMANDS (filter_map batched since)) (after_first_at is_begin (since_closing asked) Begin [] closed refl)

@@ -1,16 +1,20 @@
 -- Two runs of equal lines that memory does not disturb are equal: each is the run of its lines without marks.
-use Rattle.std.proofs.Common.{◌≡◌, ℕ, Bool, true, false, cond, inl, inr, List, [], ◌∷◌, ◌++◌, map, refl, sym, ap, ◌∙◌, subst, append_assoc, if◌then◌else◌}
+use Rattle.std.proofs.Common.{◌≡◌, ℕ, Bool, true, false, cond, inl, inr, List, [], ◌∷◌, ◌++◌, length, map, refl, sym, ap, ◌∙◌, subst, append_assoc, if◌then◌else◌}
 use Rattle.std.specs.Prelude.{Option, Some, None, codes}
 use Rattle.play_types.specs.Commands.{command_name}
-use Rattle.play_types.specs.declared.command.Cmd.{Cmd}
+use Rattle.play_types.specs.declared.answer.Answer.{Answer}
+use Rattle.play_types.specs.declared.event.Event.TheVariants as event
 use Rattle.play_types.specs.declared.event.Tag.{Tag}
+use Rattle.play_types.specs.declared.reply.Name.{Name}
+use Rattle.play_types.specs.declared.reply.Name.TheVariants as name
 use Rattle.play_types.specs.declared.reply.Reply.TheVariants as reply
-use Rattle.history_model.specs.stage.Plain.{is_built}
+use Rattle.history_model.specs.stage.Acts.{is_refused}
+use Rattle.history_model.specs.stage.Answer.{command_answer, outcome_of}
 use Rattle.history_model.specs.sessions.Session.{Step, Local, Ask, AskBatch, KillServer, EndConnection, Skip}
 use Rattle.history_model.specs.text.Replies.{code_line}
 use Rattle.history_model.specs.scripts.Line.{ScriptLine, Comment, Ticks, Said, Stop, Rejected}
-use Rattle.history_model.specs.scripts.History.{Playout, PlayedLine, Past, Turn, Verdict, NotBuilt, JournalFull, OutOfMemory, Taken, ends_at, events_after, events_at, goes_on, is_full, is_kill, said_step, same_tag, script_events, step_events, text_by, turn_of, verdict, verdict_events}
-use Rattle.history_model.specs.scripts.Output.{ask_reply, output_after, output_at, reply_line, reply_output, script_output, step_reply, tagged_lines, ticks_output, verdict_reply}
+use Rattle.history_model.specs.scripts.History.{Playout, PlayedLine, Past, Turn, Verdict, JournalFull, OutOfMemory, Taken, ends_at, events_after, events_at, goes_on, is_full, is_kill, said_step, same_tag, script_events, setup_of, step_events, text_by, turn_of, verdict, verdict_events}
+use Rattle.history_model.specs.scripts.Output.{output_after, output_at, reply_line, reply_output, script_output, step_reply, tagged_lines, ticks_output, verdict_reply}
 use Rattle.history_model.specs.scripts.Memory.{AreLines, IsOneLine, IsWithoutWant, StandsIn, lines_played}
 use Rattle.history_model.proofs.Outputs.{goes_on-none, goes_on-snoc, script_events-snoc}
 use Rattle.history_model.proofs.Tags.{same_tag-equal, text_by-else, text_by-own}
@@ -52,29 +56,28 @@ no_500 playout turn tag found is h =
     h.lines tag (subst (λ f. StandsIn (reply_line tag (codes "500 FAILED")) (reply_output playout tag (step_reply turn f))) (sym is)
     (one_reply tag (codes "500 FAILED")))
 
--- and so does a command that is answered 501: else what becomes of it is what becomes of it with memory
-verdict_by : Bool → Bool → Bool → Verdict
-verdict_by built full no_memory = if built then (if full then JournalFull else if no_memory then OutOfMemory else Taken) else NotBuilt
+-- and so does a command or a batch that is answered 501: else what becomes of it is what becomes of it with memory
+verdict_by : Bool → Bool → Verdict
+verdict_by full no_memory = if full then JournalFull else if no_memory then OutOfMemory else Taken
 
-with_memory_by : (playout : Playout) (turn : Turn) (tag : Tag) (command : Cmd) (built full no_memory : Bool) →
-    IsWithoutWant (reply_output playout tag (Some (verdict_reply turn command (verdict_by built full no_memory)))) →
-    verdict_by built full no_memory ≡ verdict_by built full false
+with_memory_by : (playout : Playout) (tag : Tag) (asked : Name) (found : Answer) (full no_memory : Bool) →
+    IsWithoutWant (reply_output playout tag (Some (verdict_reply asked found (verdict_by full no_memory)))) →
+    verdict_by full no_memory ≡ verdict_by full false
 unfolding verdict_by
-with_memory_by playout turn tag command false full no_memory h = refl
-with_memory_by playout turn tag command true true no_memory h = refl
-with_memory_by playout turn tag command true false false h = refl
-with_memory_by playout turn tag command true false true h =
-    absurd (h.commands tag (command_name command) (one_reply tag (code_line 501 (command_name command) (codes "FAILED"))))
+with_memory_by playout tag asked found true no_memory h = refl
+with_memory_by playout tag asked found false false h = refl
+with_memory_by playout tag asked found false true h = absurd (h.commands tag asked (one_reply tag (code_line 501 asked (codes "FAILED"))))
 
 -- when the stage is asked, with memory
 abbrev with_memory : Turn → Turn
 with_memory turn = record { playout = turn.playout; events = turn.events; tag = turn.tag; no_memory = false }
 
-verdict-with_memory : (playout : Playout) (turn : Turn) (tag : Tag) (command : Cmd) →
-    IsWithoutWant (reply_output playout tag (Some (ask_reply turn command))) → verdict turn command ≡ verdict (with_memory turn) command
+verdict-with_memory : (playout : Playout) (turn : Turn) (tag : Tag) (asked : Name) (found : Answer) (commands : ℕ) →
+    IsWithoutWant (reply_output playout tag (Some (verdict_reply asked found (verdict turn commands)))) →
+    verdict turn commands ≡ verdict (with_memory turn) commands
 unfolding verdict_by
-verdict-with_memory playout turn tag command h =
-    with_memory_by playout turn tag command (is_built command) (is_full turn.playout turn.events 1) turn.no_memory h
+verdict-with_memory playout turn tag asked found commands h =
+    with_memory_by playout tag asked found (is_full turn.playout turn.events commands) turn.no_memory h
 
 -- the reply and the events of a step are those with memory
 record IsWithMemory (turn : Turn) (found : Option Step) : Type 0 where
@@ -86,12 +89,20 @@ step-with_memory : (playout : Playout) (turn : Turn) (tag : Tag) (found : Option
 step-with_memory playout turn tag None h = record { reply = refl; events = refl }
 step-with_memory playout turn tag (Some (Local answer)) h = record { reply = refl; events = refl }
 step-with_memory playout turn tag (Some (Ask command)) h =
-    let same = verdict-with_memory playout turn tag command h in
+    let asked : Name = command_name command in
+    let found : Answer = command_answer (setup_of turn.playout) turn.events (is_refused turn.events (event.Do turn.tag command)) command in
+    let same = verdict-with_memory playout turn tag asked found 1 h in
     record {
-      reply = ap (λ v. Some (verdict_reply turn command v)) same;
-      events = ap (λ v. verdict_events turn.tag command v) same;
+      reply = ap (λ v. Some (verdict_reply asked found v)) same;
+      events = ap (verdict_events (event.Do turn.tag command)) same;
     }
-step-with_memory playout turn tag (Some (AskBatch commands)) h = record { reply = refl; events = refl }
+step-with_memory playout turn tag (Some (AskBatch commands)) h =
+    let found : Answer = outcome_of (is_refused turn.events (event.Batch turn.tag commands)) in
+    let same = verdict-with_memory playout turn tag name.Commit found (length commands) h in
+    record {
+      reply = ap (λ v. Some (verdict_reply name.Commit found v)) same;
+      events = ap (verdict_events (event.Batch turn.tag commands)) same;
+    }
 step-with_memory playout turn tag (Some KillServer) h = record { reply = refl; events = refl }
 step-with_memory playout turn tag (Some EndConnection) h = record { reply = refl; events = refl }
 step-with_memory playout turn tag (Some Skip) h = record { reply = refl; events = refl }
@@ -275,12 +286,12 @@ start playout = record {
   keeps = λ tag. Keeps-none playout tag;
 }
 
-output-unmarked : (playout : Playout) (lines : List PlayedLine) → AreLines (lines_played lines) → IsWithoutWant (script_output playout lines) →
+pub output-unmarked : (playout : Playout) (lines : List PlayedLine) → AreLines (lines_played lines) → IsWithoutWant (script_output playout lines) →
     script_output playout lines ≡ script_output playout (map unmarked lines)
 unfolding script_output
 output-unmarked playout lines one without = (all_like playout [] lines (start playout) one without).output
 
-events-unmarked : (playout : Playout) (lines : List PlayedLine) → AreLines (lines_played lines) → IsWithoutWant (script_output playout lines) →
+pub events-unmarked : (playout : Playout) (lines : List PlayedLine) → AreLines (lines_played lines) → IsWithoutWant (script_output playout lines) →
     script_events playout lines ≡ script_events playout (map unmarked lines)
 unfolding script_output script_events events_after
 events-unmarked playout lines one without = (all_like playout [] lines (start playout) one without).events

@@ -24,7 +24,8 @@ use Rattle.history_model.specs.stage.Life.{Life, Outgoing}
 use Rattle.history_model.specs.stage.Live.{state}
 use Rattle.history_model.specs.stage.Acts.{acts}
 use Rattle.history_model.specs.stage.Answer.{ChannelFrame, row_pixels, channel_frame}
-use Rattle.history_model.specs.scripts.History.{Turn}
+use Rattle.history_model.specs.scripts.Line.{meaning}
+use Rattle.history_model.specs.scripts.History.{PlayedLine, Playout, Turn}
 use Rattle.history_model.specs.scripts.Output.{plain_config}
 
 -- layer l of channel c
@@ -198,3 +199,11 @@ turn_after events no_memory = record {
   tag = record { worker = 1; session = 1 };
   no_memory = no_memory;
 }
+
+-- one channel of one pixel without clips, whose frames are written in hexadecimal
+abbrev pub one_pixel : Playout
+one_pixel = record { config = plain_config 1 1; names = []; clips = []; digests = false }
+
+-- a line of a script, with memory for all of it
+abbrev pub played : List ℕ → PlayedLine
+played text = record { line = meaning text; given_up = false; no_memory = false }

@@ -5,6 +5,5 @@ pub mod Raster
 pub mod Placing
 pub mod Frame
 pub mod Sound
-pub mod PlainScene
 pub mod StageScene
 pub mod TimelineFrame

@@ -8,7 +8,6 @@ pub mod Live
 pub mod Value
 pub mod Steps
 pub mod Answer
-pub mod Plain
 pub mod Places
 pub mod StageState
 pub mod StageHistory

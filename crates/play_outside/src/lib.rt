@@ -5,8 +5,16 @@
 //! contract can speak of bytes; the contracts of an object that tells nothing claim nothing about them.
 #![tactic(auto)]
 
+mod clock;
+mod devices;
 mod folder;
 mod gather;
+mod held;
+mod link;
+mod listener;
+mod mem_clock;
+mod mem_door;
+mod mem_link;
 mod mem_media;
 mod mem_sink;
 mod mem_source;
@@ -19,11 +27,19 @@ mod source;
 mod tests;
 mod unread;
 
+pub use clock::{Beat, Clock};
+pub use devices::Devices;
 pub use folder::{FileFault, MediaDir};
 pub use gather::Gather;
+pub use held::{Flag, FlaggedCall, HeldClock, HeldDoor, HeldLink, HeldSink};
+pub use link::{Link, LinkStep, Look};
+pub use listener::{Arrival, Listener, MOST_AWAY};
+pub use mem_clock::MemClock;
+pub use mem_door::{DoorAnswer, MemDoor};
+pub use mem_link::{LinkPlan, MemLink};
 pub use mem_media::{MemConfig, MemFile, MemMedia};
 pub use mem_sink::MemSink;
 pub use mem_source::MemSource;
-pub use plain::{PlainMedia, PlainSink, PlainSource};
+pub use plain::{PlainClock, PlainDoor, PlainLink, PlainMedia, PlainSink, PlainSource};
 pub use sink::{Sent, Sink, WriteStep, send, send_number, send_parts};
 pub use source::{ReadStep, Source};

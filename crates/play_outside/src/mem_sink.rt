@@ -10,9 +10,9 @@ use std::alloc::{AllocError, Global};
 /// Takes bytes into room that it has from its making. Contracts see what it took.
 #[derive(Drop)]
 pub struct MemSink {
-    taken: Vec<u8>,
+    pub(crate) taken: Vec<u8>,
     piece: usize,
-    planned: PlannedFaults,
+    pub(crate) planned: PlannedFaults,
     mark: u64,
     /// How many bytes it had taken when a write last failed.
     at_fault: Option<usize>,
@@ -22,6 +22,7 @@ pub struct MemSink {
 
 impl MemSink {
     ghost use Rattle.play_outside.specs.MemSink.{room_left};
+    ghost use Rattle.play_outside.specs.SinkState.{after_fault};
 
     /// Creates a sink with room for `room` bytes, which takes at most `piece` of them a write. The writes whose numbers,
     /// counted from 1, are in `fails` return `Failed`, and so does each write that finds the room full.
@@ -33,7 +34,7 @@ impl MemSink {
         fails: Vec<u64>,
     ) -> Result<MemSink, AllocError>
         requires { 0 < piece }
-        ensures fresh { IfOk result (λ sink. ⟦<MemSink as Sink>⟧.state sink ≡ record { taken = Some []; faults = 0; mark = mark; at_fault = None }) }
+        ensures fresh { IfOk result (λ sink. ⟦<MemSink as Sink>⟧.state sink ≡ record { taken = Some []; faults = 0; mark = mark; at_fault = None; reading = None; idle = 0 }) }
         ensures room { IfOk result (λ sink. room_left sink ≡ room) }
     {
         let taken = Vec::with_capacity(alloc, room)?;
@@ -66,17 +67,34 @@ impl MemSink {
     {
         self.planned.count
     }
+
+    /// Counts a write, and fails it.
+    pub(crate) fn fail_call(&mut self) -> WriteStep
+        ensures step { result ≡ WriteStep.Failed }
+        ensures state { ⟦<MemSink as Sink>⟧.state self.new ≡ after_fault (⟦<MemSink as Sink>⟧.state self.old) }
+    {
+        let _planned = self.planned.fails_now();
+        self.fail()
+    }
+
+    /// Fails a write that was counted.
+    fn fail(&mut self) -> WriteStep
+        ensures step { result ≡ WriteStep.Failed }
+        ensures state { ⟦<MemSink as Sink>⟧.state self.new ≡ after_fault (⟦<MemSink as Sink>⟧.state self.old) }
+    {
+        self.planned.raise();
+        self.at_fault = Some(self.taken.len());
+        WriteStep::Failed
+    }
 }
 
 impl Sink for MemSink {
-    ghost state = { λ s. record { taken = Some s.taken.items; faults = s.planned.count; mark = s.mark; at_fault = option_map (λ count. take count s.taken.items) s.at_fault } };
+    ghost state = { λ s. record { taken = Some s.taken.items; faults = s.planned.count; mark = s.mark; at_fault = option_map (λ count. take count s.taken.items) s.at_fault; reading = None; idle = 0 } };
 
     fn write(&mut self, piece: &[u8]) -> WriteStep {
         let room = self.room();
         if self.planned.fails_now() || room == 0 {
-            self.planned.raise();
-            self.at_fault = Some(self.taken.len());
-            return WriteStep::Failed;
+            return self.fail();
         }
         let count = piece.len().min(room).min(self.piece);
         push_all_reserved(&mut self.taken, &piece[..count]);

@@ -44,7 +44,7 @@ impl MemSource {
 }
 
 impl Source for MemSource {
-    ghost state = { λ s. record { left = Some s.unread; faults = s.planned.count } };
+    ghost state = { λ s. record { left = Some s.unread.left; faults = s.planned.count } };
 
     fn read(&mut self, buf: &mut [u8]) -> ReadStep {
         if self.planned.fails_now() {

@@ -7,7 +7,7 @@ ghost use Rattle.play_outside.specs.Faults.{one_more};
 #[derive(Drop)]
 pub(crate) struct PlannedFaults {
     at_calls: Vec<u64>,
-    calls: u64,
+    pub(crate) calls: u64,
     pub(crate) count: u64,
 }
 

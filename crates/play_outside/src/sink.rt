@@ -29,8 +29,8 @@ pub enum Sent {
 
 /// A place to write bytes to.
 pub trait Sink: Drop {
-    /// What was taken, now and when a write last failed, where the sink says so; how many writes failed; and the mark,
-    /// which no call changes.
+    /// What was taken, now and when a write last failed, where the sink says so; how many calls failed; the mark, which
+    /// no call changes; and of a link what it tells of its reads, which no write changes.
     ghost state: { Self → SinkState };
 
     /// Takes a prefix of the piece, or fails and takes nothing. A failed write raises the count of faults by one.

@@ -1,4 +1,6 @@
 //! What objects in memory do call by call, with ample memory: pieces, room, and faults where they are planned.
+mod devices;
+
 use super::*;
 use std::process::Abort;
 use std::test::Fail;

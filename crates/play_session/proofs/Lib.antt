@@ -3,3 +3,4 @@ pub mod Standing
 pub mod NextLine
 pub mod Fitting
 pub mod WholeLine
+pub mod Filled

@@ -84,7 +84,7 @@ impl Session {
     ///
     /// No step may be asked for after a `Kill` or a `Bye`. A line for which there is no memory is given up with
     /// `Local(NoMemory)`, which leaves the batch as it was. Where each command of the batch before the line names configured
-    /// channels alone, so does each command of the batch after it.
+    /// channels alone, so does each command of the batch after it. A batch that is asked for has a command.
     pub fn next(&mut self, alloc: Global, config: &Config, media: &MediaNames) -> Step
         requires { self.old.ended ≡ false }
         ensures needs_more { (result ≡ Step.NeedMore) ↔ (self.old.reader.held ≡ false) }
@@ -94,6 +94,7 @@ impl Session {
         ensures ended { self.new.ended ≡ ends result }
         ensures fits { Fits config.now result }
         ensures aimed { AreAimed config.now self.old.batch → AreAimed config.now self.new.batch }
+        ensures filled { result ≡ Step.AskBatch → self.new.batch ≢ [] }
         ensures given_up { result ≡ Step.Local Reply.NoMemory → IsAsBefore self.old self.new }
     {
         let meaning = match self.reader.line() {
@@ -109,7 +110,8 @@ impl Session {
     ///
     /// No step may be asked for after a `Kill` or a `Bye`. `Skip` comes exactly where the line has no word. A line for
     /// which there is no memory is given up with `Local(NoMemory)`, which leaves the batch as it was. Where each command of
-    /// the batch before the line names configured channels alone, so does each command of the batch after it.
+    /// the batch before the line names configured channels alone, so does each command of the batch after it. A batch that is
+    /// asked for has a command.
     pub fn take_line(
         &mut self,
         alloc: Global,
@@ -126,6 +128,7 @@ impl Session {
         ensures ended { self.new.ended ≡ ends result }
         ensures fits { Fits config.now result }
         ensures aimed { AreAimed config.now self.old.batch → AreAimed config.now self.new.batch }
+        ensures filled { result ≡ Step.AskBatch → self.new.batch ≢ [] }
         ensures given_up { result ≡ Step.Local Reply.NoMemory → IsAsBefore self.old self.new }
     {
         let meaning = meaning_of(alloc, config, media, LineEvent::of(text));

@@ -20,7 +20,7 @@ pub struct StdSink<W, E> {
 impl<W: Write + Drop, E: Eprint + Drop> StdSink<W, E> {
     /// Returns a sink over a stream. No write has failed yet.
     pub fn new(output: W, errors: E) -> StdSink<W, E>
-        ensures { ⟦<StdSink<W, E> as Sink>⟧.state result ≡ record { taken = None; faults = 0; mark = 0; at_fault = None } }
+        ensures { ⟦<StdSink<W, E> as Sink>⟧.state result ≡ record { taken = None; faults = 0; mark = 0; at_fault = None; reading = None; idle = 0 } }
     {
         StdSink {
             output,
@@ -31,7 +31,7 @@ impl<W: Write + Drop, E: Eprint + Drop> StdSink<W, E> {
 }
 
 impl<W: Write + Drop, E: Eprint + Drop> Sink for StdSink<W, E> {
-    ghost state = { λ s. record { taken = None; faults = s.faults; mark = 0; at_fault = None } };
+    ghost state = { λ s. record { taken = None; faults = s.faults; mark = 0; at_fault = None; reading = None; idle = 0 } };
 
     /// Writes a prefix of the piece. An interrupted write is made again, but for the last of `INTERRUPTIONS` interruptions.
     fn write(&mut self, piece: &[u8]) -> WriteStep

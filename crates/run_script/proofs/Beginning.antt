@@ -1,42 +1,42 @@
 -- The player before the first line.
 use Rattle.std.proofs.Common.{◌≡◌, List, [], ◌∷◌, length, map, replicate, refl, sym, ap, ◌∙◌, subst, subst₂}
-use Rattle.std.specs.Prelude.{All}
 use Rattle.std.proofs.lemmas.List.{length-replicate}
+use Rattle.std.proofs.lemmas.List.Elements.{All-nil}
 use Rattle.play_types.specs.Config.{ChannelView}
 use Rattle.play_types.specs.History.{stop_at}
-use Rattle.history_model.specs.pictures.Frame.{pictures_after}
-use Rattle.history_model.specs.stage.Plain.{IsPlainHistory}
+use Rattle.history_model.specs.commands.Channels.{AreAimed}
 use Rattle.history_model.specs.scripts.History.{channel_size}
 use Rattle.history_model.proofs.Outputs.{script_events-none}
-use Rattle.play_scene.specs.Frames.{ArePictures, zero_frame}
-use Rattle.play_scene.proofs.Ticks.{first_pictures}
+use Rattle.play_scene.specs.Frames.{zero_frame}
+use Rattle.band_render.specs.Histories as frames
+use Rattle.band_render.specs.Rendered.{sizes}
+use Rattle.band_render.proofs.Ticks.{represents-first}
 use Rattle.stage_core.specs.Stage.{StageView}
+use Rattle.run_script.specs.declared.clients.Client.{Client}
 use Rattle.run_script.specs.declared.player.Player.{Player}
-use Rattle.run_script.specs.inner.Clients.{AreClients}
-use Rattle.run_script.specs.inner.Player.{IsReady, Represents, events_in, playout_in, setup_in, sizes_of}
+use Rattle.run_script.specs.inner.Clients.{AreClients, HaveAimedBatches}
+use Rattle.run_script.specs.inner.Player.{IsReady, Represents, events_in, playout_in, setup_in}
 use Rattle.run_script.proofs.Connections.{no_clients}
 
-zero_sizes : (channels : List ChannelView) → sizes_of (map zero_frame channels) ≡ map channel_size channels
+zero_sizes : (channels : List ChannelView) → sizes (map zero_frame channels) ≡ map channel_size channels
 zero_sizes [] = refl
-zero_sizes (channel ∷ channels) = ap (λ sizes. channel_size channel ∷ sizes) (zero_sizes channels)
+zero_sizes (channel ∷ channels) = ap (λ others. channel_size channel ∷ others) (zero_sizes channels)
 
--- a stage without events, scenes without layers and zero frames are ready
-pub nothing_shown : (player : Player) → All (λ channel. channel.pairs ≡ 0) player.setup.config.channels
+-- a stage without events, scenes without layers, zero frames and no connections are ready
+pub nothing_shown : (player : Player)
     → player.stage ≡ record { journal = record { limit = player.setup.config.journal_limit; events = [] }; channels = length player.setup.config.channels }
-    → player.scenes ≡ replicate (length player.setup.config.channels) []
-    → player.shown ≡ map zero_frame player.setup.config.channels → player.next ≡ map zero_frame player.setup.config.channels → IsReady player
-nothing_shown player silent stage scenes shown next =
+    → player.scenes ≡ replicate (length player.setup.config.channels) [] → player.renderer ≡ map zero_frame player.setup.config.channels
+    → player.clients.list.items ≡ [] → IsReady player
+nothing_shown player stage scenes shown none_said =
     let channels = player.setup.config.channels in
     let none : events_in player ≡ [] = ap (λ (s : StageView). s.journal.events) stage in
     record {
-      silent = silent;
       limit = ap (λ (s : StageView). s.journal.limit) stage;
       channels = ap (λ (s : StageView). s.channels) stage;
       scenes = ap length scenes ∙ length-replicate (length channels) [];
-      sizes = ap sizes_of next ∙ zero_sizes channels;
-      pictures = subst₂ (λ es frames. ArePictures (pictures_after (setup_in player) es) frames player.setup.media) (sym none) (sym shown)
-          (first_pictures (setup_in player) channels player.setup.media refl (sym (zero_sizes channels)));
-      plain = subst IsPlainHistory (sym none) tt;
+      batches = subst (HaveAimedBatches player.setup.config) (sym none_said) (All-nil (λ (client : Client). AreAimed player.setup.config client.session.batch));
+      frames = subst₂ (λ es shown_last. frames.Represents (setup_in player) es player.setup.media shown_last) (sym none) (sym shown)
+          (represents-first (setup_in player) channels player.setup.media refl (sym (zero_sizes channels)));
       running = ap stop_at none;
     }
 

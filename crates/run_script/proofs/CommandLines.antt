@@ -1,14 +1,9 @@
 -- What a command line does, over the outside before and after.
-use Rattle.std.proofs.Common.{◌≡◌, ◌≢◌, inl, inr, ℕ, ◌+◌, ◌≤◌, List, refl, sym, ap, ◌∙◌, subst, arith, get_or, false}
-use Rattle.std.specs.Prelude.{Option, Some, None, option_map, option_and_then, Result, Ok, Err, All, IfSome, MatchOption}
-use Rattle.std.proofs.lemmas.Bool.Decides.{nat_tests}
+use Rattle.std.proofs.Common.{◌≡◌, ◌≢◌, inl, inr, ℕ, ◌≤◌, List, refl, sym, ap, ◌∙◌, subst, arith}
+use Rattle.std.specs.Prelude.{Option, Some, None, Result, Ok, Err, IfSome, MatchOption}
 use Rattle.std.proofs.lemmas.Option.{none-some}
 use Rattle.std.specs.Str.{encode_utf8_all}
-use Rattle.std.specs.List.{list_any, position}
-use Rattle.std.proofs.lemmas.Grind.{common_steps}
-use Rattle.std.proofs.lemmas.List.Folds.{list_any_none}
-use Rattle.amcp_text.proofs.FirstEnd.{position_or_len_none}
-use Rattle.play_types.specs.Config.{ChannelView, ConfigView}
+use Rattle.play_types.specs.Config.{ConfigView}
 use Rattle.play_outside.specs.Faults.{Rose}
 use Rattle.play_outside.specs.FolderState.{FolderState, Files}
 use Rattle.play_outside.specs.Folder.{IsHeld, config_at}
@@ -27,35 +22,10 @@ use Rattle.server_setup.specs.declared.fault.RunFault.TheVariants as faults
 use Rattle.run_script.specs.Ending.{status_of}
 use Rattle.run_script.specs.CommandLine.{CommandLine, Plain, Configured, command_line_of}
 use Rattle.run_script.specs.Program.{Outside, streams_of, SaysUsage, RunsCommandLine, PlaysToEnd, DeviceFails, MeetsFault, MeetsFirstFault, SucceedsIfValid, PlaysScript, plain_playout, playout_of}
-use Rattle.server_setup.specs.Setup.{HoldsSome, SetsUp, fault_of_clips, fault_of_files, fault_of_held, fault_of_text, sound_or}
-use Rattle.server_setup.specs.Silent.{IsAccepted, first_sound, has_sound, refused_key, refused_of, sound_key}
+use Rattle.server_setup.specs.Setup.{HoldsSome, SetsUp, fault_of_clips, fault_of_files, fault_of_held, fault_of_text}
 use Rattle.server_setup.specs.Fault as setup
 use Rattle.run_script.proofs.Complete.{completes_run, device_of_run, is_played}
 use Rattle.server_setup.proofs.Setups.{files_kept, kept_but_device}
-
-same_key : {one other : List ℕ} → Some one ≡ Some other → Some (ConfigKey one) ≡ Some (ConfigKey other)
-same_key e = cc
-
--- a first sound is the key that is refused
-sound_refused : (first : Option ℕ) (name : List ℕ) (later : Option RunFault) → option_map sound_key first ≡ Some name → sound_or first later ≡ Some (ConfigKey name)
-sound_refused None name later is = absurd (none-some name is)
-sound_refused (Some number) name later is = same_key is
-
--- the key that is refused in a text is its first fault
-key_refused : (files : Files) (text : Option (Result ConfigView (List ℕ))) (name : List ℕ) → option_and_then refused_of text ≡ Some name
-    → fault_of_text files text ≡ Some (ConfigKey name)
-key_refused files None name is = absurd (none-some name is)
-key_refused files (Some (Err other)) name is = same_key is
-key_refused files (Some (Ok config)) name is = sound_refused (first_sound config.channels) name _ is
-
--- no channel is the first with sound where none has sound
-none_loud : (channels : List ChannelView) → All (λ channel. channel.pairs ≡ 0) channels → first_sound channels ≡ None
-none_loud channels silent =
-    let quiet : list_any has_sound channels ≡ false =
-    list_any_none has_sound channels (λ at channel within. let none : (get_or channels at channel).pairs ≡ 0 = silent at channel within in grind (arith, nat_tests)) in
-    let nowhere = position_or_len_none has_sound channels quiet in
-    let none : position has_sound channels ≡ None = grind (arith, common_steps) in
-    ap (option_map (λ at. at + 1)) none
 
 -- a status of a run of a command line
 abbrev pub IsRunStatus : ℕ → Type 0
@@ -178,17 +148,15 @@ module _ (before after : Outside) where
 
   -- the first fault of files with a configuration that is accepted is that of its clips
   fault_by_clips : (path : List ℕ) (files : Files) (config : ConfigView) (answer : Result (List Entry) ScanFault) → before.media.files ≡ Some files
-      → HoldsSome (λ bytes. IsAccepted bytes config) path before.media → Tells (scanned (encode_utf8_all config.media)) answer before.media.files
+      → HoldsSome (λ bytes. config_in bytes ≡ Some (Ok config)) path before.media → Tells (scanned (encode_utf8_all config.media)) answer before.media.files
       → fault_of_files path files ≡ fault_of_clips answer
   unfolding fault_of_files
   fault_by_clips path files config answer known holds tells =
-      let held = held_such (λ bytes. IsAccepted bytes config) path files known holds in
-      let accepted : IsAccepted held.0 config = held.2 in
+      let held = held_such (λ bytes. config_in bytes ≡ Some (Ok config)) path files known holds in
       let is : answer ≡ scanned (encode_utf8_all config.media) files =
       subst (λ (f : Option Files). Tells (scanned (encode_utf8_all config.media)) answer f) known tells in
       ap (fault_of_held files) held.1
-      ∙ ap (fault_of_text files) accepted.read
-      ∙ ap (λ (o : Option ℕ). sound_or o (fault_of_clips (scanned (encode_utf8_all config.media) files))) (none_loud config.channels accepted.silent)
+      ∙ ap (fault_of_text files) held.2
       ∙ ap fault_of_clips (sym is)
 
   -- what a result says of the first fault of the files
@@ -212,8 +180,8 @@ module _ (before after : Outside) where
       let held = held_such (λ bytes. config_in bytes ≡ None) path files known sets.0 in
       ap (fault_of_held files) held.1 ∙ ap (fault_of_text files) held.2
   first_fault path files known (Err (ConfigKey name)) sets =
-      let held = held_such (λ bytes. refused_key bytes ≡ Some name) path files known sets.0 in
-      ap (fault_of_held files) held.1 ∙ key_refused files (config_in held.0) name held.2
+      let held = held_such (λ bytes. config_in bytes ≡ Some (Err name)) path files known sets.0 in
+      ap (fault_of_held files) held.1 ∙ ap (fault_of_text files) held.2
   first_fault path files known (Err (MediaTwice name)) sets = fault_by_clips path files sets.0 (Err (scan.TwoNames name)) known sets.1 sets.2.0
   first_fault path files known (Err (MediaTotal total)) sets = fault_by_clips path files sets.0 (Err (scan.TooLarge total)) known sets.1 sets.2.0
   first_fault path files known (Err Device) sets = sets.1

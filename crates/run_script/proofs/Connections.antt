@@ -1,11 +1,12 @@
 -- The connections of a script when one of them says one line more.
-use Rattle.std.proofs.Common.{◌≡◌, ℕ, ◌+◌, ◌≤◌, ◌&&◌, ◌==◌, Bool, true, false, cond, not, eqb, List, [], ◌∷◌, ◌++◌, length, length-append, get_or, set, refl, sym, ap, ap₂, ◌∙◌, subst, arith, inl}
+use Rattle.std.proofs.Common.{◌≡◌, ℕ, ◌+◌, ◌<◌, ◌≤◌, ◌&&◌, ◌==◌, Bool, true, false, cond, not, eqb, List, [], ◌∷◌, ◌++◌, length, length-append, get_or, set, refl, sym, ap, ap₂, ◌∙◌, subst, arith, inl}
 use Rattle.std.specs.Prelude.{Option, Some, None, find}
 use Rattle.std.specs.List.{position, position_or_len}
 use Rattle.std.specs.Option.{option_or}
 use Rattle.std.specs.Prelude.{nat_lt, slice_get}
 use Rattle.std.proofs.lemmas.Grind.{common_steps}
 use Rattle.std.proofs.lemmas.Bool.{lt-ltb}
+use Rattle.std.proofs.lemmas.List.Elements.{All-append, All-cons, All-head, All-nil, All-set, All-tail}
 use Rattle.std.proofs.lemmas.List.Sums.{prefix_len-le-length}
 use Rattle.std.proofs.lemmas.Bool.Decides.{nat_tests}
 use Rattle.std.proofs.lemmas.Option.{none-some, same_Some, slice_get_past, slice_get-get_or}
@@ -15,12 +16,13 @@ use Rattle.amcp_text.specs.Lines.{lines_of, IsEnded}
 use Rattle.play_types.specs.declared.event.Tag.{Tag}
 use Rattle.play_types.specs.Config.{ConfigView}
 use Rattle.play_types.specs.Media.{MediaNameView}
+use Rattle.history_model.specs.commands.Channels.{AreAimed, IsAimed}
 use Rattle.history_model.specs.scripts.History.{Playout, PlayedLine, same_tag, text_by, texts_of}
 use Rattle.history_model.proofs.Streams.{texts_of-other, stream_of-other, given_up_of-other, stream_of-none, given_up_of-none}
 use Rattle.play_session.specs.Session.{IsBetweenLines, Represents, at_start}
 use Rattle.play_session.specs.declared.step.Step.{Step}
 use Rattle.run_script.specs.declared.clients.Client.{Client}
-use Rattle.run_script.specs.inner.Clients.{IsServed, ServesConnection, IsClient, client_of, AreClients, IsPlaceOf, NextText, played_text, ClientsTakeLine, ClientTakesLine}
+use Rattle.run_script.specs.inner.Clients.{IsServed, ServesConnection, IsClient, batch_in, batch_of, client_of, AreClients, HaveAimedBatches, IsPlaceOf, NextText, played_text, step_view, ClientsTakeLine, ClientTakesLine}
 use Rattle.run_script.proofs.Speaking.{same_number, same_tag-refl}
 
 and_parts : (a b : Bool) → (a && b) ≡ true → (a ≡ true) × (b ≡ true)
@@ -84,16 +86,70 @@ tag_at tag at clients client place is =
     let found = position-Some (λ (one : Client). same_tag tag one.tag) clients at client place in
     same_tag-is tag client.tag (ap (λ (one : Client). same_tag tag one.tag) (sym is) ∙ found.1)
 
+-- the connection of a tag is the one at its place
+client_there : (tag : Tag) (at : ℕ) (clients : List Client) (client : Client) → IsPlaceOf tag at clients → get_or clients at client ≡ client → client_of tag clients ≡ Some client
+client_there tag at clients client place there =
+    let p = λ (one : Client). same_tag tag one.tag in
+    let first = position-Some p clients at client place in
+    let at_is : position_or_len p clients ≡ at = grind (arith, common_steps) in
+    find_at p clients ∙ ap (slice_get clients) at_is ∙ slice_get-get_or clients at client first.0 ∙ ap Some there
+
 -- the connection at its place is served
 pub served_at : (playout : Playout) (tag : Tag) (at : ℕ) (clients : List Client) (client : Client) (played : List PlayedLine) → IsPlaceOf tag at clients → get_or clients at client ≡ client
     → AreClients playout clients played → ServesConnection playout client played
 served_at playout tag at clients client played place there are =
+    subst (λ o. IsClient playout tag o played) (client_there tag at clients client place there) (are tag)
+
+-- its batch is that of its session
+pub batch_there : (tag : Tag) (at : ℕ) (clients : List Client) (client : Client) → IsPlaceOf tag at clients → get_or clients at client ≡ client
+    → batch_of tag clients ≡ client.session.batch
+batch_there tag at clients client place there = ap batch_in (client_there tag at clients client place there)
+
+-- where the connection at its place is replaced by one of its tag, the tag has the new one
+client_replaced : (tag : Tag) (at : ℕ) (clients : List Client) (old new : Client) → IsPlaceOf tag at clients → get_or clients at old ≡ old → new.tag ≡ old.tag
+    → client_of tag (set clients at new) ≡ Some new
+client_replaced tag at clients old new place there kept_tag =
     let p = λ (one : Client). same_tag tag one.tag in
-    let first = position-Some p clients at client place in
-    let at_is : position_or_len p clients ≡ at = grind (arith, common_steps) in
-    let found : client_of tag clients ≡ Some client =
-    find_at p clients ∙ ap (slice_get clients) at_is ∙ slice_get-get_or clients at client first.0 ∙ ap Some there in
-    subst (λ o. IsClient playout tag o played) found (are tag)
+    let first = position-Some p clients at old place in
+    let at_is : at ≡ position_or_len p clients = grind (arith, common_steps) in
+    find-set p clients at new at_is first.0 (ap (same_tag tag) (kept_tag ∙ sym (tag_at tag at clients old place there)) ∙ same_tag-refl tag)
+
+pub batch_replaced : (tag : Tag) (at : ℕ) (clients : List Client) (old new : Client) → IsPlaceOf tag at clients → get_or clients at old ≡ old → new.tag ≡ old.tag
+    → batch_of tag (set clients at new) ≡ new.session.batch
+batch_replaced tag at clients old new place there kept_tag = ap batch_in (client_replaced tag at clients old new place there kept_tag)
+
+-- the batch of the connection at a place names configured channels alone where all do
+pub aimed_there : (config : ConfigView) (at : ℕ) (clients : List Client) (client : Client) → at < length clients → get_or clients at client ≡ client
+    → HaveAimedBatches config clients → AreAimed config client.session.batch
+aimed_there config at clients client inside there aimed =
+    subst (λ (one : Client). AreAimed config one.session.batch) there (aimed at client inside)
+
+-- and all do after a change of it that keeps this
+pub aimed_replaced : (config : ConfigView) (at : ℕ) (clients : List Client) (old new : Client) → at < length clients → get_or clients at old ≡ old
+    → (AreAimed config old.session.batch → AreAimed config new.session.batch) → HaveAimedBatches config clients → HaveAimedBatches config (set clients at new)
+aimed_replaced config at clients old new inside there kept aimed =
+    All-set (λ (one : Client). AreAimed config one.session.batch) clients at new (kept (aimed_there config at clients old inside there aimed)) aimed
+
+-- a connection with an empty batch is added
+pub aimed_added : (config : ConfigView) (clients : List Client) (new : Client) → new.session.batch ≡ [] → HaveAimedBatches config clients
+    → HaveAimedBatches config (clients ++ new ∷ [])
+aimed_added config clients new none aimed =
+    All-append (λ (one : Client). AreAimed config one.session.batch) clients (new ∷ []) aimed
+    (All-cons (λ (one : Client). AreAimed config one.session.batch) new [] (subst (AreAimed config) (sym none) (All-nil (IsAimed config)))
+    (All-nil (λ (one : Client). AreAimed config one.session.batch)))
+
+-- the batch of a connection names configured channels alone where all do
+pub aimed_of : (config : ConfigView) (tag : Tag) (clients : List Client) → HaveAimedBatches config clients → AreAimed config (batch_of tag clients)
+aimed_of config tag [] aimed = All-nil (IsAimed config)
+aimed_of config tag (client ∷ clients) aimed =
+    by_test (same_tag tag client.tag)
+    (All-head (λ (one : Client). AreAimed config one.session.batch) client clients aimed)
+    (aimed_of config tag clients (All-tail (λ (one : Client). AreAimed config one.session.batch) client clients aimed))
+  where
+    by_test : (b : Bool) → AreAimed config client.session.batch → AreAimed config (batch_of tag clients)
+        → AreAimed config (batch_in (cond b (Some client) (client_of tag clients)))
+    by_test true first more = first
+    by_test false first more = more
 
 module _ (next : NextText) (found : Option Step) (clients : List Client) (at : ℕ) (old new : Client)
     (place : IsPlaceOf next.tag at clients) (there : get_or clients at old ≡ old) (are : AreClients next.playout clients next.played)
@@ -101,16 +157,15 @@ module _ (next : NextText) (found : Option Step) (clients : List Client) (at : �
   own : next.tag ≡ old.tag
   own = tag_at next.tag at clients old place there
 
+  -- its session is the one that took the line
+  own_client : client_of next.tag (set clients at new) ≡ Some new
+  own_client = client_replaced next.tag at clients old new place there kept_tag
+
   heard_tag : (other : Tag) (b : Bool) → same_tag other next.tag ≡ b → IsClient next.playout other (client_of other (set clients at new)) (next.played ++ played_text next found ∷ [])
   heard_tag other true is =
       let same = same_tag-is other next.tag is in
-      let first = position-Some (λ (one : Client). same_tag next.tag one.tag) clients at old place in
-      let at_is : at ≡ position_or_len (λ (one : Client). same_tag next.tag one.tag) clients = grind (arith, common_steps) in
-      let here : find (λ (one : Client). same_tag next.tag one.tag) (set clients at new) ≡ Some new =
-      find-set (λ (one : Client). same_tag next.tag one.tag) clients at new at_is first.0
-      (ap (same_tag next.tag) (kept_tag ∙ sym own) ∙ same_tag-refl next.tag) in
       subst (λ t. IsClient next.playout t (client_of t (set clients at new)) (next.played ++ played_text next found ∷ [])) (sym same)
-      (subst (λ o. IsClient next.playout next.tag o (next.played ++ played_text next found ∷ [])) (sym here) takes.serves)
+      (subst (λ o. IsClient next.playout next.tag o (next.played ++ played_text next found ∷ [])) (sym own_client) takes.serves)
   heard_tag other false is =
       let before : same_tag other (get_or clients at old).tag ≡ false = ap (λ (one : Client). same_tag other one.tag) there ∙ ap (same_tag other) (sym own) ∙ is in
       let after : same_tag other new.tag ≡ false = ap (same_tag other) (kept_tag ∙ sym own) ∙ is in
@@ -124,8 +179,7 @@ module _ (next : NextText) (found : Option Step) (clients : List Client) (at : �
   -- a line of one connection was taken, and the others are as before
   pub heard : ClientsTakeLine next found (set clients at new)
   heard = record {
-    commands = takes.commands;
-    given = takes.given;
+    given = takes.given ∙ ap (λ (one : Option Client). step_view found (batch_in one)) (sym own_client);
     serves = λ other. heard_tag other (same_tag other next.tag) refl;
   }
 
@@ -140,7 +194,7 @@ past_all tag clients none = by_place (nat_lt (position_or_len (λ (one : Client)
     by_place true is e = absurd (none-some (position_or_len (λ (one : Client). same_tag tag one.tag) clients) (sym e))
     by_place false is e = grind (arith, nat_tests)
 
-none_found : (tag : Tag) (clients : List Client) → position (λ (one : Client). same_tag tag one.tag) clients ≡ None → client_of tag clients ≡ None
+pub none_found : (tag : Tag) (clients : List Client) → position (λ (one : Client). same_tag tag one.tag) clients ≡ None → client_of tag clients ≡ None
 none_found tag clients none =
     let p = λ (one : Client). same_tag tag one.tag in
     find_at p clients ∙ slice_get_past clients (position_or_len p clients) (past_all tag clients none)

@@ -1,8 +1,9 @@
--- Commands that are done, and the steps of connections.
-use Rattle.std.proofs.Common.{◌≡◌, ℕ, ◌+◌, ◌<◌, ◌≤◌, Bool, true, false, List, [], ◌∷◌, ◌++◌, refl, sym, ap, ap₂, ◌∙◌, subst, arith, append-nil, append_assoc, inl, length}
-use Rattle.std.specs.Prelude.{Some, None, Result, Ok, Err, All, get_or, nat_lt, if◌then◌else◌}
+-- Requests that the stage takes or does not take, and the steps of connections.
+use Rattle.std.proofs.Common.{◌≡◌, ◌≢◌, ℕ, ◌+◌, ◌<◌, ◌≤◌, Bool, true, false, List, [], ◌∷◌, ◌++◌, refl, sym, ap, ◌∙◌, subst, arith, append-nil, append_assoc, inl, inr, length}
+use Rattle.std.specs.Prelude.{Some, None, Result, Ok, Err, All, IfErr, IfOk, OnErr, OnOk, get_or, nat_lt, if◌then◌else◌, option_map}
 use Rattle.std.proofs.lemmas.Bool.Decides.{nat_tests}
-use Rattle.std.proofs.lemmas.List.{length-map, reverse-append}
+use Rattle.std.proofs.lemmas.List.{length-map}
+use Rattle.std.proofs.lemmas.Option.{none-some}
 use Rattle.play_types.specs.Config.{ConfigView}
 use Rattle.play_types.specs.Commands.{answer_reply, command_name}
 use Rattle.play_types.specs.History.{held, stop_at, ticks}
@@ -23,27 +24,27 @@ use Rattle.play_outside.specs.SinkState.{SinkState, after_taking}
 use Rattle.play_outside.proofs.Taking.{after_taking-nil}
 use Rattle.history_model.specs.commands.Channels.{AreAimed, IsAimed}
 use Rattle.history_model.specs.commands.Channels as named
-use Rattle.history_model.specs.pictures.Frame.{frames_back, last_pixel, pictures_after}
 use Rattle.history_model.specs.pictures.Media.{Setup}
 use Rattle.history_model.specs.stage.Acts.{is_refused}
 use Rattle.history_model.specs.stage.Answer.{Answered, answer, command_answer, outcome_of}
-use Rattle.history_model.specs.stage.Plain.{IsPlain, IsPlainHistory, is_built}
 use Rattle.history_model.specs.text.Replies.{IsReplyTo, reply_lines}
-use Rattle.history_model.specs.scripts.History.{JournalFull, NotBuilt, OutOfMemory, Taken, Turn, Verdict, channel_size, is_full, is_kill, setup_of, step_events, verdict, verdict_events}
+use Rattle.history_model.specs.scripts.History.{JournalFull, OutOfMemory, Taken, Turn, Verdict, channel_size, is_full, is_kill, step_events, verdict, verdict_events}
 use Rattle.history_model.specs.scripts.Output.{reply_output, step_reply, tagged_lines, verdict_reply}
 use Rattle.history_model.specs.sessions.Session.{KillServer}
 use Rattle.history_model.specs.sessions.Session as model
-use Rattle.history_model.proofs.Scripts.{built_is_plain}
-use Rattle.history_model.proofs.places.Limits.{IsPlainHistory-append}
-use Rattle.play_scene.specs.Frames.{ArePictures}
+use Rattle.band_render.specs.Histories as frames
+use Rattle.band_render.proofs.Ticks.{represents-other}
 use Rattle.stage_core.specs.Served.{IsRouted, IsServed}
-use Rattle.stage_core.specs.Stage.{HasRoom, StageView, after_event}
+use Rattle.stage_core.specs.Stage.{HasRoom, IsNotTaken, StageView, after_event}
+use Rattle.stage_core.specs.declared.fault.ApplyFault.{ApplyFault}
+use Rattle.stage_core.specs.declared.fault.ApplyFault.TheVariants as fault
 use Rattle.server_setup.specs.declared.setup.ServerSetup.{ServerSetup}
 use Rattle.run_script.specs.declared.clients.Clients.{Clients}
 use Rattle.run_script.specs.declared.ending.Halt.{Halt}
 use Rattle.run_script.specs.declared.ending.Halt.TheVariants as halt
 use Rattle.run_script.specs.declared.player.Player.{Player}
-use Rattle.run_script.specs.inner.Player.{DoesCommand, FollowsStep, Given, IsFollowed, IsReady, MakesEvents, NextStep, WritesText, events_in, playout_in, setup_in, step_text, turn_in}
+use Rattle.run_script.specs.inner.Clients.{HaveAimedBatches}
+use Rattle.run_script.specs.inner.Player.{DoesRequest, FollowsStep, Given, IsFollowed, IsGoingOn, IsReady, MakesEvents, NextStep, RepliesTo, Request, WritesText, batch_request, command_request, events_in, playout_in, setup_in, step_text, turn_in}
 
 -- nothing happened
 pub makes_nothing : (player : Player) → MakesEvents [] player player
@@ -104,156 +105,180 @@ pub served : (player : Player) (command : Cmd) → IsReady player → IsAimed pl
 served player command ready aimed =
     subst (λ (n : ℕ). IsServed n command) (sym ready.channels) (served_by player.setup.config command aimed)
 
--- what becomes of a command
-pub not_built : (turn : Turn) (command : Cmd) → is_built command ≡ false → verdict turn command ≡ NotBuilt
-not_built turn command unbuilt =
-    ap (λ (b : Bool). if b then (if is_full turn.playout turn.events 1 then JournalFull else if turn.no_memory then OutOfMemory else Taken) else NotBuilt) unbuilt
+-- and the commands of a batch that do so
+pub each_served : (player : Player) (commands : List Cmd) → IsReady player → AreAimed player.setup.config commands → All (IsServed player.stage.channels) commands
+each_served player commands ready aimed =
+    subst (λ (n : ℕ). All (IsServed n) commands) (sym ready.channels) (each_served_by player.setup.config commands aimed)
 
-judged : (turn : Turn) (command : Cmd) (full : Bool) → is_built command ≡ true → is_full turn.playout turn.events 1 ≡ full
-    → verdict turn command ≡ (if full then JournalFull else if turn.no_memory then OutOfMemory else Taken)
-judged turn command full built is =
-    ap₂ (λ (b f : Bool). if b then (if f then JournalFull else if turn.no_memory then OutOfMemory else Taken) else NotBuilt) built is
+-- what becomes of a number of commands
+judged : (turn : Turn) (commands : ℕ) (full : Bool) → is_full turn.playout turn.events commands ≡ full
+    → verdict turn commands ≡ (if full then JournalFull else if turn.no_memory then OutOfMemory else Taken)
+judged turn commands full is = ap (λ (f : Bool). if f then JournalFull else if turn.no_memory then OutOfMemory else Taken) is
 
 -- the limit of the journal is that of the configuration
-full_by : (player : Player) → IsReady player → player.stage.journal.limit < held (events_in player) + 1 → is_full (playout_in player) (events_in player) 1 ≡ true
-full_by player ready above = let same = ready.limit in let high : player.setup.config.journal_limit < held (events_in player) + 1 = omega (arith, same, above) in tested (player.setup.config.journal_limit) (held (events_in player) + 1) high
+full_by : (player : Player) (commands : ℕ) → IsReady player → player.stage.journal.limit < held (events_in player) + commands
+    → is_full (playout_in player) (events_in player) commands ≡ true
+full_by player commands ready above =
+    let same = ready.limit in
+    let high : player.setup.config.journal_limit < held (events_in player) + commands = omega (arith, same, above) in
+    tested (player.setup.config.journal_limit) (held (events_in player) + commands) high
   where
     tested : (a b : ℕ) → a < b → nat_lt a b ≡ true
     tested a b less = grind (arith, nat_tests)
 
-room_by : (player : Player) → IsReady player → held (events_in player) + 1 ≤ player.stage.journal.limit → is_full (playout_in player) (events_in player) 1 ≡ false
-room_by player ready fits = let same = ready.limit in let low : held (events_in player) + 1 ≤ player.setup.config.journal_limit = omega (arith, same, fits) in tested (player.setup.config.journal_limit) (held (events_in player) + 1) low
+room_by : (player : Player) (commands : ℕ) → IsReady player → held (events_in player) + commands ≤ player.stage.journal.limit
+    → is_full (playout_in player) (events_in player) commands ≡ false
+room_by player commands ready fits =
+    let same = ready.limit in
+    let low : held (events_in player) + commands ≤ player.setup.config.journal_limit = omega (arith, same, fits) in
+    tested (player.setup.config.journal_limit) (held (events_in player) + commands) low
   where
     tested : (a b : ℕ) → b ≤ a → nat_lt a b ≡ false
     tested a b less = grind (arith, nat_tests)
 
--- a command that is no event, by its verdict
-refused_by : (tag : Tag) (command : Cmd) (answer : Reply) (player : Player) (no_memory : Bool) (found : Verdict) → verdict (turn_in player tag no_memory) command ≡ found
-    → answer ≡ verdict_reply (turn_in player tag no_memory) command found → verdict_events tag command found ≡ [] → DoesCommand tag command answer player player
-refused_by tag command answer player no_memory found is replies none = record {
+-- a request that is no event, by its verdict
+refused_by : (tag : Tag) (request : Request) (found : Reply) (player : Player) (no_memory : Bool) (becomes : Verdict)
+    → verdict (turn_in player tag no_memory) request.commands ≡ becomes → found ≡ verdict_reply request.name request.answer becomes
+    → verdict_events request.event becomes ≡ [] → DoesRequest tag request found player player
+refused_by tag request found player no_memory becomes is replies none = record {
   no_memory = no_memory;
-  replies = replies ∙ ap (verdict_reply (turn_in player tag no_memory) command) (sym is);
-  makes = subst (λ es. MakesEvents es player player) (sym none ∙ ap (verdict_events tag command) (sym is)) (makes_nothing player);
+  replies = replies ∙ ap (verdict_reply request.name request.answer) (sym is);
+  makes = subst (λ es. MakesEvents es player player) (sym none ∙ ap (verdict_events request.event) (sym is)) (makes_nothing player);
 }
 
--- a command that cannot be done yet
-pub does_unbuilt : (tag : Tag) (command : Cmd) (player : Player) → is_built command ≡ false → DoesCommand tag command (reply.Refused 403 (command_name command)) player player
-does_unbuilt tag command player unbuilt =
-    refused_by tag command (reply.Refused 403 (command_name command)) player false NotBuilt (not_built (turn_in player tag false) command unbuilt) refl refl
+-- what the stage made of a request is told by the reply, and it is an event where the stage took it
+pub does_request : (tag : Tag) (request : Request) (taken : Result Answer ApplyFault) (found : Reply) (player : Player) (stage : StageView) → IsReady player
+    → IfOk taken (λ given. given ≡ request.answer) → OnOk taken (stage ≡ after_event request.event player.stage)
+    → OnOk taken (HasRoom player.stage.journal request.commands) → OnErr taken (stage ≡ player.stage)
+    → IfErr taken (λ reason. IsNotTaken player.stage.journal request.commands reason) → RepliesTo request.name taken found
+    → DoesRequest tag request found player (record player { stage = stage })
+does_request tag request (Ok given) found player stage ready answers made room kept cause replies =
+    let is = judged (turn_in player tag false) request.commands false (room_by player request.commands ready room.commands) in
+    record {
+      no_memory = false;
+      replies = replies ∙ ap (answer_reply request.name) answers ∙ ap (verdict_reply request.name request.answer) (sym is);
+      makes = subst (λ es. MakesEvents es player (record player { stage = stage })) (ap (verdict_events request.event) (sym is))
+          (makes_event player request.event stage made);
+    }
+does_request tag request (Err fault.OutOfMemory) found player stage ready answers made room kept cause replies =
+    subst (λ s. DoesRequest tag request found player (record player { stage = s })) (sym kept)
+    (refused_by tag request found player true OutOfMemory
+    (judged (turn_in player tag true) request.commands false (room_by player request.commands ready cause.commands)) replies refl)
+does_request tag request (Err (fault.JournalFull already)) found player stage ready answers made room kept cause replies =
+    subst (λ s. DoesRequest tag request found player (record player { stage = s })) (sym kept)
+    (refused_by tag request found player false JournalFull
+    (judged (turn_in player tag false) request.commands true (full_by player request.commands ready cause.1)) replies refl)
+does_request tag request (Err (fault.Ended at)) found player stage ready answers made room kept cause replies = absurd replies
 
--- a command above the limit of the journal
-pub does_full : (tag : Tag) (command : Cmd) (player : Player) → IsReady player → is_built command ≡ true → player.stage.journal.limit < held (events_in player) + 1
-    → DoesCommand tag command (reply.Refused 503 (command_name command)) player player
-does_full tag command player ready built above =
-    refused_by tag command (reply.Refused 503 (command_name command)) player false JournalFull
-    (judged (turn_in player tag false) command true built (full_by player ready above)) refl refl
+-- a history without a stop has not ended
+pub going_on : (player : Player) (commands : ℕ) (taken : Result Answer ApplyFault) → IsReady player
+    → IfErr taken (λ reason. IsNotTaken player.stage.journal commands reason) → IsGoingOn taken
+going_on player commands (Ok given) ready cause = tt
+going_on player commands (Err fault.OutOfMemory) ready cause = tt
+going_on player commands (Err (fault.JournalFull already)) ready cause = tt
+going_on player commands (Err (fault.Ended at)) ready cause = absurd (none-some at (sym ready.running ∙ cause))
 
--- a command for which there is no memory
-pub does_without_memory : (tag : Tag) (command : Cmd) (player : Player) → IsReady player → is_built command ≡ true → HasRoom player.stage.journal 1
-    → DoesCommand tag command (reply.Refused 501 (command_name command)) player player
-does_without_memory tag command player ready built room =
-    refused_by tag command (reply.Refused 501 (command_name command)) player true OutOfMemory
-    (judged (turn_in player tag true) command false built (room_by player ready room.commands)) refl refl
-
--- a command that the stage took
+-- the answer to a command that the stage took
 same_answer : (one other : Answer) → Answered one ≡ Answered other → one ≡ other
 same_answer one other e = cc
 
-answered : (setup : Setup) (events : List Event) (tag : Tag) (command : Cmd) (found : Answer) → answer setup events (event.Do tag command) ≡ Answered found
-    → found ≡ command_answer setup events (is_refused events (event.Do tag command)) command
-unfolding answer
-answered setup events tag command found is = sym (same_answer (command_answer setup events (is_refused events (event.Do tag command)) command) found is)
-
 -- the setup has the channels of the stage
-pub channels_of : (player : Player) → IsReady player → length (setup_of (playout_in player)).channels ≡ player.stage.channels
+channels_of : (player : Player) → IsReady player → length (setup_in player).channels ≡ player.stage.channels
 channels_of player ready = length-map player.setup.config.channels channel_size ∙ sym ready.channels
 
-pub does_taken : (tag : Tag) (command : Cmd) (found : Answer) (player : Player) (stage : StageView) → IsReady player → is_built command ≡ true → HasRoom player.stage.journal 1
-    → ((setup : Setup) → length setup.channels ≡ player.stage.channels → answer setup (events_in player) (event.Do tag command) ≡ Answered found)
-    → stage ≡ after_event (event.Do tag command) player.stage
-    → DoesCommand tag command (answer_reply (command_name command) found) player (record player { stage = stage })
-does_taken tag command found player stage ready built room answers is =
-    let taken = judged (turn_in player tag false) command false built (room_by player ready room.commands) in
-    record {
-      no_memory = false;
-      replies = ap (answer_reply (command_name command)) (answered (setup_of (playout_in player)) (events_in player) tag command found (answers (setup_of (playout_in player)) (channels_of player ready)))
-          ∙ ap (verdict_reply (turn_in player tag false) command) (sym taken);
-      makes = subst (λ es. MakesEvents es player (record player { stage = stage })) (ap (verdict_events tag command) (sym taken))
-          (makes_event player (event.Do tag command) stage is);
-    }
+pub command_answered : (player : Player) (tag : Tag) (command : Cmd) (taken : Result Answer ApplyFault) → IsReady player
+    → IfOk taken (λ given. (setup : Setup) → length setup.channels ≡ player.stage.channels → answer setup (events_in player) (event.Do tag command) ≡ Answered given)
+    → IfOk taken (λ given. given ≡ (command_request player tag command).answer)
+unfolding answer
+command_answered player tag command (Ok given) ready answers =
+    sym (same_answer (command_request player tag command).answer given (answers (setup_in player) (channels_of player ready)))
+command_answered player tag command (Err reason) ready answers = tt
 
--- the answer to a plain command is that it was done or refused
-plain_answer : (setup : Setup) (events : List Event) (refused : Bool) (command : Cmd) → IsPlain command → command_answer setup events refused command ≡ outcome_of refused
-plain_answer setup events refused (Load place take) plain = refl
-plain_answer setup events refused (LoadBg place take) plain = refl
-plain_answer setup events refused (Play place) plain = refl
-plain_answer setup events refused (PlayTake place take) plain = refl
-plain_answer setup events refused (Pause place) plain = refl
-plain_answer setup events refused (Resume place) plain = refl
-plain_answer setup events refused (StopLayer place) plain = refl
-plain_answer setup events refused (ClearLayer place) plain = refl
-plain_answer setup events refused (ClearChannel channel) plain = refl
-plain_answer setup events refused (SwapLayers a b transforms) plain = absurd plain
-plain_answer setup events refused (SwapChannels a b transforms) plain = absurd plain
-plain_answer setup events refused (Set setting) plain = absurd plain
-plain_answer setup events refused (CommitMixer channel) plain = absurd plain
-plain_answer setup events refused (ResetLayer place) plain = absurd plain
-plain_answer setup events refused (ResetChannel channel) plain = absurd plain
-plain_answer setup events refused (Value place prop) plain = absurd plain
-plain_answer setup events refused Info plain = absurd plain
+-- the answer to a batch that the stage took
+pub batch_answered : (player : Player) (tag : Tag) (commands : List Cmd) (taken : Result Answer ApplyFault)
+    → IfOk taken (λ given. (setup : Setup) → answer setup (events_in player) (event.Batch tag commands) ≡ Answered given)
+    → IfOk taken (λ given. given ≡ (batch_request player tag commands).answer)
+unfolding answer
+batch_answered player tag commands (Ok given) answers = sym (same_answer (batch_request player tag commands).answer given (answers (setup_in player)))
+batch_answered player tag commands (Err reason) answers = tt
 
-outcome_fits : (config : ConfigView) (command : Name) (refused : Bool) → IsReplyTo config (answer_reply command (outcome_of refused))
-outcome_fits config command true = inl (omega arith, omega arith)
-outcome_fits config command false = tt
+-- done and refused are told by replies of every configuration
+outcome_fits : (config : ConfigView) (asked : Name) (refused : Bool) → IsReplyTo config (answer_reply asked (outcome_of refused))
+outcome_fits config asked true = inl (omega arith, omega arith)
+outcome_fits config asked false = tt
 
--- and its reply is one of a configuration
-pub answer_fits : (config : ConfigView) (setup : Setup) (events : List Event) (tag : Tag) (command : Cmd) (found : Answer) → is_built command ≡ true
-    → answer setup events (event.Do tag command) ≡ Answered found → IsReplyTo config (answer_reply (command_name command) found)
-answer_fits config setup events tag command found built is =
-    let refused = is_refused events (event.Do tag command) in
-    let outcome : found ≡ outcome_of refused = answered setup events tag command found is ∙ plain_answer setup events refused command (built_is_plain command built) in
-    subst (λ a. IsReplyTo config (answer_reply (command_name command) a)) (sym outcome) (outcome_fits config (command_name command) refused)
+-- the answer to a command is told by a reply of the configuration
+answer_fits : (player : Player) (refused : Bool) (command : Cmd) → IsReplyTo player.setup.config (answer_reply (command_name command) (command_answer (setup_in player) (events_in player) refused command))
+answer_fits player refused (Load place take) = outcome_fits player.setup.config name.Load refused
+answer_fits player refused (LoadBg place take) = outcome_fits player.setup.config name.LoadBg refused
+answer_fits player refused (Play place) = outcome_fits player.setup.config name.Play refused
+answer_fits player refused (PlayTake place take) = outcome_fits player.setup.config name.Play refused
+answer_fits player refused (Pause place) = outcome_fits player.setup.config name.Pause refused
+answer_fits player refused (Resume place) = outcome_fits player.setup.config name.Resume refused
+answer_fits player refused (StopLayer place) = outcome_fits player.setup.config name.Stop refused
+answer_fits player refused (ClearLayer place) = outcome_fits player.setup.config name.Clear refused
+answer_fits player refused (ClearChannel channel) = outcome_fits player.setup.config name.Clear refused
+answer_fits player refused (SwapLayers a b transforms) = outcome_fits player.setup.config name.Swap refused
+answer_fits player refused (SwapChannels a b transforms) = outcome_fits player.setup.config name.Swap refused
+answer_fits player refused (Set setting) = outcome_fits player.setup.config name.Mixer refused
+answer_fits player refused (CommitMixer channel) = outcome_fits player.setup.config name.Mixer refused
+answer_fits player refused (ResetLayer place) = outcome_fits player.setup.config name.Mixer refused
+answer_fits player refused (ResetChannel channel) = outcome_fits player.setup.config name.Mixer refused
+answer_fits player refused (Value place prop) = tt
+answer_fits player refused Info = length-map player.setup.config.channels channel_size
 
--- a command changes no frame that was shown
-last_pixel-do : (setup : Setup) (history : List Event) (tag : Tag) (command : Cmd) (channel x y : ℕ)
-    → last_pixel setup (history ++ event.Do tag command ∷ []) channel x y ≡ last_pixel setup history channel x y
-unfolding last_pixel
-last_pixel-do setup history tag command channel x y =
-    ap (λ back. frames_back setup back channel x y) (reverse-append history (event.Do tag command ∷ []))
+-- a reply to a request whose answer fits
+reply_fits : (config : ConfigView) (asked : Name) (given : Answer) (taken : Result Answer ApplyFault) (found : Reply) → IsReplyTo config (answer_reply asked given)
+    → IfOk taken (λ one. one ≡ given) → RepliesTo asked taken found → IsReplyTo config found
+reply_fits config asked given (Ok one) found fits answers replies =
+    subst (IsReplyTo config) (sym (replies ∙ ap (answer_reply asked) answers)) fits
+reply_fits config asked given (Err fault.OutOfMemory) found fits answers replies = subst (IsReplyTo config) (sym replies) (inr (omega arith, omega arith))
+reply_fits config asked given (Err (fault.JournalFull already)) found fits answers replies = subst (IsReplyTo config) (sym replies) (inr (omega arith, omega arith))
+reply_fits config asked given (Err (fault.Ended at)) found fits answers replies = absurd replies
 
--- the player goes on after a plain command
-pub ready_after : (tag : Tag) (command : Cmd) (player : Player) (stage : StageView) → IsReady player → IsPlain command → stage ≡ after_event (event.Do tag command) player.stage
-    → IsReady (record player { stage = stage })
-ready_after tag command player stage ready plain is =
+pub command_fits : (player : Player) (tag : Tag) (command : Cmd) (taken : Result Answer ApplyFault) (found : Reply)
+    → IfOk taken (λ one. one ≡ (command_request player tag command).answer) → RepliesTo (command_name command) taken found → IsReplyTo player.setup.config found
+command_fits player tag command taken found answers replies =
+    reply_fits player.setup.config (command_name command) (command_request player tag command).answer taken found
+    (answer_fits player (is_refused (events_in player) (event.Do tag command)) command) answers replies
+
+pub batch_fits : (player : Player) (tag : Tag) (commands : List Cmd) (taken : Result Answer ApplyFault) (found : Reply)
+    → IfOk taken (λ one. one ≡ (batch_request player tag commands).answer) → RepliesTo name.Commit taken found → IsReplyTo player.setup.config found
+batch_fits player tag commands taken found answers replies =
+    reply_fits player.setup.config name.Commit (batch_request player tag commands).answer taken found
+    (outcome_fits player.setup.config name.Commit (is_refused (events_in player) (event.Batch tag commands))) answers replies
+
+-- the player goes on after a command or a batch, whether the stage took it or not
+pub ready_after : (one : Event) (taken : Result Answer ApplyFault) (player : Player) (stage : StageView) → one ≢ event.Tick → stop_at (one ∷ []) ≡ None
+    → IsReady player → OnOk taken (stage ≡ after_event one player.stage) → OnErr taken (stage ≡ player.stage) → IsReady (record player { stage = stage })
+ready_after one (Ok given) player stage other goes ready made kept =
     let events = events_in player in
-    let more = event.Do tag command ∷ [] in
-    let history : stage.journal.events ≡ events ++ more = ap (λ (s : StageView). s.journal.events) is in
-    let pictures : ArePictures (pictures_after (setup_in player) (events ++ more)) player.shown player.setup.media = record {
-      clips = ready.pictures.clips;
-      sizes = ready.pictures.sizes;
-      pixels = λ channel x y configured h k. last_pixel-do (setup_in player) events tag command channel x y ∙ ready.pictures.pixels channel x y configured h k;
-    } in
+    let history : stage.journal.events ≡ events ++ one ∷ [] = ap (λ (s : StageView). s.journal.events) made in
     record {
-      silent = ready.silent;
-      limit = ap (λ (s : StageView). s.journal.limit) is ∙ ready.limit;
-      channels = ap (λ (s : StageView). s.channels) is ∙ ready.channels;
+      limit = ap (λ (s : StageView). s.journal.limit) made ∙ ready.limit;
+      channels = ap (λ (s : StageView). s.channels) made ∙ ready.channels;
       scenes = ready.scenes;
-      sizes = ready.sizes;
-      pictures = subst (λ es. ArePictures (pictures_after (setup_in player) es) player.shown player.setup.media) (sym history) pictures;
-      plain = subst IsPlainHistory (sym history) (IsPlainHistory-append events more ready.plain (plain, tt));
-      running = ap stop_at history ∙ stop_at-append events more ready.running;
+      batches = ready.batches;
+      frames = subst (λ es. frames.Represents (setup_in player) es player.setup.media player.renderer) (sym history)
+          (represents-other (setup_in player) events one player.setup.media player.renderer other ready.frames);
+      running = ap stop_at history ∙ stop_at-append events (one ∷ []) ready.running ∙ ap (option_map (λ n. length events + n)) goes;
     }
+ready_after one (Err reason) player stage other goes ready made kept = subst (λ s. IsReady (record player { stage = s })) (sym kept) ready
+
+-- and no tick was made
+pub no_tick_after : (one : Event) (taken : Result Answer ApplyFault) (player : Player) (stage : StageView) → ticks (one ∷ []) ≡ 0
+    → OnOk taken (stage ≡ after_event one player.stage) → OnErr taken (stage ≡ player.stage) → ticks stage.journal.events ≡ ticks (events_in player)
+no_tick_after one (Ok given) player stage none made kept = ticks_kept one player stage none made
+no_tick_after one (Err reason) player stage none made kept = ap (λ (s : StageView). ticks s.journal.events) kept
 
 -- the player goes on with other connections
-pub ready_clients : (player : Player) (clients : Clients) → IsReady player → IsReady (record player { clients = clients })
-ready_clients player clients ready = record {
-  silent = ready.silent;
+pub ready_clients : (player : Player) (clients : Clients) → IsReady player → HaveAimedBatches player.setup.config clients.list.items → IsReady (record player { clients = clients })
+ready_clients player clients ready aimed = record {
   limit = ready.limit;
   channels = ready.channels;
   scenes = ready.scenes;
-  sizes = ready.sizes;
-  pictures = ready.pictures;
-  plain = ready.plain;
+  batches = aimed;
+  frames = ready.frames;
   running = ready.running;
 }
 
@@ -273,40 +298,59 @@ followed next answer result made before after replies makes goes writes =
 
 -- a reply that needs nothing of the stage was written
 pub follows_local : (given : Given) (answer : Reply) (result : Result (Unit {0}) Halt) (before after : SinkState)
-    → ((commands : List Cmd) → (step_reply (turn_in given.player given.tag false) (given.step commands) ≡ Some answer)
-    × (step_events (turn_in given.player given.tag false) (given.step commands) ≡ []) × (is_kill (given.step commands) ≡ false))
+    → step_reply (turn_in given.player given.tag false) given.step ≡ Some answer
+    → step_events (turn_in given.player given.tag false) given.step ≡ [] → is_kill given.step ≡ false
     → WritesText result (tagged_lines given.tag (reply_lines given.player.setup.config given.player.setup.names answer)) before after
     → FollowsStep given result given.player before after
-follows_local given answer result before after says writes = record {
+follows_local given answer result before after replies none goes writes = record {
   no_memory = false;
   made = [];
   makes = makes_nothing given.player;
-  follows = λ commands.
-      followed (record { turn = turn_in given.player given.tag false; step = given.step commands }) answer result [] before after
-      (says commands).0 (sym (says commands).1) (says commands).2 writes;
+  follows = followed (record { turn = turn_in given.player given.tag false; step = given.step }) answer result [] before after replies (sym none) goes writes;
 }
 
--- a command was done, and the reply to it was written
-pub follows_command : (given : Given) (command : Cmd) (answer : Reply) (result : Result (Unit {0}) Halt) (new : Player) (before after : SinkState)
-    → ((commands : List Cmd) → given.step commands ≡ Some (model.Ask command)) → DoesCommand given.tag command answer given.player new
+-- a request was done, and the reply to it was written
+follows_request : (given : Given) (request : Request) (answer : Reply) (result : Result (Unit {0}) Halt) (new : Player) (before after : SinkState)
+    → (does : DoesRequest given.tag request answer given.player new)
+    → step_reply (turn_in given.player given.tag does.no_memory) given.step
+    ≡ Some (verdict_reply request.name request.answer (verdict (turn_in given.player given.tag does.no_memory) request.commands))
+    → step_events (turn_in given.player given.tag does.no_memory) given.step
+    ≡ verdict_events request.event (verdict (turn_in given.player given.tag does.no_memory) request.commands)
+    → is_kill given.step ≡ false
     → WritesText result (tagged_lines given.tag (reply_lines new.setup.config new.setup.names answer)) before after
     → FollowsStep given result new before after
-follows_command given command answer result new before after asks does writes =
+follows_request given request answer result new before after does replies makes goes writes =
     let turn = turn_in given.player given.tag does.no_memory in
     let written : WritesText result (tagged_lines given.tag (reply_lines given.player.setup.config given.player.setup.names answer)) before after =
     subst (λ (s : ServerSetup). WritesText result (tagged_lines given.tag (reply_lines s.config s.names answer)) before after) does.makes.setup writes in
     record {
       no_memory = does.no_memory;
-      made = verdict_events given.tag command (verdict turn command);
+      made = verdict_events request.event (verdict turn request.commands);
       makes = does.makes;
-      follows = λ commands.
-          subst (λ s. IsFollowed (record { turn = turn; step = s }) result (verdict_events given.tag command (verdict turn command)) before after) (sym (asks commands))
-          (followed (record { turn = turn; step = Some (model.Ask command) }) answer result (verdict_events given.tag command (verdict turn command)) before after
-          (ap Some (sym does.replies)) refl refl written);
+      follows = followed (record { turn = turn; step = given.step }) answer result (verdict_events request.event (verdict turn request.commands)) before after
+          (replies ∙ ap Some (sym does.replies)) (sym makes) goes written;
     }
 
+pub follows_command : (given : Given) (command : Cmd) (answer : Reply) (result : Result (Unit {0}) Halt) (new : Player) (before after : SinkState)
+    → given.step ≡ Some (model.Ask command) → DoesRequest given.tag (command_request given.player given.tag command) answer given.player new
+    → WritesText result (tagged_lines given.tag (reply_lines new.setup.config new.setup.names answer)) before after
+    → FollowsStep given result new before after
+follows_command given command answer result new before after asks does writes =
+    let turn = turn_in given.player given.tag does.no_memory in
+    follows_request given (command_request given.player given.tag command) answer result new before after does
+    (ap (step_reply turn) asks) (ap (step_events turn) asks) (ap is_kill asks) writes
+
+pub follows_batch : (given : Given) (commands : List Cmd) (answer : Reply) (result : Result (Unit {0}) Halt) (new : Player) (before after : SinkState)
+    → given.step ≡ Some (model.AskBatch commands) → DoesRequest given.tag (batch_request given.player given.tag commands) answer given.player new
+    → WritesText result (tagged_lines given.tag (reply_lines new.setup.config new.setup.names answer)) before after
+    → FollowsStep given result new before after
+follows_batch given commands answer result new before after asks does writes =
+    let turn = turn_in given.player given.tag does.no_memory in
+    follows_request given (batch_request given.player given.tag commands) answer result new before after does
+    (ap (step_reply turn) asks) (ap (step_events turn) asks) (ap is_kill asks) writes
+
 -- the connection's kill was answered, and the history ended
-pub follows_kill : (given : Given) (new : Player) (before after : SinkState) → ((commands : List Cmd) → given.step commands ≡ Some KillServer)
+pub follows_kill : (given : Given) (new : Player) (before after : SinkState) → given.step ≡ Some KillServer
     → MakesEvents (event.Stop given.tag ∷ []) given.player new
     → after ≡ after_taking before (tagged_lines given.tag (reply_lines new.setup.config new.setup.names (reply.Done name.Kill)))
     → FollowsStep given (Err halt.Stop) new before after
@@ -314,14 +358,13 @@ follows_kill given new before after kills makes written = record {
   no_memory = false;
   made = event.Stop given.tag ∷ [];
   makes = makes;
-  follows = λ commands.
-      subst (λ s. IsFollowed (record { turn = turn_in given.player given.tag false; step = s }) (Err halt.Stop) (event.Stop given.tag ∷ []) before after)
-      (sym (kills commands))
+  follows =
+      subst (λ s. IsFollowed (record { turn = turn_in given.player given.tag false; step = s }) (Err halt.Stop) (event.Stop given.tag ∷ []) before after) (sym kills)
       (refl, refl, written ∙ ap (λ (s : ServerSetup). after_taking before (tagged_lines given.tag (reply_lines s.config s.names (reply.Done name.Kill)))) makes.setup);
 }
 
 -- the answer to it was not written
-pub kill_failed : (given : Given) (reason : Halt) (new : Player) (before after : SinkState) → ((commands : List Cmd) → given.step commands ≡ Some KillServer)
+pub kill_failed : (given : Given) (reason : Halt) (new : Player) (before after : SinkState) → given.step ≡ Some KillServer
     → MakesEvents (event.Stop given.tag ∷ []) given.player new
     → WritesText (Err reason) (tagged_lines given.tag (reply_lines new.setup.config new.setup.names (reply.Done name.Kill))) before after
     → FollowsStep given (Err reason) new before after
@@ -329,9 +372,8 @@ kill_failed given reason new before after kills makes writes = record {
   no_memory = false;
   made = event.Stop given.tag ∷ [];
   makes = makes;
-  follows = λ commands.
-      subst (λ s. IsFollowed (record { turn = turn_in given.player given.tag false; step = s }) (Err reason) (event.Stop given.tag ∷ []) before after)
-      (sym (kills commands))
+  follows =
+      subst (λ s. IsFollowed (record { turn = turn_in given.player given.tag false; step = s }) (Err reason) (event.Stop given.tag ∷ []) before after) (sym kills)
       (by_reason reason
       (subst (λ (s : ServerSetup). WritesText (Err reason) (tagged_lines given.tag (reply_lines s.config s.names (reply.Done name.Kill))) before after) makes.setup writes));
 }
@@ -346,16 +388,15 @@ kill_failed given reason new before after kills makes writes = record {
 
 -- nothing was done
 pub follows_nothing : (given : Given) (done : Unit {0}) (state : SinkState)
-    → ((commands : List Cmd) → (step_reply (turn_in given.player given.tag false) (given.step commands) ≡ None)
-    × (step_events (turn_in given.player given.tag false) (given.step commands) ≡ []) × (is_kill (given.step commands) ≡ false))
-    → FollowsStep given (Ok done) given.player state state
-follows_nothing given done state says = record {
+    → step_reply (turn_in given.player given.tag false) given.step ≡ None → step_events (turn_in given.player given.tag false) given.step ≡ []
+    → is_kill given.step ≡ false → FollowsStep given (Ok done) given.player state state
+follows_nothing given done state replies none goes = record {
   no_memory = false;
   made = [];
   makes = makes_nothing given.player;
-  follows = λ commands. (
-    (says commands).2,
-    sym (says commands).1,
-    sym (after_taking-nil state) ∙ ap (λ o. after_taking state (reply_output (playout_in given.player) given.tag o)) (sym (says commands).0),
+  follows = (
+    goes,
+    sym none,
+    sym (after_taking-nil state) ∙ ap (λ o. after_taking state (reply_output (playout_in given.player) given.tag o)) (sym replies),
   );
 }

@@ -1,7 +1,6 @@
 -- What a line makes of the player and of the output.
 use Rattle.std.proofs.Common.{◌≡◌, ℕ, true, false, List, [], ◌∷◌, ◌++◌, refl, sym, ap, ap₂, ◌∙◌, subst, subst₂, replicate, append-nil}
 use Rattle.std.specs.Prelude.{Option, Result, Ok, Err, OnOk}
-use Rattle.play_types.specs.declared.command.Cmd.{Cmd}
 use Rattle.play_types.specs.declared.event.Event.{Event}
 use Rattle.play_types.specs.declared.event.Tag.{Tag}
 use Rattle.play_types.specs.declared.event.Event.TheVariants as event
@@ -18,7 +17,7 @@ use Rattle.run_script.specs.declared.ending.Halt.{Halt}
 use Rattle.run_script.specs.declared.ending.Halt.TheVariants as halt
 use Rattle.run_script.specs.declared.player.Player.{Player}
 use Rattle.run_script.specs.Program.{playout_of}
-use Rattle.run_script.specs.inner.Clients.{AreClients, NextText, ClientsTakeLine, gave_up, played_text, step_view}
+use Rattle.run_script.specs.inner.Clients.{AreClients, NextText, ClientsTakeLine, batch_of, gave_up, played_text, step_view}
 use Rattle.run_script.specs.inner.Player.{FollowsStep, IsFollowed, MakesEvents, PlaysLine, Represents, WritesText, events_in, no_marks, playout_in, turn_in}
 use Rattle.run_script.proofs.Connections.{clients_other}
 
@@ -82,18 +81,18 @@ module _ (next : NextText) (found : Option Found) (old new : Player) (made : Lis
   said_played (Err halt.Memory) follows = absurd follows
   said_played (Err halt.Rejected) follows = absurd follows
 
-pub step_followed : (next : NextText) (found : Option Found) (steps : List Cmd → Option Step) (result : Result (Unit {0}) Halt) (old new : Player) (before after : SinkState)
+pub step_followed : (next : NextText) (found : Option Found) (step : Option Step) (result : Result (Unit {0}) Halt) (old new : Player) (before after : SinkState)
     → goes_on next.playout next.played ≡ true → playout_in old ≡ next.playout → events_in old ≡ script_events next.playout next.played
-    → (follows : FollowsStep (record { player = old; tag = next.tag; step = steps }) result new before after) → next.no_memory ≡ follows.no_memory
-    → ClientsTakeLine next found old.clients.list.items → ((commands : List Cmd) → step_view found commands ≡ steps commands)
+    → (follows : FollowsStep (record { player = old; tag = next.tag; step = step }) result new before after) → next.no_memory ≡ follows.no_memory
+    → ClientsTakeLine next found old.clients.list.items → step_view found (batch_of next.tag old.clients.list.items) ≡ step
     → PlaysLine (record { playout = next.playout; before = next.played; line = Said next.tag next.text }) result new before after
-step_followed next found steps result old new before after runs_on on history follows marked takes viewed =
+step_followed next found step result old new before after runs_on on history follows marked takes viewed =
     let line = played_text next found in
-    let step : steps takes.commands ≡ said_step next.playout next.played line next.tag = sym (takes.given ∙ viewed takes.commands) in
+    let given : step ≡ said_step next.playout next.played line next.tag = sym (takes.given ∙ viewed) in
     let turn : turn_in old next.tag follows.no_memory ≡ turn_of next.playout (script_events next.playout next.played) line next.tag =
     ap (turn_in old next.tag) (sym marked) ∙ ap₂ (λ p es. record { playout = p; events = es; tag = next.tag; no_memory = next.no_memory }) on history in
     said_played next found old new follows.made before after runs_on on history follows.makes takes.serves result
-    (subst₂ (λ t s. IsFollowed (record { turn = t; step = s }) result follows.made before after) turn step (follows.follows takes.commands))
+    (subst₂ (λ t s. IsFollowed (record { turn = t; step = s }) result follows.made before after) turn given follows.follows)
 
 -- `count` ticks are what their line says
 pub ticks_played : (playout : Playout) (played : List PlayedLine) (count : ℕ) (line : ScriptLine) (result : Result (Unit {0}) Halt) (old new : Player) (before after : SinkState)

@@ -142,7 +142,6 @@ spoken next client new found was none gives between old_tag new_tag =
       served = served_by playout same all new.session.ended refl count stands between;
     } in
     record {
-      commands = new.session.batch;
       given = ap₂ (λ g s. slice_get (steps playout.config playout.names g s) given) (sym lost) stream ∙ step.0;
       serves = subst (λ t. ServesConnection playout (record { tag = t; session = new.session }) all) (sym new_tag) serves;
     }
@@ -184,7 +183,6 @@ passed_over next client own none serves over =
           (ap (list_any is_end) (same ∙ longer.whole) ∙ any_prefix (line_steps playout.config playout.names given_up lines) longer.added ended);
     } in
     record {
-      commands = [];
       given = ap (λ ss. slice_get (until_end ss) (length (texts_of tag played))) same
           ∙ ap (λ ss. slice_get ss (length (texts_of tag played))) ends_all ∙ past;
       serves = subst (λ t. ServesConnection playout (record client { tag = t }) all) (sym own) after;

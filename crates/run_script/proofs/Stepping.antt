@@ -19,6 +19,11 @@ from_ok (Err fault) value is holds = cc
 pub from_if : {T E : Type 0} (P : T → Type 0) (result : Result T E) (value : T) → result ≡ Ok value → IfOk result P → P value
 from_if P result value is holds = subst (λ r. IfOk r P) is holds
 
+-- what holds holds where there is a value
+pub always : {T E A : Type 0} (result : Result T E) → A → OnOk result A
+always (Ok value) holds = holds
+always (Err fault) holds = tt
+
 -- a tick is taken where the history has no stop and may have more ticks
 pub tick_taken : (stage : StageView) (result : Result ℕ TickFault) → IfErr result (λ fault. IsNoTick stage.journal fault)
     → stop_at stage.journal.events ≡ None → ticks stage.journal.events < MAX_TICKS → is_ok result ≡ true

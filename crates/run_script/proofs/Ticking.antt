@@ -1,4 +1,4 @@
--- Ticks and their channels, one after another.
+-- Texts and ticks, one after another.
 use Rattle.std.proofs.Common.{◌≡◌, ℕ, zero, suc, ◌+◌, ◌-◌, ◌<◌, List, [], ◌∷◌, ◌++◌, replicate, refl, sym, ap, ◌∙◌, arith, append-nil, append_assoc}
 use Rattle.std.specs.Prelude.{Err, flat_map}
 use Rattle.std.specs.List.{range_with_len}
@@ -13,7 +13,7 @@ use Rattle.history_model.specs.scripts.Output.{tick_output, ticks_output}
 use Rattle.history_model.proofs.Outputs.{ticks_output-snoc, ticks_output-none}
 use Rattle.run_script.specs.declared.ending.Halt.{Halt}
 use Rattle.run_script.specs.declared.ending.Halt.TheVariants as halt
-use Rattle.run_script.specs.inner.Player.{WritesText, channel_text}
+use Rattle.run_script.specs.inner.Player.{WritesText}
 
 replicate-more : {A : Type 0} (n : ℕ) (x : A) → replicate n x ++ x ∷ [] ≡ replicate (n + 1) x
 replicate-more zero x = refl
@@ -34,48 +34,47 @@ range-snoc first (suc count) =
     ∙ ap (λ (l : List ℕ). first ∷ l) (range-snoc (first + 1) count
     ∙ ap (λ (n : ℕ). range_with_len (first + 1) count ++ n ∷ []) (let same : first + 1 + count ≡ first + suc count = omega arith in same))
 
--- what is written for the channels before the one at a place
-abbrev pub channel_texts : Playout → List Event → ℕ → List ℕ
-channel_texts playout events at = flat_map (channel_text playout events) (range_with_len 1 at)
+-- what is written for the numbers from 1 to this one
+abbrev pub texts_to : (ℕ → List ℕ) → ℕ → List ℕ
+texts_to text at = flat_map text (range_with_len 1 at)
 
-channel_texts-more : (playout : Playout) (events : List Event) (at : ℕ) → channel_texts playout events (at + 1) ≡ channel_texts playout events at ++ channel_text playout events (at + 1)
-channel_texts-more playout events at =
-    let f = channel_text playout events in
-    ap (flat_map f) (range-snoc 1 at)
-    ∙ flat_map-append f (range_with_len 1 at) ((1 + at) ∷ [])
-    ∙ ap (λ (l : List ℕ). channel_texts playout events at ++ l) (append-nil (f (1 + at)))
-    ∙ ap (λ (n : ℕ). channel_texts playout events at ++ f n) (let same : 1 + at ≡ at + 1 = omega arith in same)
+texts_to-more : (text : ℕ → List ℕ) (at : ℕ) → texts_to text (at + 1) ≡ texts_to text at ++ text (at + 1)
+texts_to-more text at =
+    ap (flat_map text) (range-snoc 1 at)
+    ∙ flat_map-append text (range_with_len 1 at) ((1 + at) ∷ [])
+    ∙ ap (λ (l : List ℕ). texts_to text at ++ l) (append-nil (text (1 + at)))
+    ∙ ap (λ (n : ℕ). texts_to text at ++ text n) (let same : 1 + at ≡ at + 1 = omega arith in same)
 
-channel_texts-longer : (playout : Playout) (events : List Event) (at more : ℕ) → (rest : List ℕ) × (channel_texts playout events (at + more) ≡ channel_texts playout events at ++ rest)
-channel_texts-longer playout events at zero =
-    ([], ap (channel_texts playout events) (let same : at + 0 ≡ at = omega arith in same) ∙ sym (append-nil (channel_texts playout events at)))
-channel_texts-longer playout events at (suc more) =
-    let before = channel_texts-longer playout events at more in
-    let last = channel_text playout events (at + more + 1) in (
+texts_to-longer : (text : ℕ → List ℕ) (at more : ℕ) → (rest : List ℕ) × (texts_to text (at + more) ≡ texts_to text at ++ rest)
+texts_to-longer text at zero =
+    ([], ap (texts_to text) (let same : at + 0 ≡ at = omega arith in same) ∙ sym (append-nil (texts_to text at)))
+texts_to-longer text at (suc more) =
+    let before = texts_to-longer text at more in
+    let last = text (at + more + 1) in (
       before.0 ++ last,
-      ap (channel_texts playout events) (let same : at + suc more ≡ at + more + 1 = omega arith in same)
-          ∙ channel_texts-more playout events (at + more) ∙ ap (λ (l : List ℕ). l ++ last) before.1
-          ∙ append_assoc (channel_texts playout events at) before.0 last,
+      ap (texts_to text) (let same : at + suc more ≡ at + more + 1 = omega arith in same)
+          ∙ texts_to-more text (at + more) ∙ ap (λ (l : List ℕ). l ++ last) before.1
+          ∙ append_assoc (texts_to text at) before.0 last,
     )
 
-pub no_channels : (playout : Playout) (events : List Event) (state : SinkState) → state ≡ after_taking state (channel_texts playout events 0)
-no_channels playout events state = sym (after_taking-nil state)
+pub no_texts : (text : ℕ → List ℕ) (state : SinkState) → state ≡ after_taking state (texts_to text 0)
+no_texts text state = sym (after_taking-nil state)
 
--- the frame of one channel more was written
-pub channel_written : (playout : Playout) (events : List Event) (at : ℕ) (first state after : SinkState) → state ≡ after_taking first (channel_texts playout events at)
-    → after ≡ after_taking state (channel_text playout events (at + 1)) → after ≡ after_taking first (channel_texts playout events (at + 1))
-channel_written playout events at first state after so_far step =
-    taken_more (channel_texts playout events at) (channel_text playout events (at + 1)) first state after so_far step
-    ∙ ap (after_taking first) (sym (channel_texts-more playout events at))
+-- one text more was written
+pub text_more : (text : ℕ → List ℕ) (at : ℕ) (first state after : SinkState) → state ≡ after_taking first (texts_to text at)
+    → after ≡ after_taking state (text (at + 1)) → after ≡ after_taking first (texts_to text (at + 1))
+text_more text at first state after so_far step =
+    taken_more (texts_to text at) (text (at + 1)) first state after so_far step
+    ∙ ap (after_taking first) (sym (texts_to-more text at))
 
--- the frame of a channel stopped the run
-pub channel_stopped : (playout : Playout) (events : List Event) (at count : ℕ) (first state after : SinkState) (reason : Halt) → state ≡ after_taking first (channel_texts playout events at) → at < count
-    → WritesText (Err reason) (channel_text playout events (at + 1)) state after → WritesText (Err reason) (channel_texts playout events count) first after
-channel_stopped playout events at count first state after reason so_far inside stops =
-    let more = channel_texts-longer playout events (at + 1) (count - (at + 1)) in
-    stopped_within reason (channel_texts playout events count) (channel_texts playout events at) (channel_text playout events (at + 1)) more.0 first state after
-    (ap (channel_texts playout events) (let all : count ≡ at + 1 + (count - (at + 1)) = omega (arith, inside) in all)
-    ∙ more.1 ∙ ap (λ (l : List ℕ). l ++ more.0) (channel_texts-more playout events at))
+-- a text stopped the run
+pub text_stopped : (text : ℕ → List ℕ) (at count : ℕ) (first state after : SinkState) (reason : Halt) → state ≡ after_taking first (texts_to text at) → at < count
+    → WritesText (Err reason) (text (at + 1)) state after → WritesText (Err reason) (texts_to text count) first after
+text_stopped text at count first state after reason so_far inside stops =
+    let more = texts_to-longer text (at + 1) (count - (at + 1)) in
+    stopped_within reason (texts_to text count) (texts_to text at) (text (at + 1)) more.0 first state after
+    (ap (texts_to text) (let all : count ≡ at + 1 + (count - (at + 1)) = omega (arith, inside) in all)
+    ∙ more.1 ∙ ap (λ (l : List ℕ). l ++ more.0) (texts_to-more text at))
     so_far stops
 
 -- one tick more

@@ -1,13 +1,15 @@
 //! The connections of a script, each with the session of its lines.
-ghost use Rattle.std.specs.Prelude.{◌≡◌, ◌<◌, Bool, IfOk, IfSome, List, Some, [], false, length};
+ghost use Rattle.std.specs.Prelude.{◌≡◌, ◌≢◌, ◌<◌, Bool, IfOk, IfSome, List, OnOk, Some, [], false, length};
 ghost use Rattle.std.specs.List.{list_any, position};
 ghost use Rattle.amcp_text.specs.Lines.{is_line_end};
+ghost use Rattle.play_types.specs.Config.{ConfigView};
+ghost use Rattle.history_model.specs.commands.Channels.{AreAimed};
 ghost use Rattle.history_model.specs.scripts.History.{Playout, PlayedLine, same_tag};
 ghost use Rattle.play_session.specs.Session.{Fits};
-ghost use Rattle.run_script.specs.inner.Clients.{AreClients, ClientTakesLine, ClientsTakeLine, IsPlaceOf, ServesConnection};
+ghost use Rattle.run_script.specs.inner.Clients.{AreClients, ClientTakesLine, ClientsTakeLine, HaveAimedBatches, IsPlaceOf, ServesConnection, batch_of};
 
 use play_session::{Session, Step};
-use play_types::{Config, MediaNames, Tag};
+use play_types::{Cmd, Config, MediaNames, Tag};
 use std::alloc::{AllocError, Global};
 
 /// A connection: its tag and its session.
@@ -34,7 +36,7 @@ impl Clients {
     }
 
     /// Takes a line of a connection, its end left out, and returns its step: `None` where the connection has ended
-    /// before.
+    /// before. The commands of the batch that it asks for are those of [`Clients::batch`], of which there is one at least.
     pub fn take_line(
         &mut self,
         alloc: Global,
@@ -44,6 +46,8 @@ impl Clients {
         media: &MediaNames,
     ) -> Result<Option<Step>, AllocError>
         ensures fits { IfOk result (λ found. IfSome found (Fits config.now)) }
+        ensures filled { IfOk result (λ found. found ≡ Some Step.AskBatch → batch_of tag self.new.list.items ≢ []) }
+        ensures aimed { HaveAimedBatches config.now self.old.list.items → OnOk result (HaveAimedBatches config.now self.new.list.items) }
         ensures takes { (playout : Playout) (played : List PlayedLine) (no_memory : Bool) → config.now ≡ playout.config → media.now ≡ playout.names
             → list_any is_line_end text.now ≡ false → AreClients playout self.old.list.items played
             → IfOk result (λ found. ClientsTakeLine (record { playout = playout; played = played; tag = tag; text = text.now; no_memory = no_memory }) found self.new.list.items) }
@@ -52,9 +56,20 @@ impl Clients {
         Ok(take_client_line(&mut self.list[at], alloc, text, config, media))
     }
 
+    /// Returns the commands of the batch of a connection that `AskBatch` asks for, until its next line is taken.
+    pub fn batch(&self, tag: Tag) -> &[Cmd]
+        ensures { result.now ≡ batch_of tag self.now.list.items }
+    {
+        match self.find(tag) {
+            Some(at) => self.list[at].session.batch(),
+            None => &[],
+        }
+    }
+
     /// Returns the place of a connection, and gives it a new session where it has said nothing before.
     fn place_of(&mut self, alloc: Global, tag: Tag) -> Result<usize, AllocError>
         ensures { IfOk result (λ at. (at < length self.new.list.items) × IsPlaceOf tag at self.new.list.items
+            × ((config : ConfigView) → HaveAimedBatches config self.old.list.items → HaveAimedBatches config self.new.list.items)
             × ((playout : Playout) (played : List PlayedLine) → AreClients playout self.old.list.items played → AreClients playout self.new.list.items played)) }
     {
         if let Some(at) = self.find(tag) {
@@ -90,6 +105,8 @@ fn take_client_line(
 ) -> Option<Step>
     ensures tag { client.new.tag ≡ client.old.tag }
     ensures fits { IfSome result (Fits config.now) }
+    ensures filled { result ≡ Some Step.AskBatch → client.new.session.batch ≢ [] }
+    ensures aimed { AreAimed config.now client.old.session.batch → AreAimed config.now client.new.session.batch }
     ensures takes { (playout : Playout) (played : List PlayedLine) (no_memory : Bool) → config.now ≡ playout.config → media.now ≡ playout.names
         → list_any is_line_end text.now ≡ false → ServesConnection playout client.old played
         → ClientTakesLine (record { playout = playout; played = played; tag = client.old.tag; text = text.now; no_memory = no_memory }) result client.new }

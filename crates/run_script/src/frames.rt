@@ -1,22 +1,18 @@
-//! The ticks of a player: what each channel shows is drawn and written.
-ghost use Rattle.std.specs.Prelude.{◌≡◌, ◌+◌, ◌≤◌, ◌<◌, ◌∷◌, ℕ, List, [], OnOk, length, replicate};
+//! The ticks of a player: what each channel shows and sounds is made and written.
+ghost use Rattle.std.specs.Prelude.{◌≡◌, ◌+◌, ◌≤◌, ◌<◌, ◌∷◌, [], OnOk, replicate};
 ghost use Rattle.play_types.specs.History.{ticks};
 ghost use Rattle.play_types.specs.Scene.{IsConfigured};
-ghost use Rattle.play_types.specs.declared.event.Event.{Event};
 ghost use Rattle.play_types.specs.declared.event.Event.TheVariants.{Tick};
 ghost use Rattle.play_types.specs.declared.event.TheConstants.{MAX_TICKS};
 ghost use Rattle.play_outside.specs.Sink.{Sends};
 ghost use Rattle.history_model.specs.scripts.Output.{tick_output, ticks_output};
-ghost use Rattle.play_scene.specs.Frames.{IsFrame, frame_at};
-ghost use Rattle.run_script.specs.inner.Player.{DrawsChannel, IsDrawing, IsReady, MakesEvents, WritesText, channel_text, channels_in, events_in, playout_in};
-ghost use Rattle.run_script.specs.inner.Ticks.{frame_text};
+ghost use Rattle.run_script.specs.inner.Player.{FitsChannels, IsReady, MakesEvents, WritesText, channels_in, events_in, frame_text, frame_texts, playout_in};
 
 use crate::ending::{Halt, written};
 use crate::player::Player;
+use band_render::OpenGate;
 use frame_writer::{write_digest, write_hex};
 use play_outside::{Sent, Sink};
-use play_scene::render_channel;
-use std::mem;
 
 impl Player {
     /// Makes the next `count` ticks and writes their frames.
@@ -33,7 +29,7 @@ impl Player {
         Ok(())
     }
 
-    /// Makes the next tick, and draws and writes the frames of all channels. They are then the frames that were shown last.
+    /// Makes the next tick, and writes the frames of all channels.
     fn write_tick<K: Sink>(&mut self, out: &mut K) -> Result<(), Halt>
         requires ready { IsReady self.old }
         requires time { ticks (events_in self.old) < MAX_TICKS }
@@ -42,45 +38,35 @@ impl Player {
         ensures written { WritesText result (tick_output (playout_in self.old) (events_in self.old)) (K.state out.old) (K.state out.new) }
     {
         let tick = self.stage.tick(&mut self.scenes).unwrap();
+        self.renderer
+            .render(&self.scenes, &self.setup.media, &OpenGate);
+        self.write_frames(tick, out)
+    }
+
+    /// Writes the frames of all channels as those of the tick of this number.
+    fn write_frames<K: Sink>(&self, tick: u64, out: &mut K) -> Result<(), Halt>
+        requires { FitsChannels self.now }
+        ensures { WritesText result (frame_texts self.now tick) (K.state out.old) (K.state out.new) }
+    {
         for at in 0..self.scenes.channels() {
-            self.write_frame(at + 1, tick, out)?;
+            written(self.send_frame(at + 1, tick, out))?;
         }
-        mem::swap(&mut self.shown, &mut self.next);
         Ok(())
     }
 
-    /// Draws the next frame of a channel, and writes it as that of the tick of this number.
-    fn write_frame<K: Sink>(&mut self, channel: u8, tick: u64, out: &mut K) -> Result<(), Halt>
-        requires channel { IsConfigured (channels_in self.old) channel }
-        requires scenes { length self.old.scenes ≡ channels_in self.old }
-        requires shown { length self.old.shown ≡ channels_in self.old }
-        requires next { length self.old.next ≡ channels_in self.old }
-        ensures draws { (events : List Event) → IsDrawing events self.old → DrawsChannel channel events self.old self.new }
-        ensures written { (events : List Event) → IsDrawing events self.old → tick ≡ ticks events + 1
-            → WritesText result (channel_text (playout_in self.old) events channel) (K.state out.old) (K.state out.new) }
-    {
-        render_channel(
-            &self.scenes,
-            &self.shown,
-            &self.setup.media,
-            channel,
-            &mut self.next,
-        );
-        written(self.send_frame(channel, tick, out))
-    }
-
-    /// Writes the next frame of a channel as that of the tick of this number: its lines, or its digest.
+    /// Writes the frame of a channel as that of the tick of this number: its lines, or its digest.
     fn send_frame<K: Sink>(&self, channel: u8, tick: u64, out: &mut K) -> Sent
-        requires { IsConfigured (length self.now.next) channel }
-        ensures whole { IsFrame (frame_at channel self.now.next) }
-        ensures sent { Sends result (frame_text self.now.digests channel tick (frame_at channel self.now.next)) (K.state out.old) (K.state out.new) }
+        requires channel { IsConfigured (channels_in self.now) channel }
+        requires fits { FitsChannels self.now }
+        ensures { Sends result (frame_text self.now tick channel) (K.state out.old) (K.state out.new) }
     {
-        let size = self.next.size(channel);
-        let picture = self.next.bytes(channel);
-        let sound = self.next.sound(channel);
+        let picture = self.renderer.frame(channel);
+        let sound = self.renderer.sound(channel);
         if self.digests {
             return write_digest(channel, tick, picture, sound, out);
         }
+        let channels = self.setup.config.channels();
+        let size = channels.get(usize::from(channel) - 1).unwrap().geometry();
         write_hex(channel, tick, size, picture, sound, out)
     }
 }

@@ -6,7 +6,6 @@
 //! fails or memory runs out.
 #![tactic(auto)]
 
-mod built;
 mod clients;
 mod command_line;
 mod ending;

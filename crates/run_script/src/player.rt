@@ -1,5 +1,5 @@
 //! The player: the stage with the history so far, the frames, and the connections that ask for it.
-ghost use Rattle.std.specs.Prelude.{◌≡◌, ◌+◌, ◌*◌, ◌≤◌, ◌∷◌, List, [], IfOk, OnOk, All, false, true, length};
+ghost use Rattle.std.specs.Prelude.{◌≡◌, ◌≢◌, ◌+◌, ◌*◌, ◌≤◌, ◌∷◌, List, [], IfOk, OnOk, false, true, length};
 ghost use Rattle.std.specs.List.{list_any};
 ghost use Rattle.amcp_text.specs.Lines.{is_line_end};
 ghost use Rattle.play_types.specs.History.{ticks};
@@ -14,18 +14,18 @@ ghost use Rattle.history_model.specs.scripts.Output.{tagged_lines};
 ghost use Rattle.play_session.specs.Step.{viewed};
 ghost use Rattle.play_session.specs.Session.{Fits};
 ghost use Rattle.run_script.specs.Program.{playout_of};
-ghost use Rattle.run_script.specs.inner.Player.{DoesCommand, FollowsStep, IsReady, MakesEvents, PlaysLine, Represents, WritesText, events_in};
+ghost use Rattle.run_script.specs.inner.Clients.{batch_of};
+ghost use Rattle.run_script.specs.inner.Player.{DoesRequest, FollowsStep, IsGoingOn, IsReady, MakesEvents, PlaysLine, RepliesTo, Represents, WritesText, batch_request, command_request, events_in};
 ghost use Rattle.run_script.specs.inner.Ticks.{ticks_per_byte};
 
-use crate::built::is_built;
 use crate::clients::Clients;
 use crate::ending::{Halt, written};
 use crate::line::{Line, meaning};
 use crate::reply::send_tagged_reply;
+use band_render::Renderer;
 use play_outside::Sink;
-use play_scene::Frames;
 use play_session::Step;
-use play_types::{Cmd, Name, Reply, Scenes, Tag};
+use play_types::{Answer, Cmd, Name, Reply, Scenes, Tag};
 use server_setup::ServerSetup;
 use stage_core::{ApplyFault, Stage};
 use std::alloc::{AllocError, Global};
@@ -36,8 +36,11 @@ const SERVER: Tag = Tag {
     session: 0,
 };
 
-/// What is played on, whether frames are written as digests, the connections, the stage with the history so far, the scenes of its
-/// last tick, the frames that were shown last, and the frames that are drawn next.
+/// The threads that make the frames.
+const WORKERS: u32 = 1;
+
+/// What is played on, whether frames are written as digests, the connections, the stage with the history so far, and the scenes and
+/// the frames of its last tick.
 #[derive(Drop)]
 pub struct Player {
     pub setup: ServerSetup,
@@ -45,31 +48,27 @@ pub struct Player {
     pub clients: Clients,
     pub stage: Stage,
     pub scenes: Scenes,
-    pub shown: Frames,
-    pub next: Frames,
+    pub renderer: Renderer,
 }
 
 impl Player {
     /// Returns a player that shows nothing yet and has no connection. It takes the room for the live places, the scenes and the
     /// frames of all channels.
     pub fn new(alloc: Global, setup: ServerSetup, digests: bool) -> Result<Player, AllocError>
-        requires { All (λ channel. channel.pairs ≡ 0) setup.config.channels }
         ensures ready { IfOk result IsReady }
         ensures empty { IfOk result (λ player. events_in player ≡ []) }
         ensures represents { IfOk result (λ player. Represents (playout_of setup digests) player []) }
     {
         let stage = Stage::new(alloc, &setup.config)?;
         let scenes = Scenes::new(alloc, &setup.config)?;
-        let shown = Frames::new(alloc, &setup.config)?;
-        let next = Frames::new(alloc, &setup.config)?;
+        let renderer = Renderer::new(alloc, &setup.config, WORKERS)?;
         Ok(Player {
             setup,
             digests,
             clients: Clients::new(alloc),
             stage,
             scenes,
-            shown,
-            next,
+            renderer,
         })
     }
 
@@ -135,9 +134,10 @@ impl Player {
     ) -> Result<(), Halt>
         requires ready { IsReady self.old }
         requires fits { Fits self.old.setup.config step }
+        requires filled { step ≡ Step.AskBatch → batch_of tag self.old.clients.list.items ≢ [] }
         ensures ready { OnOk result (IsReady self.new) }
         ensures ticks { ticks (events_in self.new) ≡ ticks (events_in self.old) }
-        ensures follows { FollowsStep (record { player = self.old; tag = tag; step = viewed step }) result self.new (K.state out.old) (K.state out.new) }
+        ensures follows { FollowsStep (record { player = self.old; tag = tag; step = viewed step (batch_of tag self.old.clients.list.items) }) result self.new (K.state out.old) (K.state out.new) }
     {
         match step {
             Step::Local(reply) => self.write_reply(tag, &reply, out),
@@ -145,7 +145,10 @@ impl Player {
                 let reply = self.do_command(alloc, tag, cmd);
                 self.write_reply(tag, &reply, out)
             }
-            Step::AskBatch => self.write_reply(tag, &Reply::Refused(403, Name::Commit), out),
+            Step::AskBatch => {
+                let reply = self.do_batch(alloc, tag);
+                self.write_reply(tag, &reply, out)
+            }
             Step::Kill => {
                 self.stop(tag);
                 self.write_reply(tag, &Reply::Done(Name::Kill), out)?;
@@ -155,27 +158,36 @@ impl Player {
         }
     }
 
-    /// Does a command on a configured channel, and returns the reply to it.
+    /// Does a command on configured channels, and returns the reply to it.
     ///
-    /// A command that the stage cannot do yet is refused with 403, one above the limit of the journal with 503, and one for which
-    /// there is no memory with 501. The history is then as before.
+    /// A command above the limit of the journal is refused with 503, and one for which there is no memory with 501. The history is
+    /// then as before.
     fn do_command(&mut self, alloc: Global, tag: Tag, cmd: Cmd) -> Reply
         requires ready { IsReady self.old }
         requires aimed { IsAimed self.old.setup.config cmd }
         ensures ready { IsReady self.new }
         ensures ticks { ticks (events_in self.new) ≡ ticks (events_in self.old) }
         ensures fits { IsReplyTo self.new.setup.config result }
-        ensures does { DoesCommand tag cmd result self.old self.new }
+        ensures does { DoesRequest tag (command_request self.old tag cmd) result self.old self.new }
     {
-        if !is_built(cmd) {
-            return Reply::Refused(403, cmd.name());
-        }
-        match self.stage.apply(alloc, tag, cmd) {
-            Ok(answer) => Reply::to_answer(cmd.name(), answer),
-            Err(ApplyFault::JournalFull { .. }) => Reply::Refused(503, cmd.name()),
-            Err(ApplyFault::OutOfMemory) => Reply::Refused(501, cmd.name()),
-            Err(ApplyFault::Ended { .. }) => unreachable!(),
-        }
+        let name = cmd.name();
+        reply_to(name, self.stage.apply(alloc, tag, cmd))
+    }
+
+    /// Does the batch of a connection as one event, and returns the reply to it.
+    ///
+    /// Where its commands are above the limit of the journal it is refused with 503, and where there is no memory with 501. The
+    /// history is then as before.
+    fn do_batch(&mut self, alloc: Global, tag: Tag) -> Reply
+        requires ready { IsReady self.old }
+        requires filled { batch_of tag self.old.clients.list.items ≢ [] }
+        ensures ready { IsReady self.new }
+        ensures ticks { ticks (events_in self.new) ≡ ticks (events_in self.old) }
+        ensures fits { IsReplyTo self.new.setup.config result }
+        ensures does { DoesRequest tag (batch_request self.old tag (batch_of tag self.old.clients.list.items)) result self.old self.new }
+    {
+        let commands = self.clients.batch(tag);
+        reply_to(Name::Commit, self.stage.apply_batch(alloc, tag, commands))
     }
 
     /// Ends the history with a stop.
@@ -192,5 +204,18 @@ impl Player {
         ensures { WritesText result (tagged_lines tag (reply_lines self.now.setup.config self.now.setup.names reply.now)) (K.state out.old) (K.state out.new) }
     {
         written(send_tagged_reply(tag, reply, &self.setup.config, &self.setup.names, out))
+    }
+}
+
+/// Returns the reply to a command or a batch of this name by what became of it. The history had not ended before.
+fn reply_to(name: Name, taken: Result<Answer, ApplyFault>) -> Reply
+    requires { IsGoingOn taken }
+    ensures { RepliesTo name taken result }
+{
+    match taken {
+        Ok(answer) => Reply::to_answer(name, answer),
+        Err(ApplyFault::JournalFull { .. }) => Reply::Refused(503, name),
+        Err(ApplyFault::OutOfMemory) => Reply::Refused(501, name),
+        Err(ApplyFault::Ended { .. }) => unreachable!(),
     }
 }

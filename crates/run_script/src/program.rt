@@ -27,7 +27,7 @@ use std::thread::Threads;
 /// |---|---|---|
 /// | 0 | the input was read to its end, or to a line at which the run ends, and all was written | |
 /// | 1 | the words are no command line | `E usage` |
-/// | 2 | the configuration is not TOML, `read_config` refuses a key of it, or a channel has sound | `E config text`, `E config key KEY` |
+/// | 2 | the configuration is not TOML, or `read_config` refuses a key of it | `E config text`, `E config key KEY` |
 /// | 2 | a line was received that says nothing that a script may say, or more than 4,294,967,296 bytes were read | `E line n`, `E input too long` |
 /// | 3 | two clip files have one name, or the clip files are too large | `E media twice NAME`, `E media total n` |
 /// | 4 | a read or a write failed | `E device` |
@@ -35,6 +35,9 @@ use std::thread::Threads;
 ///
 /// Status 1 comes exactly for its cause, and each other status above 0 only for one of its causes. Where the folder tells its
 /// files, a cause in the configuration or in the clips is always met, unless a read fails or memory runs out before it.
+///
+/// Before each read of the input the output of all lines received so far is written: where a read fails, the output is exactly
+/// that of the lines received before it, and then the line of the fault.
 ///
 /// It waits for nobody and always returns.
 pub fn run_main<R: Threads + Sync, I: Source, M: MediaDir, O: Sink>(

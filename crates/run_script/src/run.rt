@@ -1,5 +1,5 @@
 //! A whole run over an input.
-ghost use Rattle.std.specs.Prelude.{◌≡◌, ◌+◌, ◌*◌, ◌≤◌, ◌++◌, ℕ, List, length, All, OnOk};
+ghost use Rattle.std.specs.Prelude.{◌≡◌, ◌+◌, ◌*◌, ◌≤◌, ◌++◌, ℕ, List, length, OnOk};
 ghost use Rattle.run_script.specs.Script.{Run};
 ghost use Rattle.run_script.specs.Run.{RunsScript};
 ghost use Rattle.run_script.specs.Program.{playout_of};
@@ -43,7 +43,7 @@ fn take_piece<K: Sink>(
     Ok(left - piece.len() as u64)
 }
 
-/// Reads a script to its end and does what its lines say, on a configuration without sound.
+/// Reads a script to its end and does what its lines say.
 pub fn run<I: Source, K: Sink>(
     alloc: Global,
     setup: ServerSetup,
@@ -51,7 +51,6 @@ pub fn run<I: Source, K: Sink>(
     input: &mut I,
     out: &mut K,
 ) -> Ending
-    requires { All (λ channel. channel.pairs ≡ 0) setup.config.channels }
     ensures { RunsScript (playout_of setup digests) result
         (record { input = I.state input.old; out = K.state out.old })
         (record { input = I.state input.new; out = K.state out.new }) }

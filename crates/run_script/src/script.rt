@@ -1,5 +1,5 @@
 //! The lines of a script, byte by byte.
-ghost use Rattle.std.specs.Prelude.{◌≡◌, ◌≢◌, ◌+◌, ◌*◌, ◌<◌, ◌≤◌, ◌^◌, ◌∷◌, ◌++◌, ℕ, List, [], length, true, All, IfOk, OnOk};
+ghost use Rattle.std.specs.Prelude.{◌≡◌, ◌≢◌, ◌+◌, ◌*◌, ◌<◌, ◌≤◌, ◌^◌, ◌∷◌, ◌++◌, ℕ, List, [], length, true, IfOk, OnOk};
 ghost use Rattle.play_types.specs.History.{ticks};
 ghost use Rattle.play_types.specs.declared.event.TheConstants.{MAX_TICKS};
 ghost use Rattle.play_outside.specs.SinkState.{SinkState};
@@ -35,7 +35,6 @@ pub struct Script {
 impl Script {
     /// Returns a script of which nothing was taken yet.
     pub fn new(alloc: Global, setup: ServerSetup, digests: bool) -> Result<Script, AllocError>
-        requires { All (λ channel. channel.pairs ≡ 0) setup.config.channels }
         ensures ready { IfOk result (λ script. IsReady script.player) }
         ensures small { IfOk result (λ script. (ticks_due script ≡ 0) × (script.lines ≡ 0)) }
         ensures taken { IfOk result (λ script. (first : SinkState) → HasTaken (record { playout = playout_of setup digests; first = first }) script [] first) }

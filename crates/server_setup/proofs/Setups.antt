@@ -1,4 +1,4 @@
--- Setting up: the first sound, and what a call leaves as it was.
+-- Setting up, and what a call leaves as it was.
 use Rattle.std.proofs.Common.{◌≡◌, ◌≢◌, ℕ, ◌+◌, false, List, [], refl, sym, ap, ◌∙◌, subst, arith, length, get_or, inl, inr}
 use Rattle.std.specs.Prelude.{Option, Some, None, option_map, option_and_then, Result, Ok, Err, All}
 use Rattle.std.specs.List.{list_any, position, position_or_len}
@@ -24,52 +24,7 @@ use Rattle.server_setup.specs.declared.fault.RunFault.{RunFault}
 use Rattle.server_setup.specs.declared.fault.RunFault.TheVariants.{Usage, ConfigText, ConfigKey, BadLine, InputTooLong, MediaTwice, MediaTotal, Device, OutOfMemory}
 use Rattle.server_setup.specs.Fault.{fault_of_config, fault_of_file, fault_of_scan}
 use Rattle.server_setup.specs.Setup.{Scans, SetsUp}
-use Rattle.server_setup.specs.Silent.{IsAccepted, first_sound, has_sound, refused_of, sound_key}
-use Rattle.server_setup.specs.inner.Reading.{IsSilentRead, IsSoundFault, ReadsMedia}
-
--- the first channel with sound stands past the end where there is none
-nowhere : (channels : List ChannelView) → position has_sound channels ≡ None → position_or_len has_sound channels ≡ length channels
-nowhere channels none = elim (cases_Bool (list_any has_sound channels)) [
-  | inl loud ↦ let within = position_or_len_some has_sound channels loud in grind (arith, common_steps)
-  | inr quiet ↦ position_or_len_none has_sound channels quiet
-]
-
--- channels of which none has sound
-pub all_silent : (channels : List ChannelView) → position has_sound channels ≡ None → All (λ channel. channel.pairs ≡ 0) channels
-all_silent channels none =
-    let none_passes = nowhere channels none in
-    All-from_get_or (λ (channel : ChannelView). channel.pairs ≡ 0) channels no_channel
-    (λ at within.
-    let quiet : has_sound (get_or channels at no_channel) ≡ false = fails_before_first has_sound channels at no_channel (omega (arith, none_passes, within)) in
-    grind (arith, nat_tests))
-  where
-    no_channel : ChannelView
-    no_channel = record { width = 0; height = 0; pairs = 0; output = [] }
-
--- a number counted from 1 is none where there is no place
-pub none_before : (at : Option ℕ) → option_map (λ n. n + 1) at ≡ None → at ≡ None
-none_before None none = refl
-none_before (Some at) none = absurd (cc none)
-
--- bytes that are refused as a configuration
-pub refused_read : (bytes : List ℕ) (fault : ConfigFault) → IsReadOf bytes (Err fault) → IsSilentRead bytes (Err (fault_of_config fault))
-refused_read bytes config.NotToml read = read
-refused_read bytes (config.Key name) read = ap (option_and_then refused_of) read
-refused_read bytes config.OutOfMemory read = tt
-
--- bytes of a configuration with sound
-pub sound_read : (bytes : List ℕ) (config : ConfigView) (number : ℕ) (fault : RunFault) → config_in bytes ≡ Some (Ok config) → first_sound config.channels ≡ Some number → IsSoundFault number fault
-    → IsSilentRead bytes (Err fault)
-sound_read bytes config number (ConfigKey name) read first key =
-    ap (option_and_then refused_of) read ∙ ap (option_map sound_key) first ∙ ap Some (sym key)
-sound_read bytes config number OutOfMemory read first key = tt
-sound_read bytes config number ConfigText read first key = absurd key
-sound_read bytes config number (MediaTwice name) read first key = absurd key
-sound_read bytes config number (MediaTotal total) read first key = absurd key
-sound_read bytes config number Device read first key = absurd key
-sound_read bytes config number Usage read first key = absurd key
-sound_read bytes config number (BadLine line) read first key = absurd key
-sound_read bytes config number InputTooLong read first key = absurd key
+use Rattle.server_setup.specs.inner.Reading.{ReadsMedia}
 
 -- a folder that gave no table
 pub shows_fault : (config : ConfigView) (fault : ScanFault) (before after : FolderState) → Scans config (Err fault) before after → ReadsMedia config (Err (fault_of_scan fault)) before after
@@ -83,23 +38,17 @@ pub unread : (path : List ℕ) (fault : FileFault) (before after : FolderState) 
 unread path file.Failed before after misses = misses
 unread path file.OutOfMemory before after misses = misses
 
--- bytes that are refused
-pub refused : (path bytes : List ℕ) (fault : RunFault) (before after : FolderState) → IsHeld (config_at path) bytes before.files → after ≡ before → IsSilentRead bytes (Err fault)
-    → SetsUp path (Err fault) before after
-refused path bytes ConfigText before after held same read = ((bytes, held, read), same)
-refused path bytes (ConfigKey name) before after held same read = ((bytes, held, read), same)
-refused path bytes OutOfMemory before after held same read = same
-refused path bytes (MediaTwice name) before after held same read = absurd read
-refused path bytes (MediaTotal total) before after held same read = absurd read
-refused path bytes Device before after held same read = absurd read
-refused path bytes Usage before after held same read = absurd read
-refused path bytes (BadLine line) before after held same read = absurd read
-refused path bytes InputTooLong before after held same read = absurd read
+-- bytes that are refused as a configuration
+pub refused : (path bytes : List ℕ) (fault : ConfigFault) (before after : FolderState) → IsHeld (config_at path) bytes before.files → after ≡ before → IsReadOf bytes (Err fault)
+    → SetsUp path (Err (fault_of_config fault)) before after
+refused path bytes config.NotToml before after held same read = ((bytes, held, read), same)
+refused path bytes (config.Key name) before after held same read = ((bytes, held, read), same)
+refused path bytes config.OutOfMemory before after held same read = same
 
-shown_from : (path bytes : List ℕ) (config : ConfigView) (result : Result ServerSetup RunFault) (before after : FolderState) → IsHeld (config_at path) bytes before.files → IsAccepted bytes config
+shown_from : (path bytes : List ℕ) (config : ConfigView) (result : Result ServerSetup RunFault) (before after : FolderState) → IsHeld (config_at path) bytes before.files → config_in bytes ≡ Some (Ok config)
     → ReadsMedia config result before after → SetsUp path result before after
 shown_from path bytes config (Ok setup) before after held accepted shows = (
-  (bytes, held, subst (λ (c : ConfigView). IsAccepted bytes c) (sym shows.0) accepted),
+  (bytes, held, accepted ∙ ap (λ (c : ConfigView). Some (Ok c)) (sym shows.0)),
   subst (λ (c : ConfigView). Scans c (Ok setup.media) before after) (sym shows.0) shows.1,
   shows.2,
 )
@@ -115,7 +64,7 @@ shown_from path bytes config (Err InputTooLong) before after held accepted shows
 
 -- the clips of a configuration that is accepted
 pub shown : (path bytes : List ℕ) (config : ConfigView) (result : Result ServerSetup RunFault) (before state after : FolderState) → IsHeld (config_at path) bytes before.files → state ≡ before
-    → IsAccepted bytes config → ReadsMedia config result state after → SetsUp path result before after
+    → config_in bytes ≡ Some (Ok config) → ReadsMedia config result state after → SetsUp path result before after
 shown path bytes config result before state after held same accepted shows =
     shown_from path bytes config result before after held accepted (subst (λ (s : FolderState). ReadsMedia config result s after) same shows)
 

@@ -1,4 +1,3 @@
 pub mod Fault
-pub mod Silent
 pub mod Setup
 pub mod inner

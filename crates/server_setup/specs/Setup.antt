@@ -14,7 +14,6 @@ use Rattle.server_setup.specs.declared.fault.RunFault.{RunFault}
 use Rattle.server_setup.specs.declared.fault.RunFault.TheVariants.{Usage, ConfigText, ConfigKey, BadLine, InputTooLong, MediaTwice, MediaTotal, Device, OutOfMemory}
 use Rattle.server_setup.specs.declared.setup.ServerSetup.{ServerSetup}
 use Rattle.server_setup.specs.Fault.{fault_of_scan}
-use Rattle.server_setup.specs.Silent.{IsAccepted, first_sound, refused_key, sound_key}
 
 -- the bytes that are held at the path, where the folder says what it holds, are such bytes
 abbrev pub HoldsSome : (List ℕ → Type 0) → List ℕ → FolderState → Type 0
@@ -27,18 +26,17 @@ Scans config result before after = Answers (scanned (encode_utf8_all config.medi
 -- a configuration was accepted, and its clips were refused
 abbrev pub RefusesClips : List ℕ → ScanFault → FolderState → FolderState → Type 0
 RefusesClips path fault before after =
-    (config : ConfigView) × HoldsSome (λ bytes. IsAccepted bytes config) path before × Scans config (Err fault) before after
+    (config : ConfigView) × HoldsSome (λ bytes. config_in bytes ≡ Some (Ok config)) path before × Scans config (Err fault) before after
 
 -- the result is that of the configuration and of its clips, and nothing changed; or reading failed, and the count of
 -- faults rose; or memory ran out
 abbrev pub SetsUp : List ℕ → Result ServerSetup RunFault → FolderState → FolderState → Type 0
 SetsUp path (Ok setup) before after =
-    HoldsSome (λ bytes. IsAccepted bytes setup.config) path before
+    HoldsSome (λ bytes. config_in bytes ≡ Some (Ok setup.config)) path before
     × Scans setup.config (Ok setup.media) before after
     × (setup.names ≡ media_names setup.media)
 SetsUp path (Err ConfigText) before after = HoldsSome (λ bytes. config_in bytes ≡ None) path before × (after ≡ before)
-SetsUp path (Err (ConfigKey key)) before after =
-    HoldsSome (λ bytes. refused_key bytes ≡ Some key) path before × (after ≡ before)
+SetsUp path (Err (ConfigKey key)) before after = HoldsSome (λ bytes. config_in bytes ≡ Some (Err key)) path before × (after ≡ before)
 SetsUp path (Err (MediaTwice name)) before after = RefusesClips path (scan.TwoNames name) before after
 SetsUp path (Err (MediaTotal total)) before after = RefusesClips path (scan.TooLarge total) before after
 SetsUp path (Err Device) before after = (after.files ≡ before.files) × Rose before.faults after.faults
@@ -52,17 +50,11 @@ abbrev pub fault_of_clips : Result (List Entry) ScanFault → Option RunFault
 fault_of_clips (Ok table) = None
 fault_of_clips (Err fault) = Some (fault_of_scan fault)
 
--- the fault of a first sound, by the number of its channel, and without one the fault of what is read next
-abbrev pub sound_or : Option ℕ → Option RunFault → Option RunFault
-sound_or (Some number) later = Some (ConfigKey (sound_key number))
-sound_or None later = later
-
 -- the first fault of what a text says as a configuration, and of the clips of its folder
 abbrev pub fault_of_text : Files → Option (Result ConfigView (List ℕ)) → Option RunFault
 fault_of_text files None = Some ConfigText
 fault_of_text files (Some (Err key)) = Some (ConfigKey key)
-fault_of_text files (Some (Ok config)) =
-    sound_or (first_sound config.channels) (fault_of_clips (scanned (encode_utf8_all config.media) files))
+fault_of_text files (Some (Ok config)) = fault_of_clips (scanned (encode_utf8_all config.media) files)
 
 -- the first fault of the bytes at the path of a configuration, and of the clips of its folder
 abbrev pub fault_of_held : Files → Option (List ℕ) → Option RunFault

@@ -7,7 +7,6 @@
 
 mod fault;
 mod setup;
-mod silent;
 #[cfg(test)]
 mod tests;
 

@@ -5,9 +5,9 @@ ghost use Rattle.server_setup.specs.declared.fault.RunFault.TheVariants.{Device}
 ghost use Rattle.server_setup.specs.inner.Reading.{ReadsMedia};
 
 use crate::fault::RunFault;
-use crate::silent::read_silent;
 use clip_format::MediaTable;
 use clip_store::scan;
+use config_file::read_config;
 use play_outside::MediaDir;
 use play_types::{Config, MediaNames};
 use std::alloc::Global;
@@ -16,7 +16,7 @@ use std::thread::Threads;
 /// What a server is set up with.
 #[derive(Drop)]
 pub struct ServerSetup {
-    /// The configuration. No channel of it has sound.
+    /// The configuration.
     pub config: Config,
     /// The clips of the folder that the configuration names.
     pub media: MediaTable,
@@ -27,8 +27,7 @@ pub struct ServerSetup {
 /// Reads the configuration of this path, and then the clips of the folder that it names.
 ///
 /// The text of the configuration is tested before the folder is read. `ConfigText` comes exactly where the text is not
-/// TOML. `ConfigKey` names the first key that `read_config` refuses, and where it refuses none, `channel.n.pairs` of the
-/// first channel whose pairs are not 0, counted from 1. `MediaTwice` names the least name that two clip files have, and
+/// TOML. `ConfigKey` names the first key that `read_config` refuses. `MediaTwice` names the least name that two clip files have, and
 /// `MediaTotal` has the first sum of the lengths of clip files that is above 1,073,741,824. `Device` comes only where the
 /// folder's count of faults rose in this call. No other fault comes but `OutOfMemory`.
 pub fn set_up<R: Threads + Sync, M: MediaDir>(
@@ -42,7 +41,7 @@ pub fn set_up<R: Threads + Sync, M: MediaDir>(
     ensures kept { result ≢ Err Device → M.state folder.new ≡ M.state folder.old }
 {
     let bytes = folder.config(alloc, file)?;
-    let config = read_silent(alloc, bytes.as_slice())?;
+    let config = read_config(alloc, bytes.as_slice())?;
     read_media(rt, alloc, config, folder)
 }
 

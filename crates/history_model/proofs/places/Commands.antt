@@ -1,16 +1,13 @@
--- What a plain command and a tick make of the live places.
-use Rattle.std.proofs.Common.{◌≡◌, ℕ, ◌+◌, ◌-◌, ◌≤◌, ◌==◌, eqb, Bool, true, false, ◌&&◌, ◌⊎◌, inl, inr, List, [], ◌∷◌, ◌++◌, map, refl, sym, ap, ◌∙◌, arith, eq-eqb, ne_eqb, if◌then◌else◌}
+-- What a command on a place and a tick make of the live places.
+use Rattle.std.proofs.Common.{◌≡◌, ℕ, ◌+◌, ◌-◌, ◌≤◌, ◌==◌, eqb, Bool, true, false, ◌&&◌, ◌⊎◌, inl, inr, List, [], ◌∷◌, map, refl, sym, ap, ◌∙◌, arith, eq-eqb, ne_eqb, if◌then◌else◌}
 use Rattle.std.proofs.lemmas.Bool.{cases_eq, cond-true, cond-false}
 use Rattle.play_types.specs.Place.{PlaceView}
-use Rattle.play_types.specs.Take.{played}
 use Rattle.play_types.specs.declared.command.Cmd.{Cmd}
-use Rattle.play_types.specs.declared.command.Cmd.TheVariants.{Load, LoadBg, Play, PlayTake, Pause, Resume, StopLayer, ClearLayer, ClearChannel, SwapLayers, SwapChannels, Set, CommitMixer, ResetLayer, ResetChannel, Value, Info}
-use Rattle.history_model.specs.stage.Act.{Act, act_after, acts_of}
+use Rattle.history_model.specs.stage.Act.{Act, act_after}
 use Rattle.history_model.specs.stage.Trail.{content_origin, acts_on_content, trail}
 use Rattle.history_model.specs.stage.Life.{Life, after, effect, empty_place, life}
 use Rattle.history_model.specs.stage.Live.{state}
-use Rattle.history_model.specs.stage.Plain.{IsPlain}
-use Rattle.history_model.specs.stage.Places.{Places, AreAbove, ArePlaces, AreBy, changed_at, live_places, one_tick_later, places_after, standing, taken, with_place}
+use Rattle.history_model.specs.stage.Places.{Places, AreAbove, ArePlaces, AreBy, changed_at, live_places, one_tick_later, standing, taken, with_place}
 use Rattle.history_model.proofs.Lives.{after-add, after-zero}
 use Rattle.history_model.proofs.Liveness.{is_live-after}
 use Rattle.history_model.proofs.places.Lists.{ArePlaces-with_place, same_places, standing-with_place}
@@ -125,7 +122,7 @@ state-play_take acts t at place first second still_first still_second same =
     ∙ ap (λ (on : Bool). if on then effect first (state acts t place) else state acts t place) same)
     ∙ both_acts (acts_on_content second place) (effect first) (effect second) (state acts t place)
 
--- the lives after a plain command
+-- the lives after a command on a place
 module _ (acts : List Act) (t channel : ℕ) where
   pub at_one : (at : PlaceView) (cmd : Cmd) (n : ℕ) →
       standing (changed_at at cmd channel (live_places acts t channel)) n
@@ -134,32 +131,7 @@ module _ (acts : List Act) (t channel : ℕ) where
       standing-changed (at.channel == channel) at.layer n (live_places acts t channel) (λ k. state acts t (record { channel = channel; layer = k }))
       (taken cmd) (ArePlaces-live acts t channel) (standing-live acts t channel)
 
-  standing-after : (cmd : Cmd) → IsPlain cmd → (n : ℕ) →
-      standing (places_after cmd channel (live_places acts t channel)) n
-      ≡ state (acts_of t cmd ++ acts) t (record { channel = channel; layer = n })
-  standing-after (Load at take) h n = at_one at (Load at take) n ∙ sym (state-act acts t (Load at take) (record { channel = channel; layer = n }) refl)
-  standing-after (LoadBg at take) h n = at_one at (LoadBg at take) n ∙ sym (state-act acts t (LoadBg at take) (record { channel = channel; layer = n }) refl)
-  standing-after (Play at) h n = at_one at (Play at) n ∙ sym (state-act acts t (Play at) (record { channel = channel; layer = n }) refl)
-  standing-after (PlayTake at take) h n =
-      at_one at (PlayTake at take) n
-      ∙ sym (state-play_take acts t at (record { channel = channel; layer = n }) (LoadBg at (played take)) (Play at) refl refl refl)
-  standing-after (Pause at) h n = at_one at (Pause at) n ∙ sym (state-act acts t (Pause at) (record { channel = channel; layer = n }) refl)
-  standing-after (Resume at) h n = at_one at (Resume at) n ∙ sym (state-act acts t (Resume at) (record { channel = channel; layer = n }) refl)
-  standing-after (StopLayer at) h n = at_one at (StopLayer at) n ∙ sym (state-act acts t (StopLayer at) (record { channel = channel; layer = n }) refl)
-  standing-after (ClearLayer at) h n = at_one at (ClearLayer at) n ∙ sym (state-act acts t (ClearLayer at) (record { channel = channel; layer = n }) refl)
-  standing-after (ClearChannel cleared) h n =
-      standing-cleared (cleared == channel) n (live_places acts t channel) (λ k. state acts t (record { channel = channel; layer = k })) (standing-live acts t channel)
-      ∙ sym (state-act acts t (ClearChannel cleared) (record { channel = channel; layer = n }) refl)
-  standing-after (SwapLayers a b transforms) h n = absurd h
-  standing-after (SwapChannels a b transforms) h n = absurd h
-  standing-after (Set setting) h n = absurd h
-  standing-after (CommitMixer committed) h n = absurd h
-  standing-after (ResetLayer at) h n = absurd h
-  standing-after (ResetChannel reset) h n = absurd h
-  standing-after (Value at prop) h n = absurd h
-  standing-after Info h n = absurd h
-
--- what a plain command makes of places are places
+-- what a command on a place makes of places are places
 pub places_chosen : (here : Bool) (changed places : Places) → ArePlaces changed → ArePlaces places → ArePlaces (if here then changed else places)
 places_chosen true changed places p q = p
 places_chosen false changed places p q = q
@@ -167,32 +139,3 @@ places_chosen false changed places p q = q
 pub ArePlaces-changed : (at : PlaceView) (cmd : Cmd) (channel : ℕ) (places : Places) → ArePlaces places → ArePlaces (changed_at at cmd channel places)
 ArePlaces-changed at cmd channel places p =
     places_chosen (at.channel == channel) _ places (ArePlaces-with_place places at.layer (taken cmd (standing places at.layer)) p) p
-
-pub ArePlaces-after : (cmd : Cmd) (channel : ℕ) (places : Places) → ArePlaces places → ArePlaces (places_after cmd channel places)
-ArePlaces-after (Load at take) channel places p = ArePlaces-changed at (Load at take) channel places p
-ArePlaces-after (LoadBg at take) channel places p = ArePlaces-changed at (LoadBg at take) channel places p
-ArePlaces-after (Play at) channel places p = ArePlaces-changed at (Play at) channel places p
-ArePlaces-after (PlayTake at take) channel places p = ArePlaces-changed at (PlayTake at take) channel places p
-ArePlaces-after (Pause at) channel places p = ArePlaces-changed at (Pause at) channel places p
-ArePlaces-after (Resume at) channel places p = ArePlaces-changed at (Resume at) channel places p
-ArePlaces-after (StopLayer at) channel places p = ArePlaces-changed at (StopLayer at) channel places p
-ArePlaces-after (ClearLayer at) channel places p = ArePlaces-changed at (ClearLayer at) channel places p
-ArePlaces-after (ClearChannel cleared) channel places p = places_chosen (cleared == channel) [] places tt p
-ArePlaces-after (SwapLayers a b transforms) channel places p = p
-ArePlaces-after (SwapChannels a b transforms) channel places p = p
-ArePlaces-after (Set setting) channel places p = p
-ArePlaces-after (CommitMixer committed) channel places p = p
-ArePlaces-after (ResetLayer at) channel places p = p
-ArePlaces-after (ResetChannel reset) channel places p = p
-ArePlaces-after (Value at prop) channel places p = p
-ArePlaces-after Info channel places p = p
-
--- the live places after a plain command
-pub live_places-after : (acts : List Act) (t channel : ℕ) (cmd : Cmd) → IsPlain cmd →
-    live_places (acts_of t cmd ++ acts) t channel ≡ places_after cmd channel (live_places acts t channel)
-live_places-after acts t channel cmd plain =
-    let before : Places = live_places acts t channel in
-    let more : List Act = acts_of t cmd ++ acts in
-    same_places (live_places more t channel) (places_after cmd channel before)
-    (ArePlaces-live more t channel) (ArePlaces-after cmd channel before (ArePlaces-live acts t channel))
-    (λ n. standing-live more t channel n ∙ sym (standing-after acts t channel cmd plain n))

@@ -6,12 +6,10 @@ use Rattle.play_types.specs.Media.{MediaNameView}
 use Rattle.play_types.specs.ClipFile.{ClipView}
 use Rattle.play_types.specs.History.{held}
 use Rattle.play_types.specs.declared.geometry.Geometry.{Geometry}
-use Rattle.play_types.specs.declared.command.Cmd.{Cmd}
 use Rattle.play_types.specs.declared.event.Tag.{Tag}
 use Rattle.play_types.specs.declared.event.Event.{Event}
 use Rattle.play_types.specs.declared.event.Event.TheVariants as event
 use Rattle.history_model.specs.pictures.Media.{Setup}
-use Rattle.history_model.specs.stage.Plain.{is_built}
 use Rattle.history_model.specs.sessions.Session.{Step, Local, Ask, AskBatch, KillServer, EndConnection, Skip, steps}
 use Rattle.history_model.specs.scripts.Line.{ScriptLine, Comment, Ticks, Said, Stop, Rejected}
 
@@ -89,10 +87,8 @@ pub record Turn : Type 0 where
   pub tag : Tag
   pub no_memory : Bool
 
--- what becomes of a command that the stage is asked for
+-- what becomes of a command or of a batch that the stage is asked for
 pub data Verdict : Type 0 where
-  -- the stage cannot do it yet
-  NotBuilt : Verdict
   -- the journal would hold more commands than it may
   JournalFull : Verdict
   -- the stage has no memory for it
@@ -104,28 +100,25 @@ pub data Verdict : Type 0 where
 abbrev pub is_full : Playout → List Event → ℕ → Bool
 is_full playout events commands = nat_lt playout.config.journal_limit (held events + commands)
 
--- what becomes of a command: the limit of the journal comes before memory
-abbrev pub verdict : Turn → Cmd → Verdict
-verdict turn command =
-    if is_built command then
-    (if is_full turn.playout turn.events 1 then JournalFull
+-- what becomes of this number of commands: the limit of the journal comes before memory
+abbrev pub verdict : Turn → ℕ → Verdict
+verdict turn commands =
+    if is_full turn.playout turn.events commands then JournalFull
     else if turn.no_memory then OutOfMemory
-    else Taken)
-    else NotBuilt
+    else Taken
 
--- the events of a command by what becomes of it
-abbrev pub verdict_events : Tag → Cmd → Verdict → List Event
-verdict_events tag command NotBuilt = []
-verdict_events tag command JournalFull = []
-verdict_events tag command OutOfMemory = []
-verdict_events tag command Taken = event.Do tag command ∷ []
+-- the events of a command or of a batch by what becomes of it
+abbrev pub verdict_events : Event → Verdict → List Event
+verdict_events event JournalFull = []
+verdict_events event OutOfMemory = []
+verdict_events event Taken = event ∷ []
 
--- the events of a step
+-- the events of a step: a batch is one event
 abbrev pub step_events : Turn → Option Step → List Event
 step_events turn None = []
 step_events turn (Some (Local answer)) = []
-step_events turn (Some (Ask command)) = verdict_events turn.tag command (verdict turn command)
-step_events turn (Some (AskBatch commands)) = []
+step_events turn (Some (Ask command)) = verdict_events (event.Do turn.tag command) (verdict turn 1)
+step_events turn (Some (AskBatch commands)) = verdict_events (event.Batch turn.tag commands) (verdict turn (length commands))
 step_events turn (Some KillServer) = event.Stop turn.tag ∷ []
 step_events turn (Some EndConnection) = []
 step_events turn (Some Skip) = []

@@ -1,5 +1,5 @@
 -- What is written for a script, line by line.
-use Rattle.std.specs.Prelude.{ℕ, zero, suc, ◌+◌, ◌-◌, if◌then◌else◌, ℤ, pos, negsuc, Option, Some, None, List, [], ◌∷◌, ◌++◌, codes, decimal, flat_map}
+use Rattle.std.specs.Prelude.{ℕ, zero, suc, ◌+◌, ◌-◌, if◌then◌else◌, ℤ, pos, negsuc, Option, Some, None, List, [], ◌∷◌, ◌++◌, length, codes, decimal, flat_map}
 use Rattle.std.specs.Int.{w16, to_le_bytes}
 use Rattle.play_types.specs.Config.{ConfigView}
 use Rattle.play_types.specs.Commands.{command_name, answer_reply}
@@ -8,17 +8,19 @@ use Rattle.play_types.specs.declared.command.Cmd.{Cmd}
 use Rattle.play_types.specs.declared.event.Tag.{Tag}
 use Rattle.play_types.specs.declared.event.Event.{Event}
 use Rattle.play_types.specs.declared.event.Event.TheVariants as event
+use Rattle.play_types.specs.declared.answer.Answer.{Answer}
+use Rattle.play_types.specs.declared.reply.Name.{Name}
 use Rattle.play_types.specs.declared.reply.Name.TheVariants as name
 use Rattle.play_types.specs.declared.reply.Reply.{Reply}
 use Rattle.play_types.specs.declared.reply.Reply.TheVariants as reply
 use Rattle.history_model.specs.stage.Acts.{is_refused}
-use Rattle.history_model.specs.stage.Answer.{numbers_below, pair_samples, channel_numbers, command_answer}
+use Rattle.history_model.specs.stage.Answer.{numbers_below, pair_samples, channel_numbers, command_answer, outcome_of}
 use Rattle.history_model.specs.pictures.Frame.{frame_pixel}
 use Rattle.history_model.specs.text.Frames.{frame_bytes, frame_lines, digest_line}
 use Rattle.history_model.specs.pictures.Media.{Setup, size}
 use Rattle.history_model.specs.text.Replies.{reply_lines}
 use Rattle.history_model.specs.scripts.Line.{ScriptLine, Comment, Ticks, Said, Stop, Rejected}
-use Rattle.history_model.specs.scripts.History.{Playout, PlayedLine, Turn, Verdict, NotBuilt, JournalFull, OutOfMemory, Taken, setup_of, verdict, turn_of, said_step, ends_at, script_events}
+use Rattle.history_model.specs.scripts.History.{Playout, PlayedLine, Turn, Verdict, JournalFull, OutOfMemory, Taken, setup_of, verdict, turn_of, said_step, ends_at, script_events}
 use Rattle.history_model.specs.sessions.Session.{Step, Local, Ask, AskBatch, KillServer, EndConnection, Skip}
 
 -- the configuration of a run that names a width and a height alone
@@ -49,25 +51,31 @@ abbrev pub reply_output : Playout → Tag → Option Reply → List ℕ
 reply_output playout tag None = []
 reply_output playout tag (Some answer) = tagged_lines tag (reply_lines playout.config playout.names answer)
 
--- the reply to a command by what becomes of it: the stage's answer where it is an event
-abbrev pub verdict_reply : Turn → Cmd → Verdict → Reply
-verdict_reply turn command NotBuilt = reply.Refused 403 (command_name command)
-verdict_reply turn command JournalFull = reply.Refused 503 (command_name command)
-verdict_reply turn command OutOfMemory = reply.Refused 501 (command_name command)
-verdict_reply turn command Taken =
-    answer_reply (command_name command)
-    (command_answer (setup_of turn.playout) turn.events (is_refused turn.events (event.Do turn.tag command)) command)
+-- the reply to a command or a batch of this name by what becomes of it: `found`, the stage's answer, where it is an event
+abbrev pub verdict_reply : Name → Answer → Verdict → Reply
+verdict_reply asked found JournalFull = reply.Refused 503 asked
+verdict_reply asked found OutOfMemory = reply.Refused 501 asked
+verdict_reply asked found Taken = answer_reply asked found
 
 -- the reply to a command that the stage is asked for
 abbrev pub ask_reply : Turn → Cmd → Reply
-ask_reply turn command = verdict_reply turn command (verdict turn command)
+ask_reply turn command =
+    verdict_reply (command_name command)
+    (command_answer (setup_of turn.playout) turn.events (is_refused turn.events (event.Do turn.tag command)) command)
+    (verdict turn 1)
 
--- the reply of a step: batches are not built yet
+-- the reply to a batch that the stage is asked for
+abbrev pub batch_reply : Turn → List Cmd → Reply
+batch_reply turn commands =
+    verdict_reply name.Commit (outcome_of (is_refused turn.events (event.Batch turn.tag commands)))
+    (verdict turn (length commands))
+
+-- the reply of a step
 abbrev pub step_reply : Turn → Option Step → Option Reply
 step_reply turn None = None
 step_reply turn (Some (Local answer)) = Some answer
 step_reply turn (Some (Ask command)) = Some (ask_reply turn command)
-step_reply turn (Some (AskBatch commands)) = Some (reply.Refused 403 name.Commit)
+step_reply turn (Some (AskBatch commands)) = Some (batch_reply turn commands)
 step_reply turn (Some KillServer) = Some (reply.Done name.Kill)
 step_reply turn (Some EndConnection) = None
 step_reply turn (Some Skip) = None

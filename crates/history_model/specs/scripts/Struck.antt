@@ -4,7 +4,7 @@ use Rattle.play_types.specs.declared.reply.Reply.{Reply}
 use Rattle.play_types.specs.declared.reply.Reply.TheVariants as reply
 use Rattle.history_model.specs.sessions.Session.{Step, Local, Ask, AskBatch, KillServer, EndConnection, Skip}
 use Rattle.history_model.specs.scripts.Line.{ScriptLine, Comment, Ticks, Said, Stop, Rejected}
-use Rattle.history_model.specs.scripts.History.{Playout, PlayedLine, Turn, Verdict, NotBuilt, JournalFull, OutOfMemory, Taken, said_step, script_events, turn_of, verdict}
+use Rattle.history_model.specs.scripts.History.{Playout, PlayedLine, Turn, Verdict, JournalFull, OutOfMemory, Taken, said_step, script_events, turn_of, verdict}
 use Rattle.history_model.specs.scripts.Memory.{IsOneLine}
 
 -- a reply that refuses
@@ -18,18 +18,18 @@ Refuses (reply.Unknown line) = Unit {0}
 Refuses (reply.Refused code command) = Unit {0}
 Refuses reply.NoMemory = ⊥
 
--- what becomes of a command that is no event
+-- what becomes of what is no event
 abbrev pub IsNotTaken : Verdict → Type 0
-IsNotTaken NotBuilt = Unit {0}
 IsNotTaken JournalFull = Unit {0}
 IsNotTaken OutOfMemory = Unit {0}
 IsNotTaken Taken = ⊥
 
--- a step that is refused: by the words of its line, by the rules of a batch, or as a command that is no event
+-- a step that is refused: by the words of its line, by the rules of a batch, or as a command that is no event. The line of a
+-- batch that is no event is none of these: it closes the batch, and without it the batch would stay open
 abbrev pub IsRefusedStep : Turn → Option Step → Type 0
 IsRefusedStep turn None = ⊥
 IsRefusedStep turn (Some (Local answer)) = Refuses answer
-IsRefusedStep turn (Some (Ask command)) = IsNotTaken (verdict turn command)
+IsRefusedStep turn (Some (Ask command)) = IsNotTaken (verdict turn 1)
 IsRefusedStep turn (Some (AskBatch commands)) = ⊥
 IsRefusedStep turn (Some KillServer) = ⊥
 IsRefusedStep turn (Some EndConnection) = ⊥

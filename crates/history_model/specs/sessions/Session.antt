@@ -1,5 +1,5 @@
 -- What the server does for each line of a connection, by looking back over the lines before it.
-use Rattle.std.specs.Prelude.{ℕ, ◌+◌, ◌==◌, nat_lt, Bool, true, false, if◌then◌else◌, Option, Some, None, List, [], ◌∷◌, length, map, take, filter_map}
+use Rattle.std.specs.Prelude.{ℕ, ◌+◌, ◌<◌, ◌==◌, nat_lt, Bool, true, false, if◌then◌else◌, Option, Some, None, List, [], ◌∷◌, length, map, take, filter_map}
 use Rattle.std.specs.List.{list_any, after_first, after_last, enumerate_from, position_or_len}
 use Rattle.amcp_text.specs.Lines.{Line, lines_of}
 use Rattle.play_types.specs.Config.{ConfigView}
@@ -162,3 +162,12 @@ IsAimedStep config (AskBatch commands) = AreAimed config commands
 IsAimedStep config KillServer = Unit {0}
 IsAimedStep config EndConnection = Unit {0}
 IsAimedStep config Skip = Unit {0}
+
+-- a step that is no empty batch
+abbrev pub IsFilledStep : Step → Type 0
+IsFilledStep (Local answer) = Unit {0}
+IsFilledStep (Ask command) = Unit {0}
+IsFilledStep (AskBatch commands) = 0 < length commands
+IsFilledStep KillServer = Unit {0}
+IsFilledStep EndConnection = Unit {0}
+IsFilledStep Skip = Unit {0}

@@ -1,5 +1,5 @@
--- The live places of a channel as one list, and what plain commands and ticks make of it.
-use Rattle.std.specs.Prelude.{◌≡◌, ℕ, ◌<◌, ◌≤◌, ◌==◌, Bool, true, false, List, [], ◌∷◌, map, nat_lt, length, if◌then◌else◌}
+-- The live places of a channel as one list, and what a command on a place and a tick make of it.
+use Rattle.std.specs.Prelude.{◌≡◌, ℕ, ◌<◌, ◌≤◌, ◌==◌, Bool, true, List, [], ◌∷◌, map, nat_lt, length, if◌then◌else◌}
 use Rattle.play_types.specs.Place.{PlaceView}
 use Rattle.play_types.specs.Take.{played}
 use Rattle.play_types.specs.History.{ticks}
@@ -80,26 +80,6 @@ abbrev pub changed_at : PlaceView → Cmd → ℕ → Places → Places
 changed_at at cmd channel before =
     if at.channel == channel then with_place before at.layer (taken cmd (standing before at.layer)) else before
 
--- the places of a channel after a plain command, by those before it
-abbrev pub places_after : Cmd → ℕ → Places → Places
-places_after (Load at take) channel before = changed_at at (Load at take) channel before
-places_after (LoadBg at take) channel before = changed_at at (LoadBg at take) channel before
-places_after (Play at) channel before = changed_at at (Play at) channel before
-places_after (PlayTake at take) channel before = changed_at at (PlayTake at take) channel before
-places_after (Pause at) channel before = changed_at at (Pause at) channel before
-places_after (Resume at) channel before = changed_at at (Resume at) channel before
-places_after (StopLayer at) channel before = changed_at at (StopLayer at) channel before
-places_after (ClearLayer at) channel before = changed_at at (ClearLayer at) channel before
-places_after (ClearChannel cleared) channel before = if cleared == channel then [] else before
-places_after (SwapLayers a b transforms) channel before = before
-places_after (SwapChannels a b transforms) channel before = before
-places_after (Set setting) channel before = before
-places_after (CommitMixer committed) channel before = before
-places_after (ResetLayer at) channel before = before
-places_after (ResetChannel reset) channel before = before
-places_after (Value at prop) channel before = before
-places_after Info channel before = before
-
 -- a layer with what stands there one tick later
 abbrev pub one_tick_later : ℕ × Life → ℕ × Life
 one_tick_later place = (place.0, after place.1 1)
@@ -112,7 +92,3 @@ AreBy ticks (act ∷ before) = (act.ticks ≤ ticks) × AreBy ticks before
 -- whether the list has more places than a channel may have
 abbrev pub is_over_limit : Places → Bool
 is_over_limit places = nat_lt MAX_LIVE_LAYERS (length places)
-
--- no channel has too many live places after the acts and `ticks` ticks
-abbrev pub IsWithin : List Act → ℕ → Type 0
-IsWithin acts ticks = (channel : ℕ) → is_over_limit (live_places acts ticks channel) ≡ false

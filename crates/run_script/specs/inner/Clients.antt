@@ -1,9 +1,11 @@
 -- The connections of a script, and what a line of one of them makes of its session.
-use Rattle.std.specs.Prelude.{◌≡◌, ℕ, Bool, true, false, Option, Some, None, List, [], ◌∷◌, ◌++◌, length, find}
+use Rattle.std.specs.Prelude.{◌≡◌, ℕ, Bool, true, false, Option, Some, None, List, [], ◌∷◌, ◌++◌, length, find, All}
 use Rattle.std.specs.List.{list_any, position}
 use Rattle.amcp_text.specs.Lines.{IsEnded, lines_of}
+use Rattle.play_types.specs.Config.{ConfigView}
 use Rattle.play_types.specs.declared.command.Cmd.{Cmd}
 use Rattle.play_types.specs.declared.event.Tag.{Tag}
+use Rattle.history_model.specs.commands.Channels.{AreAimed}
 use Rattle.history_model.specs.scripts.Line.{Said}
 use Rattle.history_model.specs.scripts.History.{Playout, PlayedLine, same_tag, texts_of, stream_of, given_up_of, said_step}
 use Rattle.history_model.specs.sessions.Session.{line_steps, is_end}
@@ -46,6 +48,19 @@ client_of tag clients = find (λ client. same_tag tag client.tag) clients
 abbrev pub AreClients : Playout → List Client → List PlayedLine → Type 0
 AreClients playout clients played = (tag : Tag) → IsClient playout tag (client_of tag clients) played
 
+-- the commands of the batch of a connection
+abbrev pub batch_in : Option Client → List Cmd
+batch_in None = []
+batch_in (Some client) = client.session.batch
+
+-- the commands of the batch of the connection of this tag
+abbrev pub batch_of : Tag → List Client → List Cmd
+batch_of tag clients = batch_in (client_of tag clients)
+
+-- each command of a batch names configured channels alone
+abbrev pub HaveAimedBatches : ConfigView → List Client → Type 0
+HaveAimedBatches config clients = All (λ (client : Client). AreAimed config client.session.batch) clients
+
 -- whether the session gave the line up, out of memory
 abbrev pub gave_up : Option Step → Bool
 gave_up None = false
@@ -70,14 +85,12 @@ step_view (Some found) commands = viewed found commands
 
 -- the line was taken: its step was found, none where the connection has ended before
 pub record ClientsTakeLine (next : NextText) (found : Option Step) (new : List Client) : Type 0 where
-  pub commands : List Cmd
-  pub given : said_step next.playout next.played (played_text next found) next.tag ≡ step_view found commands
+  pub given : said_step next.playout next.played (played_text next found) next.tag ≡ step_view found (batch_of next.tag new)
   pub serves : AreClients next.playout new (next.played ++ played_text next found ∷ [])
 
 -- the line was taken by the session of its connection
 pub record ClientTakesLine (next : NextText) (found : Option Step) (new : Client) : Type 0 where
-  pub commands : List Cmd
-  pub given : said_step next.playout next.played (played_text next found) next.tag ≡ step_view found commands
+  pub given : said_step next.playout next.played (played_text next found) next.tag ≡ step_view found new.session.batch
   pub serves : ServesConnection next.playout new (next.played ++ played_text next found ∷ [])
 
 -- the first connection of this tag stands at this place

@@ -1,29 +1,36 @@
 -- What the player keeps, and what a line makes of it.
-use Rattle.std.specs.Prelude.{◌≡◌, ◌≢◌, ℕ, ◌+◌, Bool, true, false, Option, None, Result, Ok, Err, List, [], ◌∷◌, ◌++◌, length, map, All}
+use Rattle.std.specs.Prelude.{◌≡◌, ◌≢◌, ℕ, Bool, true, false, Option, None, Result, Ok, Err, List, [], ◌∷◌, ◌++◌, length, flat_map}
 use Rattle.std.specs.List.{range_with_len}
-use Rattle.play_types.specs.History.{stop_at, ticks}
-use Rattle.play_types.specs.Scene.{IsConfigured}
+use Rattle.play_types.specs.Commands.{answer_reply, command_name}
+use Rattle.play_types.specs.History.{stop_at}
+use Rattle.play_types.specs.declared.answer.Answer.{Answer}
 use Rattle.play_types.specs.declared.command.Cmd.{Cmd}
 use Rattle.play_types.specs.declared.event.Tag.{Tag}
 use Rattle.play_types.specs.declared.event.Event.{Event}
-use Rattle.play_types.specs.declared.geometry.Geometry.{Geometry}
+use Rattle.play_types.specs.declared.event.Event.TheVariants as event
+use Rattle.play_types.specs.declared.reply.Name.{Name}
+use Rattle.play_types.specs.declared.reply.Name.TheVariants as name
 use Rattle.play_types.specs.declared.reply.Reply.{Reply}
+use Rattle.play_types.specs.declared.reply.Reply.TheVariants as reply
 use Rattle.play_outside.specs.SinkState.{SinkState, after_taking}
 use Rattle.play_outside.specs.Sink.{Fails}
-use Rattle.history_model.specs.pictures.Frame.{frame_pixel, pictures_after}
 use Rattle.history_model.specs.pictures.Media.{Setup}
-use Rattle.history_model.specs.pictures.Scene.{scene}
-use Rattle.history_model.specs.stage.Plain.{IsPlainHistory}
 use Rattle.history_model.specs.scripts.Line.{ScriptLine, Rejected}
-use Rattle.history_model.specs.scripts.History.{Playout, PlayedLine, Turn, channel_size, ends_at, is_kill, script_events, setup_of, step_events, verdict, verdict_events}
-use Rattle.history_model.specs.scripts.Output.{ask_reply, channel_output, output_at, picture_bytes, reply_output, step_reply}
+use Rattle.history_model.specs.scripts.History.{Playout, PlayedLine, Turn, ends_at, is_kill, script_events, setup_of, step_events, verdict, verdict_events}
+use Rattle.history_model.specs.scripts.Output.{channel_output, output_at, reply_output, step_reply, verdict_reply}
 use Rattle.history_model.specs.sessions.Session.{Step}
-use Rattle.play_scene.specs.Frames.{ArePictures, FrameView, Shows, frame_at}
+use Rattle.history_model.specs.stage.Acts.{is_refused}
+use Rattle.history_model.specs.stage.Answer.{command_answer, outcome_of}
+use Rattle.play_scene.specs.Frames.{frame_at}
+use Rattle.band_render.specs.Histories as frames
+use Rattle.band_render.specs.Rendered.{sizes}
+use Rattle.stage_core.specs.declared.fault.ApplyFault.{ApplyFault}
+use Rattle.stage_core.specs.declared.fault.ApplyFault.TheVariants as fault
 use Rattle.run_script.specs.Program.{playout_of}
 use Rattle.run_script.specs.declared.ending.Halt.{Halt}
 use Rattle.run_script.specs.declared.ending.Halt.TheVariants as halt
 use Rattle.run_script.specs.declared.player.Player.{Player}
-use Rattle.run_script.specs.inner.Clients.{AreClients}
+use Rattle.run_script.specs.inner.Clients.{AreClients, HaveAimedBatches}
 
 -- what the script is played on
 abbrev pub playout_in : Player → Playout
@@ -41,20 +48,14 @@ events_in player = player.stage.journal.events
 abbrev pub channels_in : Player → ℕ
 channels_in player = length player.setup.config.channels
 
--- the sizes of frames
-abbrev pub sizes_of : List FrameView → List Geometry
-sizes_of frames = map (λ frame. frame.size) frames
-
--- the player can go on: no channel has sound, the stage, the scenes and the frames are those of the configuration, the history
--- holds plain commands alone and no stop, and the frames that were shown last are those of its last tick
+-- the player can go on: the stage, the scenes, the batches and the frames are those of the configuration, the frames are those of
+-- the last tick of the history, and the history holds no stop
 pub record IsReady (player : Player) : Type 0 where
-  pub silent : All (λ channel. channel.pairs ≡ 0) player.setup.config.channels
   pub limit : player.stage.journal.limit ≡ player.setup.config.journal_limit
   pub channels : player.stage.channels ≡ channels_in player
   pub scenes : length player.scenes ≡ channels_in player
-  pub sizes : sizes_of player.next ≡ map channel_size player.setup.config.channels
-  pub pictures : ArePictures (pictures_after (setup_in player) (events_in player)) player.shown player.setup.media
-  pub plain : IsPlainHistory (events_in player)
+  pub batches : HaveAimedBatches player.setup.config player.clients.list.items
+  pub frames : frames.Represents (setup_in player) (events_in player) player.setup.media player.renderer
   pub running : stop_at (events_in player) ≡ None
 
 -- the history has these events more, and what is played on and the connections are as before
@@ -78,29 +79,19 @@ WritesText (Err halt.Memory) text before after = ⊥
 WritesText (Err halt.Stop) text before after = ⊥
 WritesText (Err halt.Rejected) text before after = ⊥
 
--- the player draws the tick after these events: it has their scenes, and the frames of the tick before
-pub record IsDrawing (events : List Event) (player : Player) : Type 0 where
-  pub silent : All (λ channel. channel.pairs ≡ 0) player.setup.config.channels
-  pub scenes : player.scenes ≡ map (scene events) (range_with_len 1 (channels_in player))
-  pub sizes : sizes_of player.next ≡ map channel_size player.setup.config.channels
-  pub pictures : ArePictures (pictures_after (setup_in player) events) player.shown player.setup.media
-  pub plain : IsPlainHistory events
+-- the scenes and the frames are those of the channels that are configured
+pub record FitsChannels (player : Player) : Type 0 where
+  pub scenes : length player.scenes ≡ channels_in player
+  pub frames : (setup_in player).channels ≡ sizes player.renderer
 
--- the next frame of a channel is the one of the tick after these events
-abbrev pub IsDrawn : List Event → Player → ℕ → Type 0
-IsDrawn events player channel = Shows (frame_at channel player.next) (frame_pixel (setup_in player) events channel)
+-- what is written for the frame that a channel has
+abbrev pub frame_text : Player → ℕ → ℕ → List ℕ
+frame_text player tick channel =
+    channel_output (playout_in player) tick channel (frame_at channel player.renderer).bytes (frame_at channel player.renderer).sound
 
--- the frame of one channel was drawn, and all else is as before
-pub record DrawsChannel (channel : ℕ) (events : List Event) (old new : Player) : Type 0 where
-  pub same : new ≡ record old { next = new.next }
-  pub sizes : sizes_of new.next ≡ sizes_of old.next
-  pub drawn : IsDrawn events new channel
-  pub others : (other : ℕ) → IsConfigured (channels_in old) other → other ≢ channel → frame_at other new.next ≡ frame_at other old.next
-
--- what is written for a channel at the tick after these events
-abbrev pub channel_text : Playout → List Event → ℕ → List ℕ
-channel_text playout events channel =
-    channel_output playout (ticks events + 1) channel (picture_bytes (setup_of playout) events channel) []
+-- what is written for the frames of all channels
+abbrev pub frame_texts : Player → ℕ → List ℕ
+frame_texts player tick = flat_map (frame_text player tick) (range_with_len 1 (channels_in player))
 
 -- when the stage is asked by a connection of the player
 abbrev pub turn_in : Player → Tag → Bool → Turn
@@ -111,11 +102,51 @@ turn_in player tag no_memory = record {
   no_memory = no_memory;
 }
 
--- a command was done or refused, by this reply, and it is an event where its verdict says so
-pub record DoesCommand (tag : Tag) (command : Cmd) (answer : Reply) (old new : Player) : Type 0 where
+-- what the stage is asked for: its event and how many commands that has, the name in its reply, and the answer to it where it is
+-- an event
+pub record Request : Type 0 where
+  pub event : Event
+  pub commands : ℕ
+  pub name : Name
+  pub answer : Answer
+
+-- a command by a connection of the player
+abbrev pub command_request : Player → Tag → Cmd → Request
+command_request player tag command = record {
+  event = event.Do tag command;
+  commands = 1;
+  name = command_name command;
+  answer = command_answer (setup_in player) (events_in player) (is_refused (events_in player) (event.Do tag command)) command;
+}
+
+-- a batch of a connection of the player
+abbrev pub batch_request : Player → Tag → List Cmd → Request
+batch_request player tag commands = record {
+  event = event.Batch tag commands;
+  commands = length commands;
+  name = name.Commit;
+  answer = outcome_of (is_refused (events_in player) (event.Batch tag commands));
+}
+
+-- the history did not end before what the stage was asked for
+abbrev pub IsGoingOn : Result Answer ApplyFault → Type 0
+IsGoingOn (Ok answer) = Unit {0}
+IsGoingOn (Err fault.OutOfMemory) = Unit {0}
+IsGoingOn (Err (fault.JournalFull held)) = Unit {0}
+IsGoingOn (Err (fault.Ended at)) = ⊥
+
+-- a reply says what became of a command or of a batch of this name
+abbrev pub RepliesTo : Name → Result Answer ApplyFault → Reply → Type 0
+RepliesTo asked (Ok answer) found = found ≡ answer_reply asked answer
+RepliesTo asked (Err fault.OutOfMemory) found = found ≡ reply.Refused 501 asked
+RepliesTo asked (Err (fault.JournalFull held)) found = found ≡ reply.Refused 503 asked
+RepliesTo asked (Err (fault.Ended at)) found = ⊥
+
+-- a request of a connection was done or refused, by this reply, and it is an event where its verdict says so
+pub record DoesRequest (tag : Tag) (request : Request) (found : Reply) (old new : Player) : Type 0 where
   pub no_memory : Bool
-  pub replies : answer ≡ ask_reply (turn_in old tag no_memory) command
-  pub makes : MakesEvents (verdict_events tag command (verdict (turn_in old tag no_memory) command)) old new
+  pub replies : found ≡ verdict_reply request.name request.answer (verdict (turn_in old tag no_memory) request.commands)
+  pub makes : MakesEvents (verdict_events request.event (verdict (turn_in old tag no_memory) request.commands)) old new
 
 -- a step of a connection, none where that has ended before, when the stage is asked
 pub record NextStep : Type 0 where
@@ -136,19 +167,18 @@ IsFollowed next (Err halt.Write) made before after = Fails (step_text next) befo
 IsFollowed next (Err halt.Memory) made before after = ⊥
 IsFollowed next (Err halt.Rejected) made before after = ⊥
 
--- a step that a connection of the player gave, by the commands of the batch that is asked for
+-- a step that a connection of the player gave, none where that has ended before
 pub record Given : Type 0 where
   pub player : Player
   pub tag : Tag
-  pub step : List Cmd → Option Step
+  pub step : Option Step
 
 -- the step was followed: it made these events, and the stage had memory for what it asks or not
 pub record FollowsStep (given : Given) (result : Result (Unit {0}) Halt) (new : Player) (before after : SinkState) : Type 0 where
   pub no_memory : Bool
   pub made : List Event
   pub makes : MakesEvents made given.player new
-  pub follows : (commands : List Cmd)
-      → IsFollowed (record { turn = turn_in given.player given.tag no_memory; step = given.step commands }) result made before after
+  pub follows : IsFollowed (record { turn = turn_in given.player given.tag no_memory; step = given.step }) result made before after
 
 -- a line of a script after those that were played before it
 pub record NextLine : Type 0 where

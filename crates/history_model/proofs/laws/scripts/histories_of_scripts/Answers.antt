@@ -1,9 +1,6 @@
 use Rattle.history_model.proofs.Scripts.{script_kept, script_running}
 use Rattle.history_model.proofs.laws.scripts.histories_of_scripts.Goals as goal
 
-pub returns-clause-plain : goal.returns-clause-plain
-returns-clause-plain c = λ playout lines. (script_kept playout lines).plain
-
 pub returns-clause-history : goal.returns-clause-history
 returns-clause-history c = λ playout lines. (script_kept playout lines).history
 

@@ -5,6 +5,8 @@ use Rattle.amcp_text.specs.Reader as reader
 use Rattle.play_session.specs.SessionState.{SessionState}
 use Rattle.play_session.specs.Session.{Represents}
 use Rattle.history_model.specs.commands.Channels.{AreAimed}
+use Rattle.play_session.specs.inner.Following.{batch_of}
+use Rattle.play_session.proofs.Filled.{followed_filled}
 use Rattle.play_session.proofs.Fitting.{followed_aimed, followed_fits}
 use Rattle.play_session.proofs.Standing.{all_given}
 use Rattle.play_session.proofs.NextLine.{TookLine, Gives-followed}
@@ -40,3 +42,9 @@ returns-clause-aimed c = λ aimed.
     let inner = subst (λ (session : SessionState). AreAimed c.args.config.now session.batch) (sym c.self.view_is) aimed in
     followed_aimed c.args.config.now c.args.media.now (line_view c.in-Some.line) c.meaning_of-meaning.result c.follow.result before c.follow.new.self
     c.meaning_of-meaning.ensures c.follow.ensures.follows inner
+
+pub returns-clause-filled : goal.returns-clause-filled
+returns-clause-filled c =
+    let inside = c.self.inside in
+    let before : SessionState = record { reader = inside.reader; batch_open = inside.batch.is_open; batch = inside.batch.commands; ended = inside.ended } in
+    followed_filled c.meaning_of-meaning.result c.follow.result (batch_of before) (batch_of c.follow.new.self) c.follow.ensures.follows

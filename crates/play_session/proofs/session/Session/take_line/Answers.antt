@@ -5,6 +5,8 @@ use Rattle.amcp_text.specs.ReaderState.{ReaderState}
 use Rattle.play_session.specs.Session.{IsBetweenLines, Represents}
 use Rattle.play_session.specs.SessionState.{SessionState}
 use Rattle.history_model.specs.commands.Channels.{AreAimed}
+use Rattle.play_session.specs.inner.Following.{batch_of}
+use Rattle.play_session.proofs.Filled.{followed_filled}
 use Rattle.play_session.proofs.Fitting.{followed_aimed, followed_fits}
 use Rattle.play_session.proofs.WholeLine.{Gives-whole}
 use Rattle.play_session.proofs.session.Session.take_line.Goals as goal
@@ -37,3 +39,9 @@ returns-clause-aimed c = λ aimed.
     let inner = subst (λ (session : SessionState). AreAimed c.args.config.now session.batch) (sym c.self.view_is) aimed in
     followed_aimed c.args.config.now c.args.media.now (line_of_text c.args.text.now) c.meaning_of-meaning.result c.follow.result before c.follow.new.self
     (rw c.of.ensures at c.meaning_of-meaning.ensures) c.follow.ensures.follows inner
+
+pub returns-clause-filled : goal.returns-clause-filled
+returns-clause-filled c =
+    let inside = c.self.inside in
+    let before : SessionState = record { reader = inside.reader; batch_open = inside.batch.is_open; batch = inside.batch.commands; ended = inside.ended } in
+    followed_filled c.meaning_of-meaning.result c.follow.result (batch_of before) (batch_of c.follow.new.self) c.follow.ensures.follows

@@ -3,8 +3,8 @@ use Rattle.std.specs.Prelude.{None}
 use Rattle.std.specs.List.{position}
 use Rattle.history_model.specs.scripts.History.{same_tag}
 use Rattle.run_script.specs.declared.clients.Client.{Client}
-use Rattle.run_script.specs.inner.Clients.{AreClients, IsPlaceOf}
-use Rattle.run_script.proofs.Connections.{added, added_place}
+use Rattle.run_script.specs.inner.Clients.{AreClients, HaveAimedBatches, IsPlaceOf}
+use Rattle.run_script.proofs.Connections.{added, added_place, aimed_added}
 use Rattle.run_script.proofs.clients.Clients.place_of.Goals as goal
 
 pub returns : goal.returns
@@ -20,5 +20,6 @@ returns c =
     let none : position (λ (one : Client). same_tag tag one.tag) old ≡ None = sym c.find.ensures ∙ c.in_default.is in (
       omega (arith, at, size),
       subst (λ n. IsPlaceOf tag n c.push.new.self.items) (sym at) (subst (λ l. IsPlaceOf tag (length old) l) (sym all) (added_place tag old new refl none)),
+      λ config aimed. subst (HaveAimedBatches config) (sym all) (aimed_added config old new c.in_ok-session.ensures.batch aimed),
       λ playout played are. subst (λ l. AreClients playout l played) (sym all) (added playout old new played none are c.in_ok-session.ensures.represents c.in_ok-session.ensures.between c.in_ok-session.ensures.ended),
     )

@@ -1,33 +1,33 @@
-use Rattle.std.proofs.Common.{◌≡◌, true, ap, sym, ◌∙◌, subst, refl}
-use Rattle.history_model.specs.stage.Plain.{is_built}
-use Rattle.play_types.specs.Commands.{answer_reply}
-use Rattle.play_types.specs.declared.event.Event.TheVariants.{Do}
-use Rattle.history_model.specs.scripts.History.{setup_of}
-use Rattle.history_model.specs.text.Replies.{IsReplyTo}
-use Rattle.history_model.proofs.Scripts.{built_is_plain}
-use Rattle.run_script.specs.inner.Player.{DoesCommand, events_in, playout_in}
-use Rattle.run_script.proofs.Following.{answer_fits, channels_of, does_taken, ready_after, ticks_kept}
+use Rattle.std.proofs.Common.{◌≢◌, refl, subst}
+use Rattle.play_types.specs.declared.event.Event.TheVariants.{Do, Tick}
+use Rattle.run_script.specs.inner.Player.{RepliesTo, command_request}
+use Rattle.run_script.proofs.Following.{command_answered, command_fits, does_request, going_on, no_tick_after, ready_after, served}
 use Rattle.run_script.proofs.player.Player.do_command.Goals as goal
 
-pub returns-in-Ok-clause-ready : goal.returns-in-Ok-clause-ready
-returns-in-Ok-clause-ready c =
-    let built : is_built c.args.cmd ≡ true = sym c.is_built.ensures ∙ c.if-not-is_built.false in
-    ready_after c.args.tag c.args.cmd c.args.self.now c.apply.new.self c.requires.ready (built_is_plain c.args.cmd built) c.in-Ok.ensures.journal
+pub apply-requires : goal.apply-requires
+apply-requires c = served c.args.self.now c.args.cmd c.requires.ready c.requires.aimed
 
-pub returns-in-Ok-clause-ticks : goal.returns-in-Ok-clause-ticks
-returns-in-Ok-clause-ticks c = ticks_kept (Do c.args.tag c.args.cmd) c.args.self.now c.apply.new.self refl c.in-Ok.ensures.journal
+pub reply_to-requires : goal.reply_to-requires
+reply_to-requires c = going_on c.args.self.now 1 c.apply.result c.requires.ready c.apply.ensures.fault
 
-pub returns-in-Ok-clause-fits : goal.returns-in-Ok-clause-fits
-returns-in-Ok-clause-fits c =
-    let built : is_built c.args.cmd ≡ true = sym c.is_built.ensures ∙ c.if-not-is_built.false in
-    let same = c.to_answer.ensures ∙ ap (λ n. answer_reply n c.in-Ok.answer) c.name-in-Ok.ensures in
-    let setup = setup_of (playout_in c.args.self.now) in
-    subst (IsReplyTo c.args.self.now.setup.config) (sym same)
-    (answer_fits c.args.self.now.setup.config setup (events_in c.args.self.now) c.args.tag c.args.cmd c.in-Ok.answer built (c.in-Ok.ensures.answer setup (channels_of c.args.self.now c.requires.ready)))
+pub returns-clause-ready : goal.returns-clause-ready
+returns-clause-ready c =
+    let other : Do c.args.tag c.args.cmd ≢ Tick = λ same. cc in
+    ready_after (Do c.args.tag c.args.cmd) c.apply.result c.args.self.now c.apply.new.self other refl c.requires.ready c.apply.ensures.journal c.apply.ensures.err
 
-pub returns-in-Ok-clause-does : goal.returns-in-Ok-clause-does
-returns-in-Ok-clause-does c =
-    let built : is_built c.args.cmd ≡ true = sym c.is_built.ensures ∙ c.if-not-is_built.false in
-    let same = c.to_answer.ensures ∙ ap (λ n. answer_reply n c.in-Ok.answer) c.name-in-Ok.ensures in
-    subst (λ r. DoesCommand c.args.tag c.args.cmd r c.args.self.now (record c.args.self.now { stage = c.apply.new.self })) (sym same)
-    (does_taken c.args.tag c.args.cmd c.in-Ok.answer c.args.self.now c.apply.new.self c.requires.ready built c.in-Ok.ensures.room c.in-Ok.ensures.answer c.in-Ok.ensures.journal)
+pub returns-clause-ticks : goal.returns-clause-ticks
+returns-clause-ticks c = no_tick_after (Do c.args.tag c.args.cmd) c.apply.result c.args.self.now c.apply.new.self refl c.apply.ensures.journal c.apply.ensures.err
+
+pub returns-clause-fits : goal.returns-clause-fits
+returns-clause-fits c =
+    let old = c.args.self.now in
+    command_fits old c.args.tag c.args.cmd c.apply.result c.reply_to.result
+    (command_answered old c.args.tag c.args.cmd c.apply.result c.requires.ready c.apply.ensures.answer)
+    (subst (λ n. RepliesTo n c.apply.result c.reply_to.result) c.name-name.ensures c.reply_to.ensures)
+
+pub returns-clause-does : goal.returns-clause-does
+returns-clause-does c =
+    let old = c.args.self.now in
+    does_request c.args.tag (command_request old c.args.tag c.args.cmd) c.apply.result c.reply_to.result old c.apply.new.self c.requires.ready
+    (command_answered old c.args.tag c.args.cmd c.apply.result c.requires.ready c.apply.ensures.answer) c.apply.ensures.journal c.apply.ensures.room
+    c.apply.ensures.err c.apply.ensures.fault (subst (λ n. RepliesTo n c.apply.result c.reply_to.result) c.name-name.ensures c.reply_to.ensures)

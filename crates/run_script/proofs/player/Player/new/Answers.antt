@@ -4,10 +4,10 @@ use Rattle.run_script.proofs.Beginning.{nothing_played, nothing_shown}
 use Rattle.run_script.proofs.player.Player.new.Goals as goal
 
 pub returns-clause-ready : goal.returns-clause-ready
-returns-clause-ready c = nothing_shown _ c.requires c.in_ok-stage.ensures c.in_ok-scenes.ensures c.in_ok-shown.ensures c.in_ok-next.ensures
+returns-clause-ready c = nothing_shown _ c.in_ok-stage.ensures c.in_ok-scenes.ensures c.in_ok-renderer.ensures c.new-4.ensures
 
 pub returns-clause-empty : goal.returns-clause-empty
 returns-clause-empty c = ap (λ (s : StageView). s.journal.events) c.in_ok-stage.ensures
 
 pub returns-clause-represents : goal.returns-clause-represents
-returns-clause-represents c = nothing_played _ (ap (λ (s : StageView). s.journal.events) c.in_ok-stage.ensures) c.new-5.ensures
+returns-clause-represents c = nothing_played _ (ap (λ (s : StageView). s.journal.events) c.in_ok-stage.ensures) c.new-4.ensures

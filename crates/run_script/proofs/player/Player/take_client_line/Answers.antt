@@ -2,17 +2,17 @@ use Rattle.std.proofs.Common.{refl, ap, subst}
 use Rattle.std.specs.Prelude.{None, Ok, Some}
 use Rattle.history_model.specs.scripts.History.{Playout}
 use Rattle.play_session.specs.Step.{viewed}
-use Rattle.run_script.specs.inner.Clients.{ClientsTakeLine, NextText}
+use Rattle.run_script.specs.inner.Clients.{ClientsTakeLine, NextText, batch_of}
 use Rattle.run_script.specs.inner.Player.{FollowsStep, Given}
 use Rattle.run_script.proofs.Following.{follows_nothing, ready_clients}
 use Rattle.run_script.proofs.Lines.{step_followed}
 use Rattle.run_script.proofs.player.Player.take_client_line.Goals as goal
 
 pub follow_step-requires-clause-ready : goal.follow_step-requires-clause-ready
-follow_step-requires-clause-ready g c = ready_clients c.args.self.now c.take_line.new.self c.requires
+follow_step-requires-clause-ready g c = ready_clients c.args.self.now c.take_line.new.self c.requires (c.in_ok-step.ensures.aimed c.requires.batches)
 
 pub returns-in-None-clause-ready : goal.returns-in-None-clause-ready
-returns-in-None-clause-ready g c = ready_clients c.args.self.now c.take_line.new.self c.requires
+returns-in-None-clause-ready g c = ready_clients c.args.self.now c.take_line.new.self c.requires (c.in_ok-step.ensures.aimed c.requires.batches)
 
 pub returns-in-Some-clause-plays : goal.returns-in-Some-clause-plays
 returns-in-Some-clause-plays g c = λ playout played none on represents.
@@ -23,14 +23,15 @@ returns-in-Some-clause-plays g c = λ playout played none on represents.
     let took = c.in_ok-step.ensures.takes playout played follows.no_memory (ap (λ (p : Playout). p.config) represents.on) (ap (λ (p : Playout). p.names) represents.on) none represents.clients in
     let takes : ClientsTakeLine next (Some step) c.take_line.new.self.list.items =
     subst (λ f. ClientsTakeLine next f c.take_line.new.self.list.items) c.in-Some.is took in
-    step_followed next (Some step) (viewed step) c.follow_step.result old c.follow_step.new.self _ _ on represents.on represents.history follows refl takes (λ commands. refl)
+    step_followed next (Some step) (viewed step (batch_of c.args.tag c.take_line.new.self.list.items)) c.follow_step.result old c.follow_step.new.self _ _ on represents.on represents.history
+    follows refl takes refl
 
 pub returns-in-None-clause-plays : goal.returns-in-None-clause-plays
 returns-in-None-clause-plays g c = λ playout played none on represents.
     let old = record c.args.self.now { clients = c.take_line.new.self } in
-    let given : Given = record { player = old; tag = c.args.tag; step = λ commands. None } in
-    let follows : FollowsStep given (Ok tt) old (g.K.Sink.state c.args.out.now) (g.K.Sink.state c.args.out.now) = follows_nothing given tt _ (λ commands. (refl, refl, refl)) in
+    let given : Given = record { player = old; tag = c.args.tag; step = None } in
+    let follows : FollowsStep given (Ok tt) old (g.K.Sink.state c.args.out.now) (g.K.Sink.state c.args.out.now) = follows_nothing given tt _ refl refl refl in
     let next : NextText = record { playout = playout; played = played; tag = c.args.tag; text = c.args.text.now; no_memory = follows.no_memory } in
     let took = c.in_ok-step.ensures.takes playout played follows.no_memory (ap (λ (p : Playout). p.config) represents.on) (ap (λ (p : Playout). p.names) represents.on) none represents.clients in
     let takes : ClientsTakeLine next None c.take_line.new.self.list.items = subst (λ f. ClientsTakeLine next f c.take_line.new.self.list.items) c.in-None.is took in
-    step_followed next None (λ commands. None) (Ok tt) old old _ _ on represents.on represents.history follows refl takes (λ commands. refl)
+    step_followed next None None (Ok tt) old old _ _ on represents.on represents.history follows refl takes refl

@@ -1,0 +1,16 @@
+pub mod Says
+pub mod Digits
+pub mod Tagged
+pub mod Lines
+pub mod Quoted
+pub mod Sizes
+pub mod CommandSizes
+pub mod Spoken
+pub mod Playing
+pub mod Events
+pub mod Replaying
+pub mod Stops
+pub mod Histories
+pub mod Marked
+pub mod Written
+pub mod Named

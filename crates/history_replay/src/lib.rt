@@ -1,0 +1,11 @@
+//! A history is played again from its text.
+//!
+//! The text of a history is a script. The laws here say that a run of this script has that history, and writes its answers and
+//! its frames. No function of this crate does anything when it runs.
+#![tactic(auto)]
+
+pub mod examples;
+pub mod laws;
+mod limits;
+
+pub use limits::MAX_PRINTED_NAME_BYTES;

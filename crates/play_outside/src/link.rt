@@ -1,0 +1,38 @@
+//! A connection, which is read and written.
+ghost use Rattle.std.specs.Prelude.{◌<◌, length};
+ghost use Rattle.play_outside.specs.Link.{LinkReads};
+
+use super::Sink;
+
+/// What a read from a link did.
+#[derive(Clone, Copy, Debug, PartialEq, Eq)]
+pub enum LinkStep {
+    /// This many bytes stand at the beginning of the buffer, at least one.
+    Got(usize),
+    /// The other side has closed.
+    End,
+    /// Nothing has come yet.
+    Again,
+    /// The device failed, and gave nothing.
+    Failed,
+}
+
+/// A read that did not fail: what there was when it was called.
+#[derive(Clone, Copy, Debug, PartialEq, Eq)]
+pub struct Look {
+    /// How many bytes the link had taken by writes.
+    pub taken: usize,
+    /// How many bytes had been read.
+    pub read: usize,
+}
+
+/// A connection to a client.
+pub trait Link: Sink + Send {
+    /// Reads into the beginning of the buffer, finds the end, finds nothing yet, or fails and gives nothing. Where
+    /// nothing has come yet the count of idle looks rises by one, and a failed read raises the count of faults by one. A
+    /// link that tells of its reads tells each one that does not fail, with how many bytes it had taken by then. What
+    /// was taken and the mark stay.
+    fn read(&mut self, buf: &mut [u8]) -> LinkStep
+        requires { 0 < length buf.old }
+        ensures { LinkReads result buf.new (Self.state self.old) (Self.state self.new) };
+}

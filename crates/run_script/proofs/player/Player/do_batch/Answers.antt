@@ -1,0 +1,51 @@
+use Rattle.std.proofs.Common.{◌≢◌, ◌<◌, ◌∷◌, [], List, length, refl, sym, ◌∙◌, subst, arith}
+use Rattle.std.specs.Prelude.{All}
+use Rattle.play_types.specs.declared.command.Cmd.{Cmd}
+use Rattle.play_types.specs.declared.event.Event.TheVariants.{Batch, Tick}
+use Rattle.stage_core.specs.Served.{IsServed}
+use Rattle.run_script.specs.inner.Player.{DoesRequest, batch_request}
+use Rattle.run_script.proofs.Connections.{aimed_of}
+use Rattle.run_script.proofs.Following.{batch_answered, batch_fits, does_request, each_served, going_on, no_tick_after, ready_after}
+use Rattle.run_script.proofs.player.Player.do_batch.Goals as goal
+
+some : (commands : List Cmd) → commands ≢ [] → 0 < length commands
+some [] filled = absurd (filled refl)
+some (command ∷ commands) filled = omega arith
+
+pub apply_batch-requires-clause-some : goal.apply_batch-requires-clause-some
+apply_batch-requires-clause-some c = some c.batch-commands.result.now (λ none. c.requires.filled (sym c.batch-commands.ensures ∙ none))
+
+pub apply_batch-requires-clause-each : goal.apply_batch-requires-clause-each
+apply_batch-requires-clause-each c =
+    let old = c.args.self.now in
+    subst (λ commands. All (IsServed old.stage.channels) commands) (sym c.batch-commands.ensures)
+    (each_served old _ c.requires.ready (aimed_of old.setup.config c.args.tag old.clients.list.items c.requires.ready.batches))
+
+pub reply_to-requires : goal.reply_to-requires
+reply_to-requires c = going_on c.args.self.now (length c.batch-commands.result.now) c.apply_batch.result c.requires.ready c.apply_batch.ensures.fault
+
+pub returns-clause-ready : goal.returns-clause-ready
+returns-clause-ready c =
+    let one = Batch c.args.tag c.batch-commands.result.now in
+    let other : one ≢ Tick = λ same. cc in
+    ready_after one c.apply_batch.result c.args.self.now c.apply_batch.new.self other refl c.requires.ready c.apply_batch.ensures.journal c.apply_batch.ensures.err
+
+pub returns-clause-ticks : goal.returns-clause-ticks
+returns-clause-ticks c =
+    no_tick_after (Batch c.args.tag c.batch-commands.result.now) c.apply_batch.result c.args.self.now c.apply_batch.new.self refl c.apply_batch.ensures.journal c.apply_batch.ensures.err
+
+pub returns-clause-fits : goal.returns-clause-fits
+returns-clause-fits c =
+    let old = c.args.self.now in
+    let commands = c.batch-commands.result.now in
+    batch_fits old c.args.tag commands c.apply_batch.result c.reply_to.result
+    (batch_answered old c.args.tag commands c.apply_batch.result c.apply_batch.ensures.answer) c.reply_to.ensures
+
+pub returns-clause-does : goal.returns-clause-does
+returns-clause-does c =
+    let old = c.args.self.now in
+    let commands = c.batch-commands.result.now in
+    subst (λ l. DoesRequest c.args.tag (batch_request old c.args.tag l) c.reply_to.result old (record old { stage = c.apply_batch.new.self })) c.batch-commands.ensures
+    (does_request c.args.tag (batch_request old c.args.tag commands) c.apply_batch.result c.reply_to.result old c.apply_batch.new.self c.requires.ready
+    (batch_answered old c.args.tag commands c.apply_batch.result c.apply_batch.ensures.answer) c.apply_batch.ensures.journal c.apply_batch.ensures.room
+    c.apply_batch.ensures.err c.apply_batch.ensures.fault c.reply_to.ensures)

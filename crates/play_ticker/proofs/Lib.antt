@@ -1,0 +1,5 @@
+pub mod Frames
+pub mod Taking
+pub mod Steps
+pub mod LastPulse
+pub mod Ticking

@@ -1,0 +1,195 @@
+-- What outputs took, pulse by pulse.
+use Rattle.std.proofs.Common.{◌≡◌, ◌≢◌, ℕ, zero, suc, ◌+◌, ◌<◌, ◌≤◌, List, [], ◌∷◌, ◌++◌, length, get_or, set, refl, sym, ap, subst, ◌∙◌, arith}
+use Rattle.play_types.specs.declared.event.Event.{Event}
+use Rattle.play_types.specs.declared.event.Event.TheVariants.{Tick}
+use Rattle.play_outside.specs.SinkState.{SinkState, after_taking}
+use Rattle.play_outside.specs.Sink.{Fails}
+use Rattle.play_outside.proofs.Taking.{after_taking-after_taking, after_taking-nil}
+use Rattle.history_model.specs.pictures.Media.{Setup}
+use Rattle.play_ticker.specs.Frames.{before_last_tick, frames_text, raw_frame, tick_positions}
+use Rattle.play_ticker.specs.Outputs.{EachOutput, IsCutAt, IsWritten, Shown, TakesFrames}
+use Rattle.play_ticker.specs.inner.Pulse.{FailsAt}
+use Rattle.play_ticker.specs.declared.ending.TickEnd.{TickEnd}
+use Rattle.play_ticker.specs.declared.ending.TickEnd.TheVariants.{ClockClosed, Ended, TicksOver, ClockFault, OutFault}
+use Rattle.play_ticker.proofs.Frames.{GoesOn, before_last_tick-quiet, before_last_tick-tick, frames_text-none, frames_text-quiet, frames_text-tick}
+
+-- what holds of each output as it is
+pub each_same : {O : Type 0} (P : ℕ → O → O → Type 0) (k : ℕ) (xs : List O) → ((channel : ℕ) (x : O) → k ≤ channel → P channel x x) → EachOutput P k xs xs
+each_same P k [] h = tt
+each_same P k (x ∷ xs) h = (h k x (omega arith), each_same P (suc k) xs (λ channel x le. h channel x (omega (arith, le))))
+
+-- what holds of each output after a first and after a second change
+pub each_then : {O : Type 0} (P Q S : ℕ → O → O → Type 0) (k n : ℕ) (xs ys zs : List O) → length xs ≡ n
+    → ((channel : ℕ) (x y z : O) → k ≤ channel → channel < k + n → P channel x y → Q channel y z → S channel x z)
+    → EachOutput P k xs ys → EachOutput Q k ys zs → EachOutput S k xs zs
+each_then P Q S k n [] [] [] many h p q = tt
+each_then P Q S k n [] [] (z ∷ zs) many h p q = absurd q
+each_then P Q S k n [] (y ∷ ys) zs many h p q = absurd p
+each_then P Q S k n (x ∷ xs) [] zs many h p q = absurd p
+each_then P Q S k n (x ∷ xs) (y ∷ ys) [] many h p q = absurd q
+each_then P Q S k zero (x ∷ xs) (y ∷ ys) (z ∷ zs) many h p q = absurd (omega (arith, many))
+each_then P Q S k (suc n) (x ∷ xs) (y ∷ ys) (z ∷ zs) many h p q = (
+  h k x y z (omega arith) (omega arith) p.0 q.0,
+  each_then P Q S (suc k) n xs ys zs (omega (arith, many)) (λ channel x y z le lt p q. h channel x y z (omega (arith, le)) (omega (arith, lt)) p q) p.1 q.1,
+)
+
+-- what follows for each output
+pub each_map : {O : Type 0} (P S : ℕ → O → O → Type 0) (k : ℕ) (xs ys : List O)
+    → ((channel : ℕ) (x y : O) → k ≤ channel → channel < k + length xs → P channel x y → S channel x y) → EachOutput P k xs ys → EachOutput S k xs ys
+each_map P S k [] [] h p = tt
+each_map P S k [] (y ∷ ys) h p = absurd p
+each_map P S k (x ∷ xs) [] h p = absurd p
+each_map P S k (x ∷ xs) (y ∷ ys) h p = (
+  h k x y (omega arith) (omega arith) p.0,
+  each_map P S (suc k) xs ys (λ channel x y le lt q. h channel x y (omega (arith, le)) (omega (arith, lt)) q) p.1,
+)
+
+-- one output is changed: that of channel n, which is the i-th from channel k on
+pub each_set : {O : Type 0} (P Q : ℕ → O → O → Type 0) (k i n : ℕ) (xs ys : List O) (y z : O) → n ≡ k + i → y ≡ get_or ys i y
+    → ((channel : ℕ) (x w : O) → channel ≢ n → P channel x w → Q channel x w) → ((x : O) → P n x y → Q n x z)
+    → EachOutput P k xs ys → EachOutput Q k xs (set ys i z)
+each_set P Q k i n [] [] y z at read others here p = tt
+each_set P Q k i n [] (w ∷ ws) y z at read others here p = absurd p
+each_set P Q k i n (x ∷ xs) [] y z at read others here p = absurd p
+each_set P Q k zero n (x ∷ xs) (w ∷ ws) y z at read others here p =
+    let same : k ≡ n = omega (arith, at) in (
+      subst (λ (c : ℕ). Q c x z) (sym same) (here x (subst (λ (c : ℕ). P c x y) same (subst (P k x) (sym read) p.0))),
+      each_map P Q (suc k) xs ws (λ channel x w le lt q. others channel x w (omega (arith, le, at)) q) p.1,
+    )
+each_set P Q k (suc i) n (x ∷ xs) (w ∷ ws) y z at read others here p = (
+  others k x w (omega (arith, at)) p.0,
+  each_set P Q (suc k) i n xs ws y z (omega (arith, at)) read others here p.1,
+)
+
+-- the outputs of the channels up to `at` took their bytes, and the others took nothing
+pub record TakesBelow (at : ℕ) (bytes : ℕ → List ℕ) (channel : ℕ) (old new : SinkState) : Type 0 where
+  pub below : channel ≤ at → new ≡ after_taking old (bytes channel)
+  pub others : at < channel → new ≡ old
+
+-- so it is for each output
+abbrev pub AllBelow : {O : Type 0} → (O → SinkState) → (ℕ → List ℕ) → ℕ → List O → List O → Type 0
+AllBelow state bytes at olds news = EachOutput (λ channel old new. TakesBelow at bytes channel (state old) (state new)) 1 olds news
+
+-- before the first output
+pub frames_first : {O : Type 0} (state : O → SinkState) (bytes : ℕ → List ℕ) (xs : List O) → AllBelow state bytes 0 xs xs
+frames_first state bytes xs =
+    each_same (λ channel old new. TakesBelow 0 bytes channel (state old) (state new)) 1 xs
+    (λ channel x le. record { below = λ none. absurd (omega (arith, le, none)); others = λ more. refl })
+
+one_more_takes : (at : ℕ) (bytes : ℕ → List ℕ) (channel : ℕ) (old new : SinkState) → channel ≢ at + 1 → TakesBelow at bytes channel old new → TakesBelow (at + 1) bytes channel old new
+one_more_takes at bytes channel old new other h = record { below = λ le. h.below (omega (arith, le, other)); others = λ lt. h.others (omega (arith, lt)) }
+
+this_takes : (at : ℕ) (bytes : ℕ → List ℕ) (old mid new : SinkState) → TakesBelow at bytes (at + 1) old mid → new ≡ after_taking mid (bytes (at + 1)) → TakesBelow (at + 1) bytes (at + 1) old new
+this_takes at bytes old mid new h now = record {
+  below = λ le. now ∙ ap (λ (s : SinkState). after_taking s (bytes (at + 1))) (h.others (omega arith));
+  others = λ lt. absurd (omega (arith, lt));
+}
+
+-- one output more took its bytes
+pub frames_next : {O : Type 0} (state : O → SinkState) (bytes : ℕ → List ℕ) (at i : ℕ) (xs ys : List O) (y z : O) → i ≡ at → y ≡ get_or ys i y
+    → state z ≡ after_taking (state y) (bytes (at + 1)) → AllBelow state bytes at xs ys → AllBelow state bytes (at + 1) xs (set ys i z)
+frames_next state bytes at i xs ys y z same read now before =
+    each_set
+    (λ channel old new. TakesBelow at bytes channel (state old) (state new))
+    (λ channel old new. TakesBelow (at + 1) bytes channel (state old) (state new))
+    1 i (at + 1) xs ys y z (omega (arith, same)) read
+    (λ channel x w other h. one_more_takes at bytes channel (state x) (state w) other h)
+    (λ x h. this_takes at bytes (state x) (state y) (state z) h now)
+    before
+
+one_fails : (at : ℕ) (bytes : ℕ → List ℕ) (channel : ℕ) (old new : SinkState) → channel ≢ at + 1 → TakesBelow at bytes channel old new → FailsAt (at + 1) bytes channel old new
+one_fails at bytes channel old new other h = record {
+  below = λ lt. h.below (omega (arith, lt));
+  failing = λ same. absurd (other same);
+  above = λ lt. h.others (omega (arith, lt));
+}
+
+this_fails : (at : ℕ) (bytes : ℕ → List ℕ) (old mid new : SinkState) → TakesBelow at bytes (at + 1) old mid → Fails (bytes (at + 1)) mid new → FailsAt (at + 1) bytes (at + 1) old new
+this_fails at bytes old mid new h now = record {
+  below = λ lt. absurd (omega (arith, lt));
+  failing = λ same. subst (λ (s : SinkState). Fails (bytes (at + 1)) s new) (h.others (omega arith)) now;
+  above = λ lt. absurd (omega (arith, lt));
+}
+
+-- the next output failed
+pub frames_fail : {O : Type 0} (state : O → SinkState) (bytes : ℕ → List ℕ) (at i : ℕ) (xs ys : List O) (y z : O) → i ≡ at → y ≡ get_or ys i y
+    → Fails (bytes (at + 1)) (state y) (state z) → AllBelow state bytes at xs ys
+    → EachOutput (λ channel old new. FailsAt (at + 1) bytes channel (state old) (state new)) 1 xs (set ys i z)
+frames_fail state bytes at i xs ys y z same read now before =
+    each_set
+    (λ channel old new. TakesBelow at bytes channel (state old) (state new))
+    (λ channel old new. FailsAt (at + 1) bytes channel (state old) (state new))
+    1 i (at + 1) xs ys y z (omega (arith, same)) read
+    (λ channel x w other h. one_fails at bytes channel (state x) (state w) other h)
+    (λ x h. this_fails at bytes (state x) (state y) (state z) h now)
+    before
+
+-- all outputs took their bytes
+pub frames_all : {O : Type 0} (state : O → SinkState) (bytes : ℕ → List ℕ) (at : ℕ) (xs ys : List O) → length xs ≤ at → AllBelow state bytes at xs ys
+    → EachOutput (λ channel old new. state new ≡ after_taking (state old) (bytes channel)) 1 xs ys
+frames_all state bytes at xs ys all before =
+    each_map
+    (λ channel old new. TakesBelow at bytes channel (state old) (state new))
+    (λ channel old new. state new ≡ after_taking (state old) (bytes channel))
+    1 xs ys
+    (λ channel x y le lt h. h.below (omega (arith, all, lt)))
+    before
+
+-- there are as many outputs after as before
+pub each_length : {O : Type 0} (P : ℕ → O → O → Type 0) (k : ℕ) (xs ys : List O) → EachOutput P k xs ys → length ys ≡ length xs
+each_length P k [] [] p = refl
+each_length P k [] (y ∷ ys) p = absurd p
+each_length P k (x ∷ xs) [] p = absurd p
+each_length P k (x ∷ xs) (y ∷ ys) p = omega (arith, each_length P (suc k) xs ys p.1)
+
+-- outputs that took the frames of a history, and then one frame more
+pub taken_tick : (setup : Setup) (seen history : List Event) (channel : ℕ) (bytes : List ℕ) (old mid new : SinkState) → GoesOn seen history → bytes ≡ raw_frame setup history channel
+    → TakesFrames (record { setup = setup; history = seen }) channel old mid → new ≡ after_taking mid bytes
+    → TakesFrames (record { setup = setup; history = history ++ Tick ∷ [] }) channel old new
+taken_tick setup seen history channel bytes old mid new on frame before now =
+    let text : frames_text setup seen channel ++ bytes ≡ frames_text setup (history ++ Tick ∷ []) channel =
+    (λ i. sym (frames_text-quiet setup channel seen history on) i ++ frame i) ∙ sym (frames_text-tick setup channel history) in
+    now ∙ ap (λ (s : SinkState). after_taking s bytes) before ∙ after_taking-after_taking old (frames_text setup seen channel) bytes ∙ ap (after_taking old) text
+
+-- outputs that took the frames of a history, and of which one then failed
+pub cut_tick : (setup : Setup) (seen history : List Event) (failed channel : ℕ) (bytes : ℕ → List ℕ) (old mid new : SinkState) → GoesOn seen history → bytes channel ≡ raw_frame setup history channel
+    → TakesFrames (record { setup = setup; history = seen }) channel old mid → FailsAt failed bytes channel mid new
+    → IsCutAt failed (record { setup = setup; history = history ++ Tick ∷ [] }) channel old new
+cut_tick setup seen history failed channel bytes old mid new on frame before now =
+    let earlier : mid ≡ after_taking old (frames_text setup (before_last_tick (history ++ Tick ∷ [])) channel) =
+    before ∙ ap (after_taking old) (sym (frames_text-quiet setup channel seen history on) ∙ ap (λ (h : List Event). frames_text setup h channel) (sym (before_last_tick-tick history))) in
+    let last : bytes channel ≡ raw_frame setup (before_last_tick (history ++ Tick ∷ [])) channel =
+    frame ∙ ap (λ (h : List Event). raw_frame setup h channel) (sym (before_last_tick-tick history)) in
+    record {
+      below = λ lt. taken_tick setup seen history channel (bytes channel) old mid new on frame before (now.below lt);
+      failing = λ same. subst (λ (s : SinkState). Fails (raw_frame setup (before_last_tick (history ++ Tick ∷ [])) channel) s new) earlier
+          (subst (λ (b : List ℕ). Fails b mid new) last (now.failing same));
+      above = λ lt. now.above lt ∙ earlier;
+    }
+
+-- the frames of a history that goes on without a tick
+pub still_written : (end : TickEnd) (setup : Setup) (seen history : List Event) (channel : ℕ) (old new : SinkState) → GoesOn seen history
+    → IsWritten end (record { setup = setup; history = seen }) channel old new → IsWritten end (record { setup = setup; history = history }) channel old new
+still_written end setup seen history channel old new on is =
+    let text : frames_text setup seen channel ≡ frames_text setup history channel = sym (frames_text-quiet setup channel seen history on) in
+    let last : before_last_tick seen ≡ before_last_tick history = sym (before_last_tick-quiet seen history on) in
+    go end text last is
+  where
+    go : (end : TickEnd) → frames_text setup seen channel ≡ frames_text setup history channel → before_last_tick seen ≡ before_last_tick history
+        → IsWritten end (record { setup = setup; history = seen }) channel old new → IsWritten end (record { setup = setup; history = history }) channel old new
+    go ClockClosed text last is = is ∙ ap (after_taking old) text
+    go (Ended at) text last is = is ∙ ap (after_taking old) text
+    go TicksOver text last is = is ∙ ap (after_taking old) text
+    go ClockFault text last is = is ∙ ap (after_taking old) text
+    go (OutFault failed) text last is = record {
+      below = λ lt. is.below lt ∙ ap (after_taking old) text;
+      failing = λ same. subst (λ (h : List Event). Fails (raw_frame setup h channel) (after_taking old (frames_text setup h channel)) new) last (is.failing same);
+      above = λ lt. subst (λ (h : List Event). new ≡ after_taking old (frames_text setup h channel)) last (is.above lt);
+    }
+
+-- before the first tick
+pub outs_first : {O : Type 0} (state : O → SinkState) (setup : Setup) (seen : List Event) (xs : List O) → tick_positions seen ≡ []
+    → EachOutput (λ channel old new. TakesFrames (record { setup = setup; history = seen }) channel (state old) (state new)) 1 xs xs
+outs_first state setup seen xs none =
+    each_same (λ channel old new. TakesFrames (record { setup = setup; history = seen }) channel (state old) (state new)) 1 xs
+    (λ channel x le. sym (ap (after_taking (state x)) (frames_text-none setup channel seen none) ∙ after_taking-nil (state x)))

@@ -1,0 +1,78 @@
+-- How the ticks end: the pulses that were taken, the looks at the stage, and who stopped it.
+use Rattle.std.specs.Prelude.{◌≡◌, ℕ, ◌+◌, ◌<◌, ◌⊎◌, true, Some, List, [], ◌∷◌, ◌++◌, take, option_map}
+use Rattle.play_types.specs.History.{stop_at, ticks}
+use Rattle.play_types.specs.Scene.{IsConfigured}
+use Rattle.play_types.specs.declared.event.Event.TheVariants.{Stop}
+use Rattle.play_types.specs.declared.event.TheConstants.{MAX_TICKS}
+use Rattle.play_outside.specs.ClockState.{ClockState, ClockTold, after_clock_closed, after_clock_fault}
+use Rattle.history_model.specs.scripts.History.{server}
+use Rattle.stage_core.specs.declared.fault.TickFault.{TickFault}
+use Rattle.stage_core.specs.declared.fault.TickFault.TheVariants as fault
+use Rattle.stage_lock.specs.Views.{PassView}
+use Rattle.play_ticker.specs.declared.ending.TickEnd.{TickEnd}
+use Rattle.play_ticker.specs.declared.ending.TickEnd.TheVariants.{ClockClosed, Ended, TicksOver, ClockFault, OutFault}
+
+-- the end that a tick's fault gives
+abbrev pub end_of : TickFault → TickEnd
+end_of (fault.Ended at) = Ended at
+end_of fault.TicksOver = TicksOver
+
+-- the pulses that were taken where this number of ticks was made: one more where a tick was refused
+abbrev pub pulses_taken : TickEnd → ℕ → ℕ
+pulses_taken ClockClosed made = made
+pulses_taken (Ended at) made = made + 1
+pulses_taken TicksOver made = made + 1
+pulses_taken ClockFault made = made
+pulses_taken (OutFault channel) made = made
+
+-- what is told after this number of pulses more
+abbrev pub more_pulses : ℕ → ClockTold → ClockTold
+more_pulses count told = record told { pulses = told.pulses + count }
+
+-- the clock after it gave this number of pulses more
+abbrev pub after_pulses : ℕ → ClockState → ClockState
+after_pulses count state = record state { told = option_map (more_pulses count) state.told }
+
+-- the clock after its last answer, where that was no pulse
+abbrev pub after_end : TickEnd → ClockState → ClockState
+after_end ClockClosed state = after_clock_closed state
+after_end (Ended at) state = state
+after_end TicksOver state = state
+after_end ClockFault state = after_clock_fault state
+after_end (OutFault channel) state = state
+
+-- the clock at an end, where this number of ticks was made
+abbrev pub clock_at_end : TickEnd → ℕ → ClockState → ClockState
+clock_at_end end made state = after_end end (after_pulses (pulses_taken end made) state)
+
+-- how often the stage was asked for a stop
+abbrev pub stops_asked : TickEnd → ℕ
+stops_asked ClockClosed = 1
+stops_asked (Ended at) = 0
+stops_asked TicksOver = 1
+stops_asked ClockFault = 1
+stops_asked (OutFault channel) = 1
+
+-- how often a pass won the turn of the stage: once for each pulse, and once for the stop
+abbrev pub turns_won : TickEnd → ℕ → ℕ
+turns_won end made = pulses_taken end made + stops_asked end
+
+-- a pass made the stop of tag 0.0, at this position, as the last event that it has seen
+pub record MakesStop (at : ℕ) (pass : PassView) : Type 0 where
+  pub ends : pass.ends ≡ true
+  pub last : pass.seen ≡ take at pass.seen ++ Stop server ∷ []
+
+-- a pass has seen a stop, at this position: it made that of tag 0.0, or it found one
+pub record StopsStage (old new : PassView) : Type 0 where
+  pub at : ℕ
+  pub stopped : stop_at new.seen ≡ Some at
+  pub by : MakesStop at new ⊎ (new.ends ≡ old.ends)
+
+-- what a pass has seen and made at an end
+abbrev pub EndsPass : TickEnd → PassView → PassView → Type 0
+EndsPass ClockClosed old new = StopsStage old new
+EndsPass (Ended at) old new = (stop_at new.seen ≡ Some at) × (new.ends ≡ old.ends)
+EndsPass TicksOver old new = StopsStage old new × (ticks new.seen ≡ MAX_TICKS)
+EndsPass ClockFault old new = StopsStage old new
+EndsPass (OutFault channel) old new =
+    StopsStage old new × (0 < ticks new.seen) × IsConfigured new.stage.sizes.channels channel

@@ -1,0 +1,4 @@
+pub mod Frames
+pub mod Outputs
+pub mod Ends
+pub mod inner

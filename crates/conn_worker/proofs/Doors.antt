@@ -1,0 +1,155 @@
+-- The work at a door, turn by turn.
+use Rattle.std.proofs.Common.{◌≡◌, ℕ, ◌+◌, ◌-◌, ◌≤◌, List, [], ◌∷◌, ◌++◌, refl, sym, ap, subst, ◌∙◌, arith, inl, inr}
+use Rattle.conn_worker.specs.declared.work_end.TheConstants.{MAX_SESSIONS}
+use Rattle.std.specs.Prelude.{Some, None, Result, Ok, Err}
+use Rattle.std.proofs.lemmas.List.Sums.{sum_by-cons, sum_by_push}
+use Rattle.play_types.specs.History.{stop_at}
+use Rattle.play_types.specs.declared.event.Event.TheVariants.{Stop}
+use Rattle.play_outside.specs.SinkState.{SinkState}
+use Rattle.play_outside.specs.Fresh.{IsNewSink}
+use Rattle.play_outside.specs.ListenerState.{ListenerState, after_came, after_give_back, after_listener_fault, after_none_came}
+use Rattle.stage_core.specs.declared.fault.Ended.{Ended as Refusal}
+use Rattle.stage_lock.specs.Views.{PassView}
+use Rattle.stage_lock.specs.Calls.{Adds, IsStopped, Looks, stop_tag}
+use Rattle.std.specs.Prelude.{MatchResult}
+use Rattle.conn_worker.specs.Explained.{IsExplained}
+use Rattle.conn_worker.specs.Work.{AtDoor, Came, GoesOnAfter, IsServed, LooksOn, NoneYet, Setting, StopsAfter, Takes, TakesAll, Turn, Visit, links_come, number_came, service_of}
+use Rattle.conn_worker.specs.inner.Door.{GivesBack, LooksAtStage, PassesOn, TakesTurn}
+use Rattle.conn_worker.specs.declared.link_end.LinkEnd.{LinkEnd}
+use Rattle.conn_worker.specs.declared.link_end.LinkEnd.TheVariants as ends
+use Rattle.conn_worker.specs.declared.work_end.WorkEnd.{WorkEnd}
+use Rattle.conn_worker.specs.declared.work_end.WorkEnd.TheVariants.{Closed, Ended, DoorFault, SessionsOver}
+
+-- a look leaves the number of the pass, and tells that it has seen no stop
+looks_number : (before after : PassView) → LooksOn before after → after.number ≡ before.number
+looks_number before after looks = ap (λ (p : PassView). p.number) looks.after
+
+looks_running : (before after : PassView) → LooksOn before after → stop_at after.seen ≡ None
+looks_running before after looks = ap (λ (p : PassView). stop_at p.seen) looks.after ∙ sym looks.told
+
+goes_on_number : (end : LinkEnd) (before after : PassView) → GoesOnAfter end before after → after.number ≡ before.number
+goes_on_number ends.Over before after same = ap (λ (p : PassView). p.number) same
+goes_on_number ends.Killed before after looks = looks_number before after looks
+goes_on_number ends.LinkFault before after same = ap (λ (p : PassView). p.number) same
+goes_on_number (ends.Ended at) before after none = absurd none
+
+module _ {L : Type 0} where
+  -- after a turn the pass has its number, and no more links are away than before
+  pub takes_number : (setting : Setting L) (number : ℕ) (turn : Turn L) (before after : AtDoor L) → Takes setting number turn before after → after.pass.number ≡ before.pass.number
+  takes_number setting number (Came visit) before after takes = goes_on_number visit.end visit.pass after.pass takes.1 ∙ takes.0.explained.made.number
+  takes_number setting number NoneYet before after takes = looks_number before.pass after.pass takes.0
+
+  pub takes_away : (setting : Setting L) (number : ℕ) (turn : Turn L) (before after : AtDoor L) → Takes setting number turn before after → after.door.away ≡ before.door.away
+  takes_away setting number (Came visit) before after takes =
+      let same : (before.door.away + 1) - 1 ≡ before.door.away = omega arith in
+      ap (λ (d : ListenerState L). d.away) takes.0.door ∙ same
+  takes_away setting number NoneYet before after takes = ap (λ (d : ListenerState L). d.away) takes.1
+
+  -- one turn more
+  pub takes_more : (setting : Setting L) (number : ℕ) (turns : List (Turn L)) (turn : Turn L) (before between after : AtDoor L)
+      → TakesAll setting number turns before between → Takes setting (number + number_came turns) turn between after
+      → TakesAll setting number (turns ++ turn ∷ []) before after
+  takes_more setting number [] turn before between after same takes =
+      let first : number + number_came {L = L} [] ≡ number = omega arith in (
+        after,
+        (subst (λ (a : AtDoor L). Takes setting number turn a after) same (subst (λ (n : ℕ). Takes setting n turn between after) first takes), refl),
+      )
+  takes_more setting number (one ∷ turns) turn before between after (middle, (first, rest)) takes =
+      let counted : number + number_came (one ∷ turns) ≡ (number + links_come one) + number_came turns = omega (arith, sum_by-cons links_come one turns) in (
+        middle,
+        (first, takes_more setting (number + links_come one) turns turn middle between after rest (subst (λ (n : ℕ). Takes setting n turn between after) counted takes)),
+      )
+
+  pub number_came-more : (turns : List (Turn L)) (turn : Turn L) → number_came (turns ++ turn ∷ []) ≡ number_came turns + links_come turn
+  number_came-more turns turn = sum_by_push links_come turns turn
+
+  -- after a link was served the work goes on where no stop was seen
+  goes_on_running : (setting : Setting L) (number : ℕ) (visit : Visit L) (before after : AtDoor L) → IsServed setting number visit before after
+      → (end : LinkEnd) → visit.end ≡ end → GoesOnAfter end visit.pass after.pass → stop_at after.pass.seen ≡ None
+  goes_on_running setting number visit before after served ends.Over is same =
+      ap (λ (p : PassView). stop_at p.seen) same
+      ∙ (let e : IsExplained (service_of setting number) ends.Over (record { pass = before.pass; link = visit.came }) (record { pass = visit.pass; link = setting.tells visit.line }) =
+      subst (λ (x : LinkEnd). IsExplained (service_of setting number) x (record { pass = before.pass; link = visit.came }) (record { pass = visit.pass; link = setting.tells visit.line })) is served.explained in
+      e.ending.running)
+  goes_on_running setting number visit before after served ends.Killed is looks = looks_running visit.pass after.pass looks
+  goes_on_running setting number visit before after served ends.LinkFault is same =
+      ap (λ (p : PassView). stop_at p.seen) same
+      ∙ (let e : IsExplained (service_of setting number) ends.LinkFault (record { pass = before.pass; link = visit.came }) (record { pass = visit.pass; link = setting.tells visit.line }) =
+      subst (λ (x : LinkEnd). IsExplained (service_of setting number) x (record { pass = before.pass; link = visit.came }) (record { pass = visit.pass; link = setting.tells visit.line })) is served.explained in
+      e.ending.running)
+  goes_on_running setting number visit before after served (ends.Ended at) is none = absurd none
+
+  -- a link was served between these moments
+  served_at : (setting : Setting L) (served : ℕ) (came : SinkState) (result : Result (Unit {0}) WorkEnd) (before middle after : AtDoor L)
+      → stop_at before.pass.seen ≡ None → IsNewSink came → middle.pass ≡ before.pass → middle.door ≡ after_came before.door
+      → (gives : GivesBack setting (served + 1) came result middle after)
+      → IsServed setting (served + 1) gives.visit before after
+  served_at setting served came result before middle after running new same door gives = record {
+    running = running;
+    new = subst IsNewSink (sym gives.came_is) new;
+    explained = subst (λ (p : PassView). IsExplained (service_of setting (served + 1)) gives.visit.end
+        (record { pass = p; link = gives.visit.came }) (record { pass = gives.visit.pass; link = setting.tells gives.visit.line })) same gives.explained;
+    door = gives.door ∙ ap (λ (d : ListenerState L). after_give_back d gives.visit.line) door;
+  }
+
+  -- a link came and was given back, and the work goes on
+  pub turn_served : (setting : Setting L) (served : ℕ) (came : SinkState) (done : Unit {0}) (before middle after : AtDoor L)
+      → stop_at before.pass.seen ≡ None → IsNewSink came → middle.pass ≡ before.pass → middle.door ≡ after_came before.door
+      → GivesBack setting (served + 1) came (Ok done) middle after
+      → TakesTurn setting served (Ok (served + 1)) before after
+  turn_served setting served came done before middle after running new same door gives =
+      let is : IsServed setting (served + 1) gives.visit before after = served_at setting served came (Ok done) before middle after running new same door gives in
+      (Came gives.visit, ((is, gives.pass), (refl, goes_on_running setting (served + 1) gives.visit before after is gives.visit.end refl gives.pass)))
+
+  -- a link came and was given back, and the history holds a stop
+  pub turn_stopped : (setting : Setting L) (served : ℕ) (came : SinkState) (end : WorkEnd) (before middle after : AtDoor L)
+      → stop_at before.pass.seen ≡ None → IsNewSink came → middle.pass ≡ before.pass → middle.door ≡ after_came before.door
+      → GivesBack setting (served + 1) came (Err end) middle after
+      → TakesTurn setting served (Err end) before after
+  turn_stopped setting served came Closed before middle after running new same door gives = absurd gives.pass
+  turn_stopped setting served came (Ended at) before middle after running new same door gives =
+      let is : IsServed setting (served + 1) gives.visit before after = served_at setting served came (Err (Ended at)) before middle after running new same door gives in
+      let number : served + 1 ≡ 1 + served = omega arith in
+      inr (gives.visit, (subst (λ (n : ℕ). IsServed setting n gives.visit before after) number is, gives.pass))
+  turn_stopped setting served came DoorFault before middle after running new same door gives = absurd gives.pass
+  turn_stopped setting served came SessionsOver before middle after running new same door gives = absurd gives.pass
+
+  -- the door had no link yet
+  pub turn_waited : (setting : Setting L) (served : ℕ) (done : Unit {0}) (before after : AtDoor L) → LooksAtStage (Ok done) before.pass after.pass
+      → after.door ≡ after_none_came before.door → TakesTurn setting served (Ok served) before after
+  turn_waited setting served done before after looks door =
+      let same : served ≡ served + 0 = omega arith in
+      (NoneYet, ((looks, door), (same, looks_running before.pass after.pass looks)))
+
+  pub turn_ended : (setting : Setting L) (served : ℕ) (end : WorkEnd) (before after : AtDoor L) → LooksAtStage (Err end) before.pass after.pass
+      → after.door ≡ after_none_came before.door → TakesTurn setting served (Err end) before after
+  turn_ended setting served Closed before after looks door = absurd looks
+  turn_ended setting served (Ended at) before after looks door = inl (looks, door)
+  turn_ended setting served DoorFault before after looks door = absurd looks
+  turn_ended setting served SessionsOver before after looks door = absurd looks
+
+  -- the door failed
+  pub turn_failed : (setting : Setting L) (served : ℕ) (before after : AtDoor L) (result : Result ℕ Refusal) → stop_at before.pass.seen ≡ None
+      → MatchResult result
+      (λ at. Adds before.pass (Stop (stop_tag before.pass.number 0)) (IsStopped at) after.pass)
+      (λ refusal. Looks before.pass (λ history. stop_at history ≡ Some refusal.at) after.pass)
+      → after.door ≡ after_listener_fault before.door → TakesTurn setting served (Err DoorFault) before after
+  turn_failed setting served before after (Ok at) running adds door = record { running = running; door = door; stops = inl (at, adds) }
+  turn_failed setting served before after (Err refusal) running looks door = record { running = running; door = door; stops = inr (refusal.at, looks) }
+
+  -- after a kill the history was looked at
+  pub looked_after_kill : (result : Result (Unit {0}) WorkEnd) (visit : Visit L) (after : PassView) → visit.end ≡ ends.Killed
+      → LooksAtStage result visit.pass after → PassesOn result visit after
+  looked_after_kill (Ok done) visit after is looks = subst (λ (e : LinkEnd). GoesOnAfter e visit.pass after) (sym is) looks
+  looked_after_kill (Err Closed) visit after is looks = absurd looks
+  looked_after_kill (Err (Ended at)) visit after is looks = subst (λ (e : LinkEnd). StopsAfter at e visit.pass after) (sym is) looks
+  looked_after_kill (Err DoorFault) visit after is looks = absurd looks
+  looked_after_kill (Err SessionsOver) visit after is looks = absurd looks
+
+  one_at_most : (turn : Turn L) → links_come turn ≤ 1
+  one_at_most (Came visit) = omega arith
+  one_at_most NoneYet = omega arith
+
+  -- there is a number for each link that comes
+  pub few_sessions : (turn : Turn L) (served came : ℕ) → served ≤ MAX_SESSIONS → (served ≡ MAX_SESSIONS → ⊥) → came ≡ served + links_come turn → came ≤ MAX_SESSIONS
+  few_sessions turn served came few other is = omega (arith, few, other, is, one_at_most turn)

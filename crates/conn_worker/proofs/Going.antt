@@ -1,0 +1,171 @@
+-- A connection goes from look to look and from step to step.
+use Rattle.std.proofs.Common.{◌≡◌, ℕ, ◌+◌, false, List, [], ◌∷◌, ◌++◌, length, refl, sym, ap, subst, ◌∙◌, arith, append-nil}
+use Rattle.std.specs.Prelude.{Some, None}
+use Rattle.std.specs.List.{list_any}
+use Rattle.amcp_text.specs.Lines.{lines_of}
+use Rattle.play_types.specs.History.{stop_at}
+use Rattle.history_model.specs.commands.Channels.{AreAimed}
+use Rattle.history_model.specs.sessions.Session as model
+use Rattle.history_model.specs.sessions.Session.{is_end, line_steps, steps}
+use Rattle.play_outside.specs.SinkState.{SinkState, after_taking}
+use Rattle.play_outside.specs.Link.{after_read}
+use Rattle.play_session.specs.SessionState.{SessionState}
+use Rattle.play_session.specs.Session.{Progress, Represents, GivesStep, after_bytes, at_start}
+use Rattle.play_session.specs.Step.{viewed}
+use Rattle.play_session.specs.declared.step.Step.{Step}
+use Rattle.stage_lock.specs.Views.{PassView}
+use Rattle.stage_lock.specs.Calls.{Looks}
+use Rattle.conn_worker.specs.Followed.{Service, Followed, number_asked, reply_of, sent_bytes, steps_in, steps_of}
+use Rattle.conn_worker.specs.Rounds.{Look, Got, Nothing, Round, after_look, bytes_in, followed_in, look_bytes}
+use Rattle.conn_worker.specs.Explained.{Standing, IsCaughtUp, HasMade}
+use Rattle.conn_worker.specs.inner.UnderWay.{Goes, HasGiven, IsBetweenLooks, IsUnderWay, Now, Past, progress_of, with_piece}
+use Rattle.conn_worker.proofs.Lists.{bytes_in-more, followed_in-none, followed_in-step, number_asked-more, number_idle-more, number_idle-step}
+use Rattle.conn_worker.proofs.Giving.{given_all, given_fed, given_nothing, given_step, none_ends}
+use Rattle.conn_worker.proofs.Passes.{made_looked, made_more, made_none}
+use Rattle.conn_worker.proofs.Links.{after_rounds-looked, after_rounds-step, looks_more, looks_step}
+
+-- nothing was read yet
+caught_up_at_start : (service : Service) → IsCaughtUp service []
+unfolding steps line_steps
+caught_up_at_start service = record { all = refl; going = refl }
+
+-- a connection begins with a session that was restarted
+pub begins : (service : Service) (before : Standing) (session : SessionState)
+    → Represents service.config service.names session at_start → session.batch ≡ [] → session.ended ≡ false → stop_at before.pass.seen ≡ None
+    → AreAimed service.config session.batch
+    → IsBetweenLooks (record { service = service; before = before; rounds = [] }) (record { standing = before; session = session })
+begins service before session represents batch going running aimed =
+    let same : before.pass.turns ≡ before.pass.turns + 0 + 0 = omega arith in
+    record {
+      way = record {
+        looks = λ k within. absurd (omega arith);
+        given = given_nothing service session represents;
+        going = going;
+        aimed = aimed;
+        made = made_none service before.pass;
+        turns = same;
+        link = refl;
+        running = running;
+      };
+      caught_up = caught_up_at_start service;
+    }
+
+-- a look found a piece
+pub reads_piece : (past : Past) (now : Now) (piece : List ℕ) (link : SinkState) → IsBetweenLooks past now → link ≡ after_read now.standing.link piece
+    → IsUnderWay (with_piece past piece []) (bytes_in past.rounds) (record { standing = record { pass = now.standing.pass; link = link }; session = now.session })
+reads_piece past now piece link between is =
+    let way = between.way in
+    let round : Round = record { look = Got piece; followed = [] } in
+    let same : followed_in past.rounds ≡ followed_in (past.rounds ++ round ∷ []) = sym (followed_in-none past.rounds (Got piece)) in
+    let idle = number_idle-more past.rounds round in
+    record {
+      looks = looks_more past.service past.rounds round way.looks between.caught_up;
+      given = subst (HasGiven past.service now.session (bytes_in past.rounds)) same way.given;
+      going = way.going;
+      aimed = way.aimed;
+      made = subst (λ (fs : List Followed). HasMade past.service fs past.before.pass now.standing.pass) same way.made;
+      turns = omega (arith, way.turns, ap number_asked same, idle);
+      link = is ∙ ap (λ (s : SinkState). after_read s piece) way.link ∙ sym (after_rounds-looked past.service past.rounds (Got piece) past.before.link);
+      running = way.running;
+    }
+
+-- more bytes were fed to the session
+pub feeds : (past : Past) (fed taken : List ℕ) (standing : Standing) (before after : SessionState)
+    → IsUnderWay past fed (record { standing = standing; session = before })
+    → ((progress : Progress) → Represents past.service.config past.service.names before progress → Represents past.service.config past.service.names after (after_bytes progress taken))
+    → after.batch ≡ before.batch → after.ended ≡ before.ended
+    → IsUnderWay past (fed ++ taken) (record { standing = standing; session = after })
+feeds past fed taken standing before after way grows batch ended = record {
+  looks = way.looks;
+  given = given_fed past.service before fed (followed_in past.rounds) way.given after taken grows;
+  going = ended ∙ way.going;
+  aimed = subst (AreAimed past.service.config) (sym batch) way.aimed;
+  made = way.made;
+  turns = way.turns;
+  link = way.link;
+  running = way.running;
+}
+
+-- one step more was given and followed
+pub follows_step : (past : Past) (piece : List ℕ) (followed : List Followed) (fed : List ℕ) (before after : Standing) (old new : SessionState) (result : Step) (step : model.Step)
+    → IsUnderWay (with_piece past piece followed) fed (record { standing = before; session = old })
+    → GivesStep past.service.config past.service.names result new (progress_of fed (followed_in (with_piece past piece followed).rounds))
+    → viewed result new.batch ≡ Some step → new.ended ≡ false → AreAimed past.service.config new.batch
+    → (goes : Goes past.service step before after)
+    → IsUnderWay (with_piece past piece (followed ++ goes.follows.one ∷ [])) fed (record { standing = after; session = new })
+follows_step past piece followed fed before after old new result step way gives is going aimed goes =
+    let one = goes.follows.one in
+    let earlier : Round = record { look = Got piece; followed = followed } in
+    let later : Round = record { look = Got piece; followed = followed ++ one ∷ [] } in
+    let had = followed_in (past.rounds ++ earlier ∷ []) in
+    let same : had ++ one ∷ [] ≡ followed_in (past.rounds ++ later ∷ []) = sym (followed_in-step past.rounds (Got piece) followed one) in
+    let asked = number_asked-more had one in
+    let idle = number_idle-step past.rounds (Got piece) followed (followed ++ one ∷ []) in
+    let makes = goes.follows.makes in
+    record {
+      looks = looks_step past.service past.rounds earlier later way.looks;
+      given = subst (HasGiven past.service new fed) same
+          (given_step past.service old new fed had one result way.given way.going (is ∙ ap Some (sym goes.follows.step_is)) gives);
+      going = going;
+      aimed = aimed;
+      made = subst (λ (fs : List Followed). HasMade past.service fs past.before.pass after.pass) same
+          (made_more past.service had one past.before.pass before.pass after.pass way.made makes);
+      turns = omega (arith, way.turns, makes.turns, asked, ap number_asked same, idle);
+      link = goes.follows.sends ∙ ap (λ (s : SinkState). after_taking s (sent_bytes past.service (reply_of past.service one))) way.link
+          ∙ sym (after_rounds-step past.service past.rounds (Got piece) followed one past.before.link);
+      running = goes.running;
+    }
+
+-- all bytes were fed, and a step was followed for each line
+pub catches_up : (past : Past) (now : Now) → IsUnderWay past (bytes_in past.rounds) now → length (lines_of (bytes_in past.rounds)) ≡ length (followed_in past.rounds)
+    → IsBetweenLooks past now
+catches_up past now way all =
+    let going = none_ends past.service now.session (bytes_in past.rounds) (followed_in past.rounds) way.given way.going in
+    record {
+      way = way;
+      caught_up = record {
+        all = given_all past.service now.session (bytes_in past.rounds) (followed_in past.rounds) way.given going all;
+        going = going;
+      };
+    }
+
+-- after a look that gave no bytes the connection is caught up as before
+pub waits_caught_up : (service : Service) (rounds : List Round) (look : Look) → look_bytes look ≡ [] → IsCaughtUp service rounds
+    → IsCaughtUp service (rounds ++ record { look = look; followed = [] } ∷ [])
+waits_caught_up service rounds look none caught_up =
+    let round : Round = record { look = look; followed = [] } in
+    let same : followed_in rounds ≡ followed_in (rounds ++ round ∷ []) = sym (followed_in-none rounds look) in
+    let bytes : bytes_in rounds ≡ bytes_in (rounds ++ round ∷ []) =
+    sym (bytes_in-more rounds round ∙ ap (λ (bs : List ℕ). bytes_in rounds ++ bs) none ∙ append-nil (bytes_in rounds)) in
+    record {
+      all = subst (λ (fs : List Followed). steps_in fs ≡ steps_of service fs (bytes_in (rounds ++ round ∷ []))) same
+          (subst (λ (bs : List ℕ). steps_in (followed_in rounds) ≡ steps_of service (followed_in rounds) bs) bytes caught_up.all);
+      going = subst (λ (fs : List Followed). list_any is_end (steps_in fs) ≡ false) same caught_up.going;
+    }
+
+-- a look found nothing yet, and the history that was found then holds no stop
+pub waits : (past : Past) (now : Now) (link : SinkState) (pass : PassView) → IsBetweenLooks past now → link ≡ after_look Nothing now.standing.link
+    → Looks now.standing.pass (λ history. None ≡ stop_at history) pass
+    → IsBetweenLooks (record past { rounds = past.rounds ++ record { look = Nothing; followed = [] } ∷ [] }) (record { standing = record { pass = pass; link = link }; session = now.session })
+waits past now link pass between is looks =
+    let way = between.way in
+    let round : Round = record { look = Nothing; followed = [] } in
+    let same : followed_in past.rounds ≡ followed_in (past.rounds ++ round ∷ []) = sym (followed_in-none past.rounds Nothing) in
+    let bytes : bytes_in past.rounds ≡ bytes_in (past.rounds ++ round ∷ []) = sym (bytes_in-more past.rounds round ∙ append-nil (bytes_in past.rounds)) in
+    let idle = number_idle-more past.rounds round in
+    let turns : pass.turns ≡ now.standing.pass.turns + 1 = ap (λ (p : PassView). p.turns) looks.after in
+    record {
+      way = record {
+        looks = looks_more past.service past.rounds round way.looks between.caught_up;
+        given = subst (λ (bs : List ℕ). HasGiven past.service now.session bs (followed_in (past.rounds ++ round ∷ []))) bytes
+            (subst (HasGiven past.service now.session (bytes_in past.rounds)) same way.given);
+        going = way.going;
+        aimed = way.aimed;
+        made = made_looked past.service (followed_in (past.rounds ++ round ∷ [])) past.before.pass now.standing.pass pass looks.history
+            (subst (λ (fs : List Followed). HasMade past.service fs past.before.pass now.standing.pass) same way.made) looks.found looks.after;
+        turns = omega (arith, way.turns, turns, ap number_asked same, idle);
+        link = is ∙ ap (after_look Nothing) way.link ∙ sym (after_rounds-looked past.service past.rounds Nothing past.before.link);
+        running = ap stop_at (ap (λ (p : PassView). p.seen) looks.after) ∙ sym looks.told;
+      };
+      caught_up = waits_caught_up past.service past.rounds Nothing refl between.caught_up;
+    }

@@ -1,0 +1,12 @@
+pub mod Lists
+pub mod Giving
+pub mod Passes
+pub mod Links
+pub mod Going
+pub mod Ending
+pub mod Asking
+pub mod Following
+pub mod Stepping
+pub mod Pieces
+pub mod Doors
+pub mod Telling

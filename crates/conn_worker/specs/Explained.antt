@@ -1,0 +1,125 @@
+-- What the serving of one link did: an explained connection.
+use Rattle.std.specs.Prelude.{◌≡◌, ◌≢◌, ◌⊎◌, ℕ, ◌+◌, ◌<◌, ◌≤◌, false, Option, Some, None, List, [], ◌∷◌, ◌++◌, flat_map, length, map, slice_get, take}
+use Rattle.std.specs.List.{last_or, list_any}
+use mathlib.Core.List.{IsPrefix}
+use Rattle.play_types.specs.History.{stop_at}
+use Rattle.play_types.specs.declared.event.Event.{Event}
+use Rattle.history_model.specs.sessions.Session.{Step, KillServer, EndConnection, is_end}
+use Rattle.play_outside.specs.SinkState.{SinkState}
+use Rattle.stage_lock.specs.Own.{made_by, own_by}
+use Rattle.stage_lock.specs.Views.{PassView}
+use Rattle.conn_worker.specs.Followed.{Service, Followed, events_of, number_asked, positions_of, steps_in, steps_of, times_asked}
+use Rattle.conn_worker.specs.Rounds.{Look, End, Round, Failure, NoFailure, ReadFailed, IsAfterFailure, after_rounds, bytes_in, followed_in, number_idle, unsent}
+use Rattle.conn_worker.specs.declared.link_end.LinkEnd.{LinkEnd}
+use Rattle.conn_worker.specs.declared.link_end.LinkEnd.TheVariants.{Over, Killed, LinkFault, Ended}
+
+-- the pass and the link at one moment
+pub record Standing : Type 0 where
+  pub pass : PassView
+  pub link : SinkState
+
+-- the steps were followed one after another: the first found a history that begins with `seen`, each next one a history that
+-- begins with what the one before it found and made, and so does `history` in the end
+abbrev pub AreInOrder : Service → List Event → List Followed → List Event → Type 0
+AreInOrder service seen [] history = IsPrefix seen history
+AreInOrder service seen (one ∷ more) history =
+    IsPrefix seen one.found × AreInOrder service (one.found ++ events_of service one) more history
+
+-- a pass followed these steps, and made their events alone
+pub record HasMade (service : Service) (followed : List Followed) (before after : PassView) : Type 0 where
+  pub stage : after.stage ≡ before.stage
+  pub number : after.number ≡ before.number
+  pub ends : after.ends ≡ before.ends
+  -- each event stands in the history at its place
+  pub order : AreInOrder service before.seen followed after.seen
+  -- the own events of the pass are those from before, and just those of the steps, in order
+  pub own : own_by before.number after.seen ≡ own_by before.number before.seen ++ flat_map (events_of service) followed
+  pub made : after.made ≡ before.made ++ flat_map (positions_of service) followed
+  -- the positions that the pass made are those of its own events, if they were before
+  pub known : made_by before.number before.seen ≡ before.made → made_by before.number after.seen ≡ after.made
+
+-- after these rounds all steps of the bytes that were read have been followed, and none of them is an end
+pub record IsCaughtUp (service : Service) (rounds : List Round) : Type 0 where
+  pub all : steps_in (followed_in rounds) ≡ steps_of service (followed_in rounds) (bytes_in rounds)
+  pub going : list_any is_end (steps_in (followed_in rounds)) ≡ false
+
+-- the rounds of a link, how it failed, if it did, and the pass after them
+pub record Talk : Type 0 where
+  pub rounds : List Round
+  pub failure : Failure
+  pub pass : PassView
+
+-- all steps that were followed
+abbrev pub covered : Talk → List Followed
+covered talk = followed_in talk.rounds ++ unsent talk.failure
+
+-- every step of the bytes that were read was followed
+abbrev pub AreAllCovered : Service → Talk → Type 0
+AreAllCovered service talk = steps_in (covered talk) ≡ steps_of service (covered talk) (bytes_in talk.rounds)
+
+-- the first step that was not followed is an ask or a kill
+pub record IsNextAsked (service : Service) (talk : Talk) : Type 0 where
+  pub step : Step
+  pub next : slice_get (steps_of service (covered talk) (bytes_in talk.rounds)) (length (covered talk)) ≡ Some step
+  pub asked : times_asked step ≡ 1
+
+-- what the last look found
+abbrev pub last_look : List Round → Option Look
+last_look rounds = last_or None (map (λ (round : Round). round.look) rounds)
+
+-- the step that was followed last
+abbrev pub last_step : List Followed → Option Step
+last_step followed = last_or None (steps_in followed)
+
+-- the link's end was read, or the client said BYE: the link did not fail, and no stop was seen
+pub record IsOver (service : Service) (talk : Talk) : Type 0 where
+  pub whole : talk.failure ≡ NoFailure
+  pub running : stop_at talk.pass.seen ≡ None
+  pub all : AreAllCovered service talk
+  pub cause : (last_look talk.rounds ≡ Some End) ⊎ (last_step (covered talk) ≡ Some EndConnection)
+
+-- the last step is a kill, which made the stop of the history; its reply was written as far as the link did not fail
+pub record IsKilled (service : Service) (talk : Talk) : Type 0 where
+  pub read : talk.failure ≢ ReadFailed
+  pub all : AreAllCovered service talk
+  pub cause : last_step (covered talk) ≡ Some KillServer
+
+-- the link failed, and no stop was seen
+pub record IsLinkFault (service : Service) (talk : Talk) : Type 0 where
+  pub failed : talk.failure ≢ NoFailure
+  pub running : stop_at talk.pass.seen ≡ None
+
+-- the history holds a stop that another call made, at this position, and every step before that one was followed which would
+-- have asked for more
+pub record IsEnded (service : Service) (talk : Talk) (at : ℕ) : Type 0 where
+  pub whole : talk.failure ≡ NoFailure
+  pub stopped : stop_at talk.pass.seen ≡ Some at
+  pub next : AreAllCovered service talk ⊎ IsNextAsked service talk
+
+-- the talk ended so
+abbrev pub EndsBy : Service → Talk → LinkEnd → Type 0
+EndsBy service talk Over = IsOver service talk
+EndsBy service talk Killed = IsKilled service talk
+EndsBy service talk LinkFault = IsLinkFault service talk
+EndsBy service talk (Ended at) = IsEnded service talk at
+
+-- what one call to serve a link did, from the pass and the link before it to those after it. There are rounds, each a look at
+-- the link and the steps that were followed then, and a failure of the link, or none
+pub record IsExplained (service : Service) (end : LinkEnd) (before after : Standing) : Type 0 where
+  pub rounds : List Round
+  pub failure : Failure
+  -- the steps that were followed are the first ones of the bytes that were read, in order
+  pub steps : let followed = followed_in rounds ++ unsent failure in
+      IsPrefix (steps_in followed) (steps_of service followed (bytes_in rounds))
+  -- their events, and no others, are what the pass made, each at its place in the history
+  pub made : HasMade service (followed_in rounds ++ unsent failure) before.pass after.pass
+  -- before each look all steps of the bytes read until then were followed, and none of them was an end: no byte is read after
+  -- an end
+  pub looks : (k : ℕ) → k < length rounds → IsCaughtUp service (take k rounds)
+  -- the link was called just so: look by look, and after each look the replies to the steps were written, in order; a failure
+  -- comes after that
+  pub link : IsAfterFailure service failure (after_rounds service rounds before.link) after.link
+  -- the pass won the turn once for each ask and each kill, once for each look that found nothing yet, and at most once more
+  pub turns : after.pass.turns ≤ before.pass.turns + number_asked (followed_in rounds ++ unsent failure) + number_idle rounds + 1
+  -- what the end tells
+  pub ending : EndsBy service (record { rounds = rounds; failure = failure; pass = after.pass }) end

@@ -1,0 +1,88 @@
+-- What is said of one step of a connection that was followed.
+use Rattle.std.specs.Prelude.{ℕ, Bool, false, Option, Some, None, List, [], length, filter_map, flat_map, map, sum_by}
+use Rattle.std.specs.List.{enumerate_from, range_with_len}
+use Rattle.play_types.specs.Config.{ConfigView}
+use Rattle.play_types.specs.Media.{MediaNameView}
+use Rattle.play_types.specs.declared.event.Tag.{Tag}
+use Rattle.play_types.specs.declared.event.Event.{Event}
+use Rattle.play_types.specs.declared.reply.Reply.{Reply}
+use Rattle.history_model.specs.scripts.History.{Playout, Turn, number_given_up, step_events}
+use Rattle.history_model.specs.scripts.Output.{step_reply}
+use Rattle.history_model.specs.sessions.Session.{Step, Local, Ask, AskBatch, KillServer, EndConnection, Skip, steps}
+use Rattle.history_model.specs.text.Replies.{reply_bytes}
+use Rattle.play_session.specs.Step.{is_out_of_memory}
+
+-- what a connection is served with: the configuration, the names of the media table, and the tag of what it asks for
+pub record Service : Type 0 where
+  pub config : ConfigView
+  pub names : List MediaNameView
+  pub tag : Tag
+
+-- a step of a connection that was followed: the history that was found then, and whether the stage had no memory for what the
+-- step asks for
+pub record Followed : Type 0 where
+  pub step : Step
+  pub found : List Event
+  pub no_memory : Bool
+
+-- what a connection is played on: no reply and no event of a connection depends on the clips
+abbrev pub playout_of : Service → Playout
+playout_of service = record { config = service.config; names = service.names; clips = []; digests = false }
+
+-- when the stage was asked for a step
+abbrev pub turn_of : Service → Followed → Turn
+turn_of service one = record { playout = playout_of service; events = one.found; tag = service.tag; no_memory = one.no_memory }
+
+-- the event of a step, where it made one: its command, its batch or its stop
+abbrev pub events_of : Service → Followed → List Event
+events_of service one = step_events (turn_of service one) (Some one.step)
+
+-- the position of that event in the history
+abbrev pub positions_of : Service → Followed → List ℕ
+positions_of service one = range_with_len (length one.found) (length (events_of service one))
+
+-- the reply to a step, where it has one
+abbrev pub reply_of : Service → Followed → Option Reply
+reply_of service one = step_reply (turn_of service one) (Some one.step)
+
+-- the bytes of a reply, where there is one
+abbrev pub sent_bytes : Service → Option Reply → List ℕ
+sent_bytes service None = []
+sent_bytes service (Some answer) = reply_bytes service.config service.names answer
+
+-- the bytes of the replies to these steps, in order
+abbrev pub replies : Service → List Followed → List ℕ
+replies service followed = flat_map (λ one. sent_bytes service (reply_of service one)) followed
+
+abbrev pub steps_in : List Followed → List Step
+steps_in followed = map (λ (one : Followed). one.step) followed
+
+-- whether a step gives its line up, out of memory
+abbrev pub is_lost : Step → Bool
+is_lost (Local answer) = is_out_of_memory answer
+is_lost (Ask command) = false
+is_lost (AskBatch commands) = false
+is_lost KillServer = false
+is_lost EndConnection = false
+is_lost Skip = false
+
+-- the numbers of the lines that were given up, from 0: those whose reply is 500
+abbrev pub given_up_of : List Followed → List ℕ
+given_up_of followed = filter_map number_given_up (enumerate_from 0 (map (λ (one : Followed). is_lost one.step) followed))
+
+-- all steps of these bytes, of which the lines of these steps were given up that say so
+abbrev pub steps_of : Service → List Followed → List ℕ → List Step
+steps_of service followed bytes = steps service.config service.names (given_up_of followed) bytes
+
+-- how often the stage is asked for a step
+abbrev pub times_asked : Step → ℕ
+times_asked (Local answer) = 0
+times_asked (Ask command) = 1
+times_asked (AskBatch commands) = 1
+times_asked KillServer = 1
+times_asked EndConnection = 0
+times_asked Skip = 0
+
+-- how many of these steps are asks and kills
+abbrev pub number_asked : List Followed → ℕ
+number_asked followed = sum_by (λ (one : Followed). times_asked one.step) followed

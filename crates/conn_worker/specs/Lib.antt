@@ -1,0 +1,5 @@
+pub mod Followed
+pub mod Rounds
+pub mod Explained
+pub mod Work
+pub mod inner

@@ -1,0 +1,142 @@
+-- What the work at a door did: link after link is served, each as the next session.
+use Rattle.std.specs.Prelude.{◌≡◌, ◌⊎◌, ℕ, ◌+◌, Some, None, List, [], ◌∷◌, sum_by}
+use Rattle.play_types.specs.Config.{ConfigView}
+use Rattle.play_types.specs.History.{stop_at}
+use Rattle.play_types.specs.Media.{MediaNameView}
+use Rattle.play_types.specs.declared.event.Event.TheVariants.{Stop}
+use Rattle.play_outside.specs.SinkState.{SinkState}
+use Rattle.play_outside.specs.Fresh.{IsNewSink}
+use Rattle.play_outside.specs.ListenerState.{ListenerState, after_came, after_give_back, after_listener_closed, after_listener_fault, after_none_came}
+use Rattle.stage_lock.specs.Views.{PassView}
+use Rattle.stage_lock.specs.Calls.{Adds, IsStopped, Looks, tag_of}
+use Rattle.conn_worker.specs.Followed.{Service}
+use Rattle.conn_worker.specs.Explained.{IsExplained}
+use Rattle.conn_worker.specs.declared.link_end.LinkEnd as link
+use Rattle.conn_worker.specs.declared.link_end.LinkEnd.TheVariants as ends
+use Rattle.conn_worker.specs.declared.work_end.TheConstants.{MAX_SESSIONS}
+use Rattle.conn_worker.specs.declared.work_end.WorkEnd.{WorkEnd}
+use Rattle.conn_worker.specs.declared.work_end.WorkEnd.TheVariants.{Closed, Ended, DoorFault, SessionsOver}
+
+-- a look at the history that was found, which holds no stop
+abbrev pub LooksOn : PassView → PassView → Type 0
+LooksOn before after = Looks before (λ history. None ≡ stop_at history) after
+
+-- a look at the history that was found, which holds a stop at this position
+abbrev pub FindsEnd : ℕ → PassView → PassView → Type 0
+FindsEnd at before after = Looks before (λ history. Some at ≡ stop_at history) after
+
+-- after the serving of a link ended so the work goes on; after a kill the worker looks at the history first
+abbrev pub GoesOnAfter : link.LinkEnd → PassView → PassView → Type 0
+GoesOnAfter ends.Over before after = after ≡ before
+GoesOnAfter ends.Killed before after = LooksOn before after
+GoesOnAfter ends.LinkFault before after = after ≡ before
+GoesOnAfter (ends.Ended at) before after = ⊥
+
+-- after the serving of a link ended so the history holds a stop at this position
+abbrev pub StopsAfter : ℕ → link.LinkEnd → PassView → PassView → Type 0
+StopsAfter at ends.Over before after = ⊥
+StopsAfter at ends.Killed before after = FindsEnd at before after
+StopsAfter at ends.LinkFault before after = ⊥
+StopsAfter at (ends.Ended position) before after = (position ≡ at) × (after ≡ before)
+
+module _ (L : Type 0) where
+  -- what the links of a door are served with: the configuration, the names of the media table, the number of the worker's
+  -- pass, and what each link tells of itself
+  pub record Setting : Type 0 where
+    pub config : ConfigView
+    pub names : List MediaNameView
+    pub worker : ℕ
+    pub tells : L → SinkState
+
+  -- the pass and the door at one moment
+  pub record AtDoor : Type 0 where
+    pub pass : PassView
+    pub door : ListenerState L
+
+  -- a link that came and was served: the link when it came and when it was given back, how its serving ended, and the pass after
+  -- that
+  pub record Visit : Type 0 where
+    pub came : SinkState
+    pub line : L
+    pub end : link.LinkEnd
+    pub pass : PassView
+
+  -- what asking the door gave: a link, or none yet
+  pub data Turn : Type 0 where
+    Came : Visit → Turn
+    NoneYet : Turn
+
+module _ {L : Type 0} where
+  -- the service of the session of this number
+  abbrev pub service_of : Setting L → ℕ → Service
+  service_of setting number = record { config = setting.config; names = setting.names; tag = tag_of setting.worker number }
+
+  -- a link came, was served as the session of this number from its first look on, and was given back
+  pub record IsServed (setting : Setting L) (number : ℕ) (visit : Visit L) (before after : AtDoor L) : Type 0 where
+    pub running : stop_at before.pass.seen ≡ None
+    pub new : IsNewSink visit.came
+    pub explained : IsExplained (service_of setting number) visit.end
+        (record { pass = before.pass; link = visit.came }) (record { pass = visit.pass; link = setting.tells visit.line })
+    pub door : after.door ≡ after_give_back (after_came before.door) visit.line
+
+  -- the door was asked once, and the work goes on: a link was served as the session of this number, or there was none yet, and a
+  -- look at the history found no stop
+  abbrev pub Takes : Setting L → ℕ → Turn L → AtDoor L → AtDoor L → Type 0
+  Takes setting number (Came visit) before after = IsServed setting number visit before after × GoesOnAfter visit.end visit.pass after.pass
+  Takes setting number NoneYet before after = LooksOn before.pass after.pass × (after.door ≡ after_none_came before.door)
+
+  -- 1 where a link came
+  abbrev pub links_come : Turn L → ℕ
+  links_come (Came visit) = 1
+  links_come NoneYet = 0
+
+  -- how many links came
+  abbrev pub number_came : List (Turn L) → ℕ
+  number_came turns = sum_by links_come turns
+
+  -- the door was asked again and again, from the session of this number on
+  abbrev pub TakesAll : Setting L → ℕ → List (Turn L) → AtDoor L → AtDoor L → Type 0
+  TakesAll setting number [] before after = after ≡ before
+  TakesAll setting number (turn ∷ turns) before after =
+      (between : AtDoor L) × (Takes setting number turn before between × TakesAll setting (number + links_come turn) turns between after)
+
+  -- the door answered Closed, and no stop was seen
+  pub record IsClosed (before after : AtDoor L) : Type 0 where
+    pub running : stop_at before.pass.seen ≡ None
+    pub pass : after.pass ≡ before.pass
+    pub door : after.door ≡ after_listener_closed before.door
+
+  -- the history holds a stop: a look found it after the door had no link yet, or it came to light while a link was served as the
+  -- session of this number, after which no further link is served
+  abbrev pub IsStopFound : Setting L → ℕ → ℕ → AtDoor L → AtDoor L → Type 0
+  IsStopFound setting number at before after =
+      (FindsEnd at before.pass after.pass × (after.door ≡ after_none_came before.door))
+      ⊎ ((visit : Visit L) × (IsServed setting number visit before after × StopsAfter at visit.end visit.pass after.pass))
+
+  -- the door failed, and the worker stopped the stage with tag 0.0 unless a stop had come before
+  pub record IsDoorFault (before after : AtDoor L) : Type 0 where
+    pub running : stop_at before.pass.seen ≡ None
+    pub door : after.door ≡ after_listener_fault before.door
+    pub stops : ((at : ℕ) × Adds before.pass (Stop (tag_of 0 0)) (IsStopped at) after.pass)
+        ⊎ ((at : ℕ) × Looks before.pass (λ history. stop_at history ≡ Some at) after.pass)
+
+  -- as many links were served as there are numbers, and no stop was seen
+  pub record IsSessionsOver (number : ℕ) (before after : AtDoor L) : Type 0 where
+    pub all : number ≡ MAX_SESSIONS + 1
+    pub running : stop_at before.pass.seen ≡ None
+    pub same : after ≡ before
+
+  -- the work ended so, where the next session would have had this number
+  abbrev pub EndsWork : Setting L → ℕ → WorkEnd → AtDoor L → AtDoor L → Type 0
+  EndsWork setting number Closed before after = IsClosed before after
+  EndsWork setting number (Ended at) before after = IsStopFound setting number at before after
+  EndsWork setting number DoorFault before after = IsDoorFault before after
+  EndsWork setting number SessionsOver before after = IsSessionsOver number before after
+
+  -- what the work at a door did, from the pass and the door before it to those after it: links were served as the sessions 1, 2
+  -- and so on, and then it ended
+  pub record HasWorked (setting : Setting L) (end : WorkEnd) (before after : AtDoor L) : Type 0 where
+    pub turns : List (Turn L)
+    pub between : AtDoor L
+    pub takes : TakesAll setting 1 turns before between
+    pub ending : EndsWork setting (1 + number_came turns) end between after

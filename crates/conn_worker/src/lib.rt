@@ -1,0 +1,21 @@
+//! Connections that are served from one stage.
+//!
+//! [`serve_link`] reads a client's bytes from a link, asks the shared stage for what each line says, and writes the reply
+//! before it goes on to the next line. However the bytes are cut, the events of the connection stand in the stage's history
+//! once each and in their order, and each reply is the one that the definitions give after the history that was found.
+//! [`work`] serves the links of a door, one after another.
+#![tactic(auto)]
+
+mod connection;
+mod door;
+pub mod laws;
+mod link_end;
+mod serve;
+#[cfg(test)]
+mod tests;
+mod work_end;
+
+pub use door::work;
+pub use link_end::LinkEnd;
+pub use serve::serve_link;
+pub use work_end::{MAX_SESSIONS, WorkEnd};

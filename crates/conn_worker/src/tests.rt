@@ -1,0 +1,85 @@
+//! Links and a door in memory, with ample memory. The stage has one channel, and there is no clip.
+ghost use Rattle.std.specs.Prelude.{◌≡◌, ◌<◌, IfOk, None, [], length};
+ghost use Rattle.play_types.specs.History.{stop_at};
+
+use crate::{LinkEnd, WorkEnd, serve_link, work};
+use play_outside::{DoorAnswer, LinkPlan, MemDoor, MemLink};
+use play_session::Session;
+use play_types::{Channel, ChannelList, Config, MediaNames, Text};
+use stage_core::Stage;
+use stage_lock::{Pass, SharedStage};
+use std::alloc::Global;
+use std::sync::Wait;
+use std::test::Fail;
+
+/// Three lines of a client, and the replies to them: a LOAD shows the first picture of its producer, paused.
+const LINES: &[u8] = b"LOAD 1-10 RED\r\nINFO\r\nBYE\r\n";
+
+const REPLIES: &[u8] = b"202 LOAD OK\r\n200 INFO OK\r\n1 1x1 PAUSED\r\n\r\n";
+
+/// Returns a configuration of one channel.
+fn one_channel(alloc: Global) -> Result<Config, Fail>
+    ensures { IfOk result (λ config. length config.channels ≡ 1) }
+{
+    let mut channels = ChannelList::new(alloc);
+    let output = Text::copy(alloc, "one.raw")?;
+    channels.push(Channel::new(1, 1, 0, output).ok_or("a channel")?)?;
+    let listen = Text::copy(alloc, "here")?;
+    let media = Text::copy(alloc, "media")?;
+    Ok(Config::new(listen, media, 25, 4, 100, channels).ok_or("a configuration")?)
+}
+
+/// Returns a link that gives these bytes, `piece` at once, and finds nothing at its second call.
+fn link_of(alloc: Global, input: &[u8], piece: usize) -> Result<MemLink, Fail>
+    requires { 0 < piece }
+{
+    let mut waits = Vec::new(alloc);
+    waits.push(2)?;
+    let plan = LinkPlan {
+        input: Vec::from_slice(alloc, input)?,
+        piece,
+        room: 200,
+        looks: 100,
+        fails: Vec::new(alloc),
+        waits,
+    };
+    Ok(MemLink::new(alloc, 0, plan)?)
+}
+
+/// Serves the three lines in pieces of this many bytes, and returns whether the replies are those.
+fn is_answered<R: Wait>(rt: &R, alloc: Global, config: &Config, piece: usize) -> Result<bool, Fail>
+    requires { 0 < piece }
+{
+    let stage = Stage::new(alloc, config)?;
+    let Ok((shared, mut passes)) = SharedStage::share(alloc, stage, 2) else {
+        return Err("memory for a shared stage")?;
+    };
+    let Some(mut pass) = passes.pop() else {
+        return Err("a pass")?;
+    };
+    let mut session = Session::new(alloc)?;
+    let media = MediaNames::new(alloc);
+    let mut link = link_of(alloc, LINES, piece)?;
+    let end = serve_link(
+        rt,
+        alloc,
+        &shared,
+        &mut pass,
+        &mut session,
+        1,
+        config,
+        &media,
+        &mut link,
+    );
+    Ok(end == LinkEnd::Over && link.taken() == REPLIES)
+}
+
+#[test]
+fn three_lines_are_answered_in_any_pieces(rt: HostRuntime) -> Result<(), Fail> {
+    let alloc = rt.alloc();
+    let config = one_channel(alloc)?;
+    for piece in 1..12 {
+        assert!(rt; is_answered(&rt, alloc, &config, piece)?, "{piece}");
+    }
+    Ok(())
+}

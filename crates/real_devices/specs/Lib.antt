@@ -1,0 +1,4 @@
+pub mod Fresh
+pub mod State
+pub mod Stream
+pub mod inner

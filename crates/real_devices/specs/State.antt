@@ -1,0 +1,34 @@
+-- What the devices tell of themselves: their counts and their marks, and no content.
+use Rattle.std.specs.Prelude.{Option, None}
+use Rattle.std.specs.declared.net.tcp.TcpStream.{TcpStream}
+use Rattle.play_outside.specs.ClockState.{ClockState}
+use Rattle.play_outside.specs.ListenerState.{ListenerState}
+use Rattle.play_outside.specs.SinkState.{SinkState}
+use Rattle.real_devices.specs.declared.file_sink.FileSink.{FileSink}
+use Rattle.real_devices.specs.declared.rate_clock.RateClock.{RateClock}
+use Rattle.real_devices.specs.declared.tcp_door.TcpDoor.{TcpDoor}
+use Rattle.real_devices.specs.declared.tcp_link.TcpLink.{TcpLink}
+
+-- a file
+abbrev pub file_state : {W E : Type 0} → FileSink W E → SinkState
+file_state sink = record { taken = None; faults = sink.faults; mark = sink.mark; at_fault = None; reading = None; idle = 0 }
+
+-- the file that a sink writes to, where it has one
+abbrev pub file_of : {W E : Type 0} → FileSink W E → Option W
+file_of sink = sink.file
+
+-- a connection
+abbrev pub link_state : {S E : Type 0} → TcpLink S E → SinkState
+link_state link = record { taken = None; faults = link.faults; mark = link.mark; at_fault = None; reading = None; idle = link.idles }
+
+-- the stream of a connection
+abbrev pub stream_of : {S E : Type 0} → TcpLink S E → S
+stream_of link = link.stream
+
+-- a door
+abbrev pub door_state : {R : Type 0} → TcpDoor R → ListenerState (TcpLink TcpStream R)
+door_state door = record { told = None; away = door.away; idle = door.idles; faults = door.faults; mark = door.mark }
+
+-- a clock
+abbrev pub clock_state : {R : Type 0} → RateClock R → ClockState
+clock_state clock = record { told = None; faults = clock.faults }

@@ -14,7 +14,7 @@ use Rattle.band_render.proofs.Ticks.{represents-first}
 use Rattle.stage_core.specs.Stage.{StageView}
 use Rattle.run_script.specs.declared.clients.Client.{Client}
 use Rattle.run_script.specs.declared.player.Player.{Player}
-use Rattle.run_script.specs.inner.Clients.{AreClients, HaveAimedBatches}
+use Rattle.run_script.specs.inner.Clients.{AreClients, HaveAimedBatches, session_batch}
 use Rattle.run_script.specs.inner.Player.{IsReady, Represents, events_in, playout_in, setup_in}
 use Rattle.run_script.proofs.Connections.{no_clients}
 
@@ -34,7 +34,7 @@ nothing_shown player stage scenes shown none_said =
       limit = ap (λ (s : StageView). s.journal.limit) stage;
       channels = ap (λ (s : StageView). s.channels) stage;
       scenes = ap length scenes ∙ length-replicate (length channels) [];
-      batches = subst (HaveAimedBatches player.setup.config) (sym none_said) (All-nil (λ (client : Client). AreAimed player.setup.config client.session.batch));
+      batches = subst (HaveAimedBatches player.setup.config) (sym none_said) (All-nil (λ (client : Client). AreAimed player.setup.config (session_batch client.session)));
       frames = subst₂ (λ es shown_last. frames.Represents (setup_in player) es player.setup.media shown_last) (sym none) (sym shown)
           (represents-first (setup_in player) channels player.setup.media refl (sym (zero_sizes channels)));
       running = ap stop_at none;

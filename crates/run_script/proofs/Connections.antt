@@ -1,6 +1,6 @@
 -- The connections of a script when one of them says one line more.
-use Rattle.std.proofs.Common.{◌≡◌, ℕ, ◌+◌, ◌<◌, ◌≤◌, ◌&&◌, ◌==◌, Bool, true, false, cond, not, eqb, List, [], ◌∷◌, ◌++◌, length, length-append, get_or, set, refl, sym, ap, ap₂, ◌∙◌, subst, arith, inl}
-use Rattle.std.specs.Prelude.{Option, Some, None, find}
+use Rattle.std.proofs.Common.{◌≡◌, ℕ, ◌+◌, ◌<◌, ◌≤◌, ◌&&◌, ◌==◌, Bool, true, false, cond, not, eqb, List, [], ◌∷◌, ◌++◌, length, length-append, get_or, set, refl, sym, ap, ap₂, ◌∙◌, subst, subst₂, arith, inl}
+use Rattle.std.specs.Prelude.{Option, Some, None, Result, Ok, Err, IfOk, find}
 use Rattle.std.specs.List.{position, position_or_len}
 use Rattle.std.specs.Option.{option_or}
 use Rattle.std.specs.Prelude.{nat_lt, slice_get}
@@ -19,10 +19,12 @@ use Rattle.play_types.specs.Media.{MediaNameView}
 use Rattle.history_model.specs.commands.Channels.{AreAimed, IsAimed}
 use Rattle.history_model.specs.scripts.History.{Playout, PlayedLine, same_tag, text_by, texts_of}
 use Rattle.history_model.proofs.Streams.{texts_of-other, stream_of-other, given_up_of-other, stream_of-none, given_up_of-none}
+use Rattle.play_session.specs.SessionState.{SessionState}
 use Rattle.play_session.specs.Session.{IsBetweenLines, Represents, at_start}
 use Rattle.play_session.specs.declared.step.Step.{Step}
 use Rattle.run_script.specs.declared.clients.Client.{Client}
-use Rattle.run_script.specs.inner.Clients.{IsServed, ServesConnection, IsClient, batch_in, batch_of, client_of, AreClients, HaveAimedBatches, IsPlaceOf, NextText, played_text, step_view, ClientsTakeLine, ClientTakesLine}
+use Rattle.run_script.specs.inner.Clients.{IsServed, ServesConnection, IsClient, batch_in, batch_of, client_of, AreClients, AddsClient, HaveAimedBatches, IsPlaceOf, NextText, kept_session, session_batch, played_text, step_view, ClientsTakeLine, ClientTakesLine}
+use Rattle.run_script.proofs.Places.{is_of, place_kept}
 use Rattle.run_script.proofs.Speaking.{same_number, same_tag-refl}
 
 and_parts : (a b : Bool) → (a && b) ≡ true → (a ≡ true) × (b ≡ true)
@@ -47,13 +49,13 @@ serves_other playout client played line other serves =
     record {
       whole = subst IsEnded (sym stream) serves.whole;
       count = ap (λ (s : List ℕ). length (lines_of s)) stream ∙ serves.count ∙ ap length (sym texts);
-      served = by_over client.session.ended serves.served;
+      served = by_session client.session serves.served;
     }
   where
-    by_over : (over : Bool) → IsServed playout over client played → IsServed playout over client (played ++ line ∷ [])
-    by_over false served =
-        (served.0, rw (texts_of-other client.tag played line other, stream_of-other client.tag played line other, given_up_of-other client.tag played line other) served.1, served.2)
-    by_over true served = rw (stream_of-other client.tag played line other, given_up_of-other client.tag played line other) served
+    by_session : (now : Option SessionState) → IsServed playout client.tag now played → IsServed playout client.tag now (played ++ line ∷ [])
+    by_session (Some now) served =
+        (rw (texts_of-other client.tag played line other, stream_of-other client.tag played line other, given_up_of-other client.tag played line other) served.0, served.1)
+    by_session None served = rw (stream_of-other client.tag played line other, given_up_of-other client.tag played line other) served
 
 client_other : (playout : Playout) (tag : Tag) (found : Option Client) (played : List PlayedLine) (line : PlayedLine) → text_by tag line.line ≡ None
     → ((client : Client) → found ≡ Some client → client.tag ≡ tag) → IsClient playout tag found played → IsClient playout tag found (played ++ line ∷ [])
@@ -102,7 +104,7 @@ served_at playout tag at clients client played place there are =
 
 -- its batch is that of its session
 pub batch_there : (tag : Tag) (at : ℕ) (clients : List Client) (client : Client) → IsPlaceOf tag at clients → get_or clients at client ≡ client
-    → batch_of tag clients ≡ client.session.batch
+    → batch_of tag clients ≡ session_batch client.session
 batch_there tag at clients client place there = ap batch_in (client_there tag at clients client place there)
 
 -- where the connection at its place is replaced by one of its tag, the tag has the new one
@@ -115,38 +117,43 @@ client_replaced tag at clients old new place there kept_tag =
     find-set p clients at new at_is first.0 (ap (same_tag tag) (kept_tag ∙ sym (tag_at tag at clients old place there)) ∙ same_tag-refl tag)
 
 pub batch_replaced : (tag : Tag) (at : ℕ) (clients : List Client) (old new : Client) → IsPlaceOf tag at clients → get_or clients at old ≡ old → new.tag ≡ old.tag
-    → batch_of tag (set clients at new) ≡ new.session.batch
+    → batch_of tag (set clients at new) ≡ session_batch new.session
 batch_replaced tag at clients old new place there kept_tag = ap batch_in (client_replaced tag at clients old new place there kept_tag)
 
 -- the batch of the connection at a place names configured channels alone where all do
 pub aimed_there : (config : ConfigView) (at : ℕ) (clients : List Client) (client : Client) → at < length clients → get_or clients at client ≡ client
-    → HaveAimedBatches config clients → AreAimed config client.session.batch
+    → HaveAimedBatches config clients → AreAimed config (session_batch client.session)
 aimed_there config at clients client inside there aimed =
-    subst (λ (one : Client). AreAimed config one.session.batch) there (aimed at client inside)
+    subst (λ (one : Client). AreAimed config (session_batch one.session)) there (aimed at client inside)
 
 -- and all do after a change of it that keeps this
 pub aimed_replaced : (config : ConfigView) (at : ℕ) (clients : List Client) (old new : Client) → at < length clients → get_or clients at old ≡ old
-    → (AreAimed config old.session.batch → AreAimed config new.session.batch) → HaveAimedBatches config clients → HaveAimedBatches config (set clients at new)
+    → (AreAimed config (session_batch old.session) → AreAimed config (session_batch new.session)) → HaveAimedBatches config clients → HaveAimedBatches config (set clients at new)
 aimed_replaced config at clients old new inside there kept aimed =
-    All-set (λ (one : Client). AreAimed config one.session.batch) clients at new (kept (aimed_there config at clients old inside there aimed)) aimed
+    All-set (λ (one : Client). AreAimed config (session_batch one.session)) clients at new (kept (aimed_there config at clients old inside there aimed)) aimed
+
+-- the batch that is kept after a step
+pub kept_aimed : (config : ConfigView) (over : Bool) (now : SessionState) → AreAimed config now.batch → AreAimed config (session_batch (kept_session over now))
+kept_aimed config true now aimed = All-nil (IsAimed config)
+kept_aimed config false now aimed = aimed
 
 -- a connection with an empty batch is added
-pub aimed_added : (config : ConfigView) (clients : List Client) (new : Client) → new.session.batch ≡ [] → HaveAimedBatches config clients
+pub aimed_added : (config : ConfigView) (clients : List Client) (new : Client) → session_batch new.session ≡ [] → HaveAimedBatches config clients
     → HaveAimedBatches config (clients ++ new ∷ [])
 aimed_added config clients new none aimed =
-    All-append (λ (one : Client). AreAimed config one.session.batch) clients (new ∷ []) aimed
-    (All-cons (λ (one : Client). AreAimed config one.session.batch) new [] (subst (AreAimed config) (sym none) (All-nil (IsAimed config)))
-    (All-nil (λ (one : Client). AreAimed config one.session.batch)))
+    All-append (λ (one : Client). AreAimed config (session_batch one.session)) clients (new ∷ []) aimed
+    (All-cons (λ (one : Client). AreAimed config (session_batch one.session)) new [] (subst (AreAimed config) (sym none) (All-nil (IsAimed config)))
+    (All-nil (λ (one : Client). AreAimed config (session_batch one.session))))
 
 -- the batch of a connection names configured channels alone where all do
 pub aimed_of : (config : ConfigView) (tag : Tag) (clients : List Client) → HaveAimedBatches config clients → AreAimed config (batch_of tag clients)
 aimed_of config tag [] aimed = All-nil (IsAimed config)
 aimed_of config tag (client ∷ clients) aimed =
     by_test (same_tag tag client.tag)
-    (All-head (λ (one : Client). AreAimed config one.session.batch) client clients aimed)
-    (aimed_of config tag clients (All-tail (λ (one : Client). AreAimed config one.session.batch) client clients aimed))
+    (All-head (λ (one : Client). AreAimed config (session_batch one.session)) client clients aimed)
+    (aimed_of config tag clients (All-tail (λ (one : Client). AreAimed config (session_batch one.session)) client clients aimed))
   where
-    by_test : (b : Bool) → AreAimed config client.session.batch → AreAimed config (batch_of tag clients)
+    by_test : (b : Bool) → AreAimed config (session_batch client.session) → AreAimed config (batch_of tag clients)
         → AreAimed config (batch_in (cond b (Some client) (client_of tag clients)))
     by_test true first more = first
     by_test false first more = more
@@ -200,19 +207,19 @@ none_found tag clients none =
     find_at p clients ∙ slice_get_past clients (position_or_len p clients) (past_all tag clients none)
 
 -- the new connection of a tag that has said nothing
-serves_new : (playout : Playout) (client : Client) (played : List PlayedLine) → texts_of client.tag played ≡ []
-    → ((config : ConfigView) (media : List MediaNameView) → Represents config media client.session at_start) → IsBetweenLines client.session → client.session.ended ≡ false
+serves_new : (playout : Playout) (client : Client) (now : SessionState) (played : List PlayedLine) → client.session ≡ Some now → texts_of client.tag played ≡ []
+    → ((config : ConfigView) (media : List MediaNameView) → Represents config media now at_start) → IsBetweenLines now
     → ServesConnection playout client played
-serves_new playout client played none stands between going = record {
+serves_new playout client now played has none stands between = record {
   whole = inl (stream_of-none client.tag played none);
   count = ap (λ (s : List ℕ). length (lines_of s)) (stream_of-none client.tag played none) ∙ sym (ap length none);
-  served = subst (λ b. IsServed playout b client played) (sym going)
-      (going, rw (stream_of-none client.tag played none, given_up_of-none client.tag played none, none) (stands playout.config playout.names), between);
+  served = subst (λ s. IsServed playout client.tag s played) (sym has)
+      (rw (stream_of-none client.tag played none, given_up_of-none client.tag played none, none) (stands playout.config playout.names), between);
 }
 
-module _ (playout : Playout) (clients : List Client) (new : Client) (played : List PlayedLine)
-    (none : position (λ (one : Client). same_tag new.tag one.tag) clients ≡ None) (are : AreClients playout clients played)
-    (stands : (config : ConfigView) (media : List MediaNameView) → Represents config media new.session at_start) (between : IsBetweenLines new.session) (going : new.session.ended ≡ false) where
+module _ (playout : Playout) (clients : List Client) (new : Client) (now : SessionState) (played : List PlayedLine)
+    (none : position (λ (one : Client). same_tag new.tag one.tag) clients ≡ None) (are : AreClients playout clients played) (has : new.session ≡ Some now)
+    (stands : (config : ConfigView) (media : List MediaNameView) → Represents config media now at_start) (between : IsBetweenLines now) where
   added_tag : (other : Tag) (b : Bool) → same_tag other new.tag ≡ b → IsClient playout other (client_of other (clients ++ new ∷ [])) played
   added_tag other true is =
       let same = same_tag-is other new.tag is in
@@ -223,7 +230,7 @@ module _ (playout : Playout) (clients : List Client) (new : Client) (played : Li
       ∙ ap (λ (o : Option Client). option_or o (find (λ (one : Client). same_tag new.tag one.tag) (new ∷ []))) nothing
       ∙ ap (λ (b : Bool). cond b (Some new) None) (same_tag-refl new.tag) in
       subst (λ t. IsClient playout t (client_of t (clients ++ new ∷ [])) played) (sym same)
-      (subst (λ o. IsClient playout new.tag o played) (sym here) (serves_new playout new played said stands between going))
+      (subst (λ o. IsClient playout new.tag o played) (sym here) (serves_new playout new now played has said stands between))
   added_tag other false is =
       let here : client_of other (clients ++ new ∷ []) ≡ client_of other clients =
       find_snoc (λ (one : Client). same_tag other one.tag) clients new
@@ -252,6 +259,45 @@ added_place tag clients new is none =
     ∙ ap (λ (b : Bool). cond b (length clients + 0) (length clients)) (same_number (length clients)) ∙ omega arith in
     ap (λ (n : ℕ). cond (nat_lt n (length (clients ++ new ∷ []))) (Some n) None) last
     ∙ ap (λ (b : Bool). cond b (Some (length clients)) None) (lt-ltb (length clients) (length (clients ++ new ∷ [])) (omega (arith, length-append clients (new ∷ []))))
+
+-- the place of each tag where a connection of this tag is added
+pub placed_added : (tag other : Tag) (at : ℕ) (before now : Option ℕ) (clients all : List Client) (new : Client) → all ≡ clients ++ new ∷ [] → new.tag ≡ tag
+    → at ≡ length clients → position (is_of tag) clients ≡ None → before ≡ position (is_of other) clients → now ≡ cond (same_tag tag other) (Some at) before
+    → now ≡ position (is_of other) all
+placed_added tag other at before now clients all new is own last none placed changed = by_tag (same_tag tag other) refl changed ∙ ap (position (is_of other)) (sym is)
+  where
+    apart : same_tag tag other ≡ false → (b : Bool) → same_tag other tag ≡ b → same_tag other tag ≡ false
+    apart differ true same = absurd (let no : true ≡ false = sym (same_tag-refl tag) ∙ ap (same_tag tag) (sym (same_tag-is other tag same)) ∙ differ in cc)
+    apart differ false same = same
+
+    by_tag : (b : Bool) → same_tag tag other ≡ b → now ≡ cond b (Some at) before → now ≡ position (is_of other) (clients ++ new ∷ [])
+    by_tag true same change =
+        change ∙ ap Some last ∙ sym (added_place tag clients new own none)
+        ∙ ap (λ t. position (is_of t) (clients ++ new ∷ [])) (same_tag-is tag other same)
+    by_tag false differ change =
+        change ∙ placed
+        ∙ sym (place_kept (is_of other) clients new (ap (same_tag other) own ∙ apart differ (same_tag other tag) refl))
+
+-- a connection was added at the end
+pub adds : (tag : Tag) (now : SessionState) (old new : List Client) (client : Client) → new ≡ old ++ client ∷ [] → client.tag ≡ tag → client.session ≡ Some now → AddsClient tag now old new
+adds tag now old new client items own session = record { client = client; items = items; own = own; session = session }
+
+-- what a place is where a connection was added
+pub place_added : {E : Type 0} (tag : Tag) (now : SessionState) (old new : List Client) (result : Result ℕ E) → IfOk result (λ at. (at ≡ length old) × AddsClient tag now old new)
+    → position (is_of tag) old ≡ None → now.batch ≡ [] → ((config : ConfigView) (media : List MediaNameView) → Represents config media now at_start) → IsBetweenLines now
+    → IfOk result (λ at. (at < length new) × IsPlaceOf tag at new × ((config : ConfigView) → HaveAimedBatches config old → HaveAimedBatches config new)
+    × ((playout : Playout) (played : List PlayedLine) → AreClients playout old played → AreClients playout new played))
+place_added tag now old new (Ok at) (last, added_one) none empty stands between =
+    let client = added_one.client in
+    let items = added_one.items in
+    let size = ap length items ∙ length-append old (client ∷ []) in
+    let none_of : position (is_of client.tag) old ≡ None = ap (λ t. position (is_of t) old) added_one.own ∙ none in (
+      omega (arith, last, size),
+      subst₂ (λ n l. IsPlaceOf tag n l) (sym last) (sym items) (added_place tag old client added_one.own none),
+      λ config aimed. subst (HaveAimedBatches config) (sym items) (aimed_added config old client (ap session_batch added_one.session ∙ empty) aimed),
+      λ playout played are. subst (λ l. AreClients playout l played) (sym items) (added playout old client now played none_of are added_one.session stands between),
+    )
+place_added tag now old new (Err e) added_one none empty stands between = tt
 
 -- before any line there is no connection
 pub no_clients : (playout : Playout) → AreClients playout [] []

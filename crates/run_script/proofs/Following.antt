@@ -1,11 +1,11 @@
 -- Requests that the stage takes or does not take, and the steps of connections.
-use Rattle.std.proofs.Common.{◌≡◌, ◌≢◌, ℕ, ◌+◌, ◌<◌, ◌≤◌, Bool, true, false, List, [], ◌∷◌, ◌++◌, refl, sym, ap, ◌∙◌, subst, arith, append-nil, append_assoc, inl, inr, length}
+use Rattle.std.proofs.Common.{◌≡◌, ◌≢◌, ℕ, ◌+◌, ◌<◌, ◌≤◌, Bool, true, false, List, [], ◌∷◌, ◌++◌, refl, sym, ap, ◌∙◌, subst, arith, append-nil, append_assoc, length}
 use Rattle.std.specs.Prelude.{Some, None, Result, Ok, Err, All, IfErr, IfOk, OnErr, OnOk, get_or, nat_lt, if◌then◌else◌, option_map}
 use Rattle.std.proofs.lemmas.Bool.Decides.{nat_tests}
 use Rattle.std.proofs.lemmas.List.{length-map}
 use Rattle.std.proofs.lemmas.Option.{none-some}
 use Rattle.play_types.specs.Config.{ConfigView}
-use Rattle.play_types.specs.Commands.{answer_reply, command_name}
+use Rattle.play_types.specs.Commands.{answer_reply}
 use Rattle.play_types.specs.History.{held, stop_at, ticks}
 use Rattle.play_types.specs.declared.answer.Answer.{Answer}
 use Rattle.play_types.specs.declared.command.Cmd.{Cmd}
@@ -15,7 +15,6 @@ use Rattle.play_types.specs.declared.take.Spec.TheVariants.{Clip, Colour, RouteC
 use Rattle.play_types.specs.declared.event.Tag.{Tag}
 use Rattle.play_types.specs.declared.event.Event.{Event}
 use Rattle.play_types.specs.declared.event.Event.TheVariants as event
-use Rattle.play_types.specs.declared.reply.Name.{Name}
 use Rattle.play_types.specs.declared.reply.Name.TheVariants as name
 use Rattle.play_types.specs.declared.reply.Reply.{Reply}
 use Rattle.play_types.specs.declared.reply.Reply.TheVariants as reply
@@ -25,9 +24,8 @@ use Rattle.play_outside.proofs.Taking.{after_taking-nil}
 use Rattle.history_model.specs.commands.Channels.{AreAimed, IsAimed}
 use Rattle.history_model.specs.commands.Channels as named
 use Rattle.history_model.specs.pictures.Media.{Setup}
-use Rattle.history_model.specs.stage.Acts.{is_refused}
-use Rattle.history_model.specs.stage.Answer.{Answered, answer, command_answer, outcome_of}
-use Rattle.history_model.specs.text.Replies.{IsReplyTo, reply_lines}
+use Rattle.history_model.specs.stage.Answer.{Answered, answer}
+use Rattle.history_model.specs.text.Replies.{reply_lines}
 use Rattle.history_model.specs.scripts.History.{JournalFull, OutOfMemory, Taken, Turn, Verdict, channel_size, is_full, is_kill, step_events, verdict, verdict_events}
 use Rattle.history_model.specs.scripts.Output.{reply_output, step_reply, tagged_lines, verdict_reply}
 use Rattle.history_model.specs.sessions.Session.{KillServer}
@@ -201,52 +199,6 @@ pub batch_answered : (player : Player) (tag : Tag) (commands : List Cmd) (taken 
 unfolding answer
 batch_answered player tag commands (Ok given) answers = sym (same_answer (batch_request player tag commands).answer given (answers (setup_in player)))
 batch_answered player tag commands (Err reason) answers = tt
-
--- done and refused are told by replies of every configuration
-outcome_fits : (config : ConfigView) (asked : Name) (refused : Bool) → IsReplyTo config (answer_reply asked (outcome_of refused))
-outcome_fits config asked true = inl (omega arith, omega arith)
-outcome_fits config asked false = tt
-
--- the answer to a command is told by a reply of the configuration
-answer_fits : (player : Player) (refused : Bool) (command : Cmd) → IsReplyTo player.setup.config (answer_reply (command_name command) (command_answer (setup_in player) (events_in player) refused command))
-answer_fits player refused (Load place take) = outcome_fits player.setup.config name.Load refused
-answer_fits player refused (LoadBg place take) = outcome_fits player.setup.config name.LoadBg refused
-answer_fits player refused (Play place) = outcome_fits player.setup.config name.Play refused
-answer_fits player refused (PlayTake place take) = outcome_fits player.setup.config name.Play refused
-answer_fits player refused (Pause place) = outcome_fits player.setup.config name.Pause refused
-answer_fits player refused (Resume place) = outcome_fits player.setup.config name.Resume refused
-answer_fits player refused (StopLayer place) = outcome_fits player.setup.config name.Stop refused
-answer_fits player refused (ClearLayer place) = outcome_fits player.setup.config name.Clear refused
-answer_fits player refused (ClearChannel channel) = outcome_fits player.setup.config name.Clear refused
-answer_fits player refused (SwapLayers a b transforms) = outcome_fits player.setup.config name.Swap refused
-answer_fits player refused (SwapChannels a b transforms) = outcome_fits player.setup.config name.Swap refused
-answer_fits player refused (Set setting) = outcome_fits player.setup.config name.Mixer refused
-answer_fits player refused (CommitMixer channel) = outcome_fits player.setup.config name.Mixer refused
-answer_fits player refused (ResetLayer place) = outcome_fits player.setup.config name.Mixer refused
-answer_fits player refused (ResetChannel channel) = outcome_fits player.setup.config name.Mixer refused
-answer_fits player refused (Value place prop) = tt
-answer_fits player refused Info = length-map player.setup.config.channels channel_size
-
--- a reply to a request whose answer fits
-reply_fits : (config : ConfigView) (asked : Name) (given : Answer) (taken : Result Answer ApplyFault) (found : Reply) → IsReplyTo config (answer_reply asked given)
-    → IfOk taken (λ one. one ≡ given) → RepliesTo asked taken found → IsReplyTo config found
-reply_fits config asked given (Ok one) found fits answers replies =
-    subst (IsReplyTo config) (sym (replies ∙ ap (answer_reply asked) answers)) fits
-reply_fits config asked given (Err fault.OutOfMemory) found fits answers replies = subst (IsReplyTo config) (sym replies) (inr (omega arith, omega arith))
-reply_fits config asked given (Err (fault.JournalFull already)) found fits answers replies = subst (IsReplyTo config) (sym replies) (inr (omega arith, omega arith))
-reply_fits config asked given (Err (fault.Ended at)) found fits answers replies = absurd replies
-
-pub command_fits : (player : Player) (tag : Tag) (command : Cmd) (taken : Result Answer ApplyFault) (found : Reply)
-    → IfOk taken (λ one. one ≡ (command_request player tag command).answer) → RepliesTo (command_name command) taken found → IsReplyTo player.setup.config found
-command_fits player tag command taken found answers replies =
-    reply_fits player.setup.config (command_name command) (command_request player tag command).answer taken found
-    (answer_fits player (is_refused (events_in player) (event.Do tag command)) command) answers replies
-
-pub batch_fits : (player : Player) (tag : Tag) (commands : List Cmd) (taken : Result Answer ApplyFault) (found : Reply)
-    → IfOk taken (λ one. one ≡ (batch_request player tag commands).answer) → RepliesTo name.Commit taken found → IsReplyTo player.setup.config found
-batch_fits player tag commands taken found answers replies =
-    reply_fits player.setup.config name.Commit (batch_request player tag commands).answer taken found
-    (outcome_fits player.setup.config name.Commit (is_refused (events_in player) (event.Batch tag commands))) answers replies
 
 -- the player goes on after a command or a batch, whether the stage took it or not
 pub ready_after : (one : Event) (taken : Result Answer ApplyFault) (player : Player) (stage : StageView) → one ≢ event.Tick → stop_at (one ∷ []) ≡ None

@@ -1,6 +1,6 @@
 -- A line of a connection that its session takes.
 use Rattle.std.proofs.Common.{◌≡◌, ℕ, ◌+◌, ◌≤◌, ◌==◌, Bool, true, false, cond, ◌&&◌, ◌||◌, List, [], ◌∷◌, ◌++◌, length, refl, sym, ap, ap₂, ◌∙◌, subst, arith, inr, append-nil, append_assoc, length-append}
-use Rattle.std.specs.Prelude.{Some, None, slice_get}
+use Rattle.std.specs.Prelude.{Option, Some, None, slice_get}
 use Rattle.std.specs.List.{list_any}
 use Rattle.std.proofs.lemmas.Bool.Decides.{nat_tests}
 use Rattle.std.proofs.lemmas.List.Elements.{All-nil}
@@ -20,10 +20,11 @@ use Rattle.history_model.proofs.Streams.{texts_of-said, stream_of-said, given_up
 use Rattle.history_model.proofs.Sessions.{until_end-lines_ended, length-until_end, length-line_steps, line_steps-longer}
 use Rattle.play_session.specs.Session.{Gives, GivesStep, IsBetweenLines, Progress, Represents, after_step}
 use Rattle.play_session.specs.SessionState.{SessionState}
+use Rattle.play_session.specs.Step.{ends, viewed}
 use Rattle.play_session.specs.declared.step.Step.{Step}
 use Rattle.play_session.specs.declared.step.Step.TheVariants as step
 use Rattle.run_script.specs.declared.clients.Client.{Client}
-use Rattle.run_script.specs.inner.Clients.{IsServed, ServesConnection, NextText, played_text, gave_up, progress_of, ClientTakesLine}
+use Rattle.run_script.specs.inner.Clients.{IsServed, ServesConnection, NextText, played_text, gave_up, kept_session, progress_of, session_batch, ClientTakesLine}
 use Rattle.run_script.proofs.OneLine.{IsOneLine}
 
 -- a tag is the same as itself
@@ -97,95 +98,107 @@ lines_before config media session progress stands all =
     no_lines (l ∷ ls) none = absurd (omega (arith, none))
 
 -- the connection is served after the step of one line more
-served_by : (playout : Playout) (new : Client) (played : List PlayedLine) (over : Bool) → new.session.ended ≡ over
-    → length (lines_of (stream_of new.tag played)) ≡ length (texts_of new.tag played)
-    → Represents playout.config playout.names new.session (progress_of new.tag played)
-    → IsBetweenLines new.session → IsServed playout over new played
-served_by playout new played false ended count stands between = (ended, stands, between)
-served_by playout new played true ended count stands between =
-    ap (λ ls. list_any is_end (line_steps playout.config playout.names (given_up_of new.tag played) ls))
-    (lines_before playout.config playout.names new.session (progress_of new.tag played) stands count)
+served_by : (playout : Playout) (tag : Tag) (now : SessionState) (played : List PlayedLine) (over : Bool) → now.ended ≡ over
+    → length (lines_of (stream_of tag played)) ≡ length (texts_of tag played)
+    → Represents playout.config playout.names now (progress_of tag played)
+    → IsBetweenLines now → IsServed playout tag (kept_session over now) played
+served_by playout tag now played false ended count stands between = (stands, between)
+served_by playout tag now played true ended count stands between =
+    ap (λ ls. list_any is_end (line_steps playout.config playout.names (given_up_of tag played) ls))
+    (lines_before playout.config playout.names now (progress_of tag played) stands count)
     ∙ sym stands.ended ∙ ended
 
+-- a step that asks for a batch keeps the session, which has the batch
+step_kept : (found : Step) (now : SessionState) → viewed found now.batch ≡ viewed found (session_batch (kept_session (ends found) now))
+step_kept (step.Local answer) now = refl
+step_kept (step.Ask command) now = refl
+step_kept step.AskBatch now = refl
+step_kept step.Kill now = refl
+step_kept step.Bye now = refl
+step_kept step.Skip now = refl
+step_kept step.NeedMore now = refl
+
 -- a line was taken, and its step was given
-pub spoken : (next : NextText) (client new : Client) (found : Step) → ServesConnection next.playout client next.played → IsOneLine next.text
-    → Gives next.playout.config next.playout.names found new.session (record (progress_of client.tag next.played) { stream = (stream_of client.tag next.played ++ next.text) ++ 13 ∷ 10 ∷ [] })
-    → IsBetweenLines new.session → client.tag ≡ next.tag → new.tag ≡ next.tag
+pub spoken : (next : NextText) (client new : Client) (found : Step) (now : SessionState) → ServesConnection next.playout client next.played → IsOneLine next.text
+    → Gives next.playout.config next.playout.names found now (record (progress_of client.tag next.played) { stream = (stream_of client.tag next.played ++ next.text) ++ 13 ∷ 10 ∷ [] })
+    → IsBetweenLines now → now.ended ≡ ends found → client.tag ≡ next.tag → new.tag ≡ next.tag → new.session ≡ kept_session (ends found) now
     → ClientTakesLine next (Some found) new
 unfolding said_step
-spoken next client new found was none gives between old_tag new_tag =
+spoken next client new found now was none gives between ended old_tag new_tag kept_now =
     let playout = next.playout in
     let played = next.played in
     let tag = next.tag in
     let text = next.text in
     let all = played ++ played_text next (Some found) ∷ [] in
     let given = length (texts_of tag played) in
-    let was' : ServesConnection playout (record client { tag = tag }) played = subst (λ t. ServesConnection playout (record client { tag = t }) played) old_tag was in
+    let whole = subst (λ t. IsEnded (stream_of t played)) old_tag was.whole in
+    let count_before = subst (λ t. length (lines_of (stream_of t played)) ≡ length (texts_of t played)) old_tag was.count in
     let more : length (lines_of ((stream_of tag played ++ text) ++ 13 ∷ 10 ∷ [])) ≡ length (texts_of tag played) + 1 =
-    ap length (lines_more (stream_of tag played) text was'.whole none) ∙ length-append (lines_of (stream_of tag played)) (line_of_text text ∷ [])
-    ∙ ap (λ (n : ℕ). n + 1) was'.count in
-    let gives' = subst (λ t. Gives playout.config playout.names found new.session (record (progress_of t played) { stream = (stream_of t played ++ text) ++ 13 ∷ 10 ∷ [] })) old_tag gives in
-    let step = gave playout.config playout.names found new.session (record (progress_of tag played) { stream = (stream_of tag played ++ text) ++ 13 ∷ 10 ∷ [] }) gives' more in
+    ap length (lines_more (stream_of tag played) text whole none) ∙ length-append (lines_of (stream_of tag played)) (line_of_text text ∷ [])
+    ∙ ap (λ (n : ℕ). n + 1) count_before in
+    let gives' = subst (λ t. Gives playout.config playout.names found now (record (progress_of t played) { stream = (stream_of t played ++ text) ++ 13 ∷ 10 ∷ [] })) old_tag gives in
+    let step = gave playout.config playout.names found now (record (progress_of tag played) { stream = (stream_of tag played ++ text) ++ 13 ∷ 10 ∷ [] }) gives' more in
     let lost = given_up-is next found in
     let stream = stream_of-said tag played (played_text next (Some found)) text (text_by-said tag text) in
     let texts : length (texts_of tag all) ≡ given + 1 =
     ap length (texts_of-said tag played (played_text next (Some found)) text (text_by-said tag text)) ∙ length-append (texts_of tag played) (text ∷ []) in
     let count : length (lines_of (stream_of tag all)) ≡ length (texts_of tag all) = ap (λ (s : List ℕ). length (lines_of s)) stream ∙ more ∙ sym texts in
-    let stands : Represents playout.config playout.names new.session (progress_of tag all) =
-    subst (λ n. Represents playout.config playout.names new.session (record (progress_of tag all) { given = n })) (sym texts)
-    (subst (λ s. Represents playout.config playout.names new.session (record { stream = s; given_up = given_up_of tag all; given = given + 1 })) (sym stream)
-    (subst (λ g. Represents playout.config playout.names new.session (record { stream = (stream_of tag played ++ text) ++ 13 ∷ 10 ∷ []; given_up = g; given = given + 1 })) lost step.1)) in
-    let same : Client = record { tag = tag; session = new.session } in
-    let serves : ServesConnection playout same all = record {
-      whole = subst IsEnded (sym stream) (ended_more (stream_of tag played) text);
-      count = count;
-      served = served_by playout same all new.session.ended refl count stands between;
-    } in
+    let stands : Represents playout.config playout.names now (progress_of tag all) =
+    subst (λ n. Represents playout.config playout.names now (record (progress_of tag all) { given = n })) (sym texts)
+    (subst (λ s. Represents playout.config playout.names now (record { stream = s; given_up = given_up_of tag all; given = given + 1 })) (sym stream)
+    (subst (λ g. Represents playout.config playout.names now (record { stream = (stream_of tag played ++ text) ++ 13 ∷ 10 ∷ []; given_up = g; given = given + 1 })) lost step.1)) in
     record {
-      given = ap₂ (λ g s. slice_get (steps playout.config playout.names g s) given) (sym lost) stream ∙ step.0;
-      serves = subst (λ t. ServesConnection playout (record { tag = t; session = new.session }) all) (sym new_tag) serves;
+      given = ap₂ (λ g s. slice_get (steps playout.config playout.names g s) given) (sym lost) stream ∙ step.0 ∙ step_kept found now
+          ∙ ap (λ (s : Option SessionState). viewed found (session_batch s)) (sym kept_now);
+      serves = record {
+        whole = subst (λ t. IsEnded (stream_of t all)) (sym new_tag) (subst IsEnded (sym stream) (ended_more (stream_of tag played) text));
+        count = subst (λ t. length (lines_of (stream_of t all)) ≡ length (texts_of t all)) (sym new_tag) count;
+        served = subst (λ t. IsServed playout t new.session all) (sym new_tag)
+            (subst (λ s. IsServed playout tag s all) (sym kept_now) (served_by playout tag now all (ends found) ended count stands between));
+      };
     }
 
 -- a line of a connection that has ended is passed over
-pub passed_over : (next : NextText) (client : Client) → client.tag ≡ next.tag → IsOneLine next.text → ServesConnection next.playout client next.played → client.session.ended ≡ true
-    → ClientTakesLine next None client
+pub passed_over : (next : NextText) (client new : Client) → client.tag ≡ next.tag → new.tag ≡ next.tag → IsOneLine next.text → ServesConnection next.playout client next.played
+    → client.session ≡ None → new.session ≡ None → ClientTakesLine next None new
 unfolding said_step steps
-passed_over next client own none serves over =
+passed_over next client new own new_tag none serves over over_now =
     let playout = next.playout in
     let played = next.played in
     let tag = next.tag in
     let text = next.text in
     let line = played_text next None in
     let all = played ++ line ∷ [] in
-    let serves' : ServesConnection playout (record client { tag = tag }) played = subst (λ t. ServesConnection playout (record client { tag = t }) played) own serves in
+    let whole = subst (λ t. IsEnded (stream_of t played)) own serves.whole in
+    let count = subst (λ t. length (lines_of (stream_of t played)) ≡ length (texts_of t played)) own serves.count in
     let lost = given_up_of-kept tag played line text (text_by-said tag text) refl in
     let stream = stream_of-said tag played line text (text_by-said tag text) in
     let texts = texts_of-said tag played line text (text_by-said tag text) in
     let lines = lines_of (stream_of tag played) in
     let more = line_of_text text ∷ [] in
     let given_up = given_up_of tag played in
-    let now : lines_of (stream_of tag all) ≡ lines ++ more = ap lines_of stream ∙ lines_more (stream_of tag played) text serves'.whole none in
-    let ended : list_any is_end (line_steps playout.config playout.names given_up lines) ≡ true = subst (λ b. IsServed playout b (record client { tag = tag }) played) over serves'.served in
+    let now : lines_of (stream_of tag all) ≡ lines ++ more = ap lines_of stream ∙ lines_more (stream_of tag played) text whole none in
+    let ended : list_any is_end (line_steps playout.config playout.names given_up lines) ≡ true =
+    subst (λ s. IsServed playout tag s played) over (subst (λ t. IsServed playout t client.session played) own serves.served) in
     let same : line_steps playout.config playout.names (given_up_of tag all) (lines_of (stream_of tag all)) ≡ line_steps playout.config playout.names (given_up ++ []) (lines ++ more) =
     ap₂ (λ g ls. line_steps playout.config playout.names g ls) (lost ∙ sym (append-nil given_up)) now in
     let longer = line_steps-longer playout.config playout.names given_up [] lines more (All-nil (λ (k : ℕ). length lines ≤ k)) in
     let ends_all = until_end-lines_ended playout.config playout.names given_up [] lines more (All-nil (λ (k : ℕ). length lines ≤ k)) ended in
     let few = length-until_end (line_steps playout.config playout.names given_up lines) in
     let one_each = length-line_steps playout.config playout.names given_up lines in
-    let count = serves'.count in
     let past = slice_get_past (until_end (line_steps playout.config playout.names given_up lines)) (length (texts_of tag played)) (omega (arith, few, one_each, count)) in
-    let after : ServesConnection playout (record client { tag = tag }) all = record {
-      whole = subst IsEnded (sym stream) (ended_more (stream_of tag played) text);
-      count = ap length now ∙ length-append lines more ∙ ap (λ (n : ℕ). n + 1) serves'.count
-          ∙ sym (ap length texts ∙ length-append (texts_of tag played) (text ∷ []));
-      served =
-          subst (λ b. IsServed playout b (record client { tag = tag }) all) (sym over)
-          (ap (list_any is_end) (same ∙ longer.whole) ∙ any_prefix (line_steps playout.config playout.names given_up lines) longer.added ended);
-    } in
+    let ended_all : list_any is_end (line_steps playout.config playout.names (given_up_of tag all) (lines_of (stream_of tag all))) ≡ true =
+    ap (list_any is_end) (same ∙ longer.whole) ∙ any_prefix (line_steps playout.config playout.names given_up lines) longer.added ended in
     record {
       given = ap (λ ss. slice_get (until_end ss) (length (texts_of tag played))) same
           ∙ ap (λ ss. slice_get ss (length (texts_of tag played))) ends_all ∙ past;
-      serves = subst (λ t. ServesConnection playout (record client { tag = t }) all) (sym own) after;
+      serves = record {
+        whole = subst (λ t. IsEnded (stream_of t all)) (sym new_tag) (subst IsEnded (sym stream) (ended_more (stream_of tag played) text));
+        count = subst (λ t. length (lines_of (stream_of t all)) ≡ length (texts_of t all)) (sym new_tag)
+            (ap length now ∙ length-append lines more ∙ ap (λ (n : ℕ). n + 1) count
+            ∙ sym (ap length texts ∙ length-append (texts_of tag played) (text ∷ [])));
+        served = subst (λ t. IsServed playout t new.session all) (sym new_tag) (subst (λ s. IsServed playout tag s all) (sym over_now) ended_all);
+      };
     }
   where
     any_prefix : (prefix added : List model.Step) → list_any is_end prefix ≡ true → list_any is_end (prefix ++ added) ≡ true

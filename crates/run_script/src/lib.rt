@@ -6,6 +6,7 @@
 //! fails or memory runs out.
 #![tactic(auto)]
 
+mod client_lines;
 mod clients;
 mod command_line;
 mod ending;

@@ -1,5 +1,5 @@
 -- The connections of a script, and what a line of one of them makes of its session.
-use Rattle.std.specs.Prelude.{◌≡◌, ℕ, Bool, true, false, Option, Some, None, List, [], ◌∷◌, ◌++◌, length, find, All}
+use Rattle.std.specs.Prelude.{◌≡◌, ℕ, Bool, true, false, if◌then◌else◌, Option, Some, None, List, [], ◌∷◌, ◌++◌, length, find, All}
 use Rattle.std.specs.List.{list_any, position}
 use Rattle.amcp_text.specs.Lines.{IsEnded, lines_of}
 use Rattle.play_types.specs.Config.{ConfigView}
@@ -10,6 +10,7 @@ use Rattle.history_model.specs.scripts.Line.{Said}
 use Rattle.history_model.specs.scripts.History.{Playout, PlayedLine, same_tag, texts_of, stream_of, given_up_of, said_step}
 use Rattle.history_model.specs.sessions.Session.{line_steps, is_end}
 use Rattle.history_model.specs.sessions.Session as model
+use Rattle.play_session.specs.SessionState.{SessionState}
 use Rattle.play_session.specs.Step.{viewed, gives_up}
 use Rattle.play_session.specs.Session as session
 use Rattle.play_session.specs.declared.step.Step.{Step}
@@ -19,28 +20,26 @@ use Rattle.run_script.specs.declared.clients.Client.{Client}
 abbrev pub progress_of : Tag → List PlayedLine → session.Progress
 progress_of tag played = record { stream = stream_of tag played; given_up = given_up_of tag played; given = length (texts_of tag played) }
 
--- the session represents the stream of its connection, gave a step for each line and holds no unfinished one; once the
--- connection has ended, it has a step that ends it
-abbrev pub IsServed : Playout → Bool → Client → List PlayedLine → Type 0
-IsServed playout false client played =
-    (client.session.ended ≡ false)
-    × session.Represents playout.config playout.names client.session (progress_of client.tag played)
-    × session.IsBetweenLines client.session
-IsServed playout true client played =
-    list_any is_end (line_steps playout.config playout.names (given_up_of client.tag played) (lines_of (stream_of client.tag played))) ≡ true
+-- the session represents the stream of its connection, gave a step for each line and holds no unfinished one; a connection without
+-- a session has a step that ends it
+abbrev pub IsServed : Playout → Tag → Option SessionState → List PlayedLine → Type 0
+IsServed playout tag (Some now) played =
+    session.Represents playout.config playout.names now (progress_of tag played) × session.IsBetweenLines now
+IsServed playout tag None played =
+    list_any is_end (line_steps playout.config playout.names (given_up_of tag played) (lines_of (stream_of tag played))) ≡ true
 
--- the connection has a session: each of its texts is one line
+-- the connection is served: each of its texts is one line
 pub record ServesConnection (playout : Playout) (client : Client) (played : List PlayedLine) : Type 0 where
   pub whole : IsEnded (stream_of client.tag played)
   pub count : length (lines_of (stream_of client.tag played)) ≡ length (texts_of client.tag played)
-  pub served : IsServed playout client.session.ended client played
+  pub served : IsServed playout client.tag client.session played
 
--- a connection without a session has said nothing
+-- who is no connection has said nothing
 abbrev pub IsClient : Playout → Tag → Option Client → List PlayedLine → Type 0
 IsClient playout tag None played = texts_of tag played ≡ []
 IsClient playout tag (Some client) played = ServesConnection playout client played
 
--- the session of a connection
+-- the connection of a tag
 abbrev pub client_of : Tag → List Client → Option Client
 client_of tag clients = find (λ client. same_tag tag client.tag) clients
 
@@ -48,10 +47,19 @@ client_of tag clients = find (λ client. same_tag tag client.tag) clients
 abbrev pub AreClients : Playout → List Client → List PlayedLine → Type 0
 AreClients playout clients played = (tag : Tag) → IsClient playout tag (client_of tag clients) played
 
+-- the session that a connection keeps after a step, none where the step ends it
+abbrev pub kept_session : Bool → SessionState → Option SessionState
+kept_session over now = if over then None else Some now
+
+-- the commands of the batch of a session, none where the connection has ended
+abbrev pub session_batch : Option SessionState → List Cmd
+session_batch None = []
+session_batch (Some now) = now.batch
+
 -- the commands of the batch of a connection
 abbrev pub batch_in : Option Client → List Cmd
 batch_in None = []
-batch_in (Some client) = client.session.batch
+batch_in (Some client) = session_batch client.session
 
 -- the commands of the batch of the connection of this tag
 abbrev pub batch_of : Tag → List Client → List Cmd
@@ -59,7 +67,7 @@ batch_of tag clients = batch_in (client_of tag clients)
 
 -- each command of a batch names configured channels alone
 abbrev pub HaveAimedBatches : ConfigView → List Client → Type 0
-HaveAimedBatches config clients = All (λ (client : Client). AreAimed config client.session.batch) clients
+HaveAimedBatches config clients = All (λ (client : Client). AreAimed config (session_batch client.session)) clients
 
 -- whether the session gave the line up, out of memory
 abbrev pub gave_up : Option Step → Bool
@@ -90,9 +98,16 @@ pub record ClientsTakeLine (next : NextText) (found : Option Step) (new : List C
 
 -- the line was taken by the session of its connection
 pub record ClientTakesLine (next : NextText) (found : Option Step) (new : Client) : Type 0 where
-  pub given : said_step next.playout next.played (played_text next found) next.tag ≡ step_view found new.session.batch
+  pub given : said_step next.playout next.played (played_text next found) next.tag ≡ step_view found (session_batch new.session)
   pub serves : ServesConnection next.playout new (next.played ++ played_text next found ∷ [])
 
 -- the first connection of this tag stands at this place
 abbrev pub IsPlaceOf : Tag → ℕ → List Client → Type 0
 IsPlaceOf tag at clients = position (λ (client : Client). same_tag tag client.tag) clients ≡ Some at
+
+-- a connection of this tag was added, with this session
+pub record AddsClient (tag : Tag) (now : SessionState) (old new : List Client) : Type 0 where
+  pub client : Client
+  pub items : new ≡ old ++ client ∷ []
+  pub own : client.tag ≡ tag
+  pub session : client.session ≡ Some now

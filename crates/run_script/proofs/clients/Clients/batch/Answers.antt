@@ -5,7 +5,7 @@ use Rattle.run_script.proofs.clients.Clients.batch.Goals as goal
 
 pub returns-in-Some : goal.returns-in-Some
 returns-in-Some c =
-    c.batch.ensures
+    c.batch_in.ensures
     ∙ sym (batch_there c.args.tag c.in-Some.at c.args.self.now.list.items c.index.result.now (sym c.find.ensures ∙ c.in-Some.is) (sym c.index.ensures))
 
 pub returns-in-None : goal.returns-in-None

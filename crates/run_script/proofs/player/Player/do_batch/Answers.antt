@@ -5,7 +5,8 @@ use Rattle.play_types.specs.declared.event.Event.TheVariants.{Batch, Tick}
 use Rattle.stage_core.specs.Served.{IsServed}
 use Rattle.run_script.specs.inner.Player.{DoesRequest, batch_request}
 use Rattle.run_script.proofs.Connections.{aimed_of}
-use Rattle.run_script.proofs.Following.{batch_answered, batch_fits, does_request, each_served, going_on, no_tick_after, ready_after}
+use Rattle.run_script.proofs.Following.{batch_answered, does_request, each_served, going_on, no_tick_after, ready_after}
+use Rattle.run_script.proofs.Replying.{batch_fits}
 use Rattle.run_script.proofs.player.Player.do_batch.Goals as goal
 
 some : (commands : List Cmd) → commands ≢ [] → 0 < length commands

@@ -1,7 +1,8 @@
 use Rattle.std.proofs.Common.{◌≢◌, refl, subst}
 use Rattle.play_types.specs.declared.event.Event.TheVariants.{Do, Tick}
 use Rattle.run_script.specs.inner.Player.{RepliesTo, command_request}
-use Rattle.run_script.proofs.Following.{command_answered, command_fits, does_request, going_on, no_tick_after, ready_after, served}
+use Rattle.run_script.proofs.Following.{command_answered, does_request, going_on, no_tick_after, ready_after, served}
+use Rattle.run_script.proofs.Replying.{command_fits}
 use Rattle.run_script.proofs.player.Player.do_command.Goals as goal
 
 pub apply-requires : goal.apply-requires

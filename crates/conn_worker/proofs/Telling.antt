@@ -1,13 +1,16 @@
 -- What a link tells after the rounds of a connection.
-use Rattle.std.proofs.Common.{◌≡◌, ℕ, ◌+◌, ◌-◌, ◌^◌, ◌<◌, ◌≤◌, List, [], ◌∷◌, ◌++◌, refl, sym, ap, ◌∙◌, arith, append-nil, append_assoc}
+use Rattle.std.proofs.Common.{◌≡◌, ℕ, ◌+◌, ◌-◌, ◌^◌, ◌<◌, ◌≤◌, true, List, [], ◌∷◌, ◌++◌, length, refl, sym, ap, ap₂, ◌∙◌, arith, append-nil, append_assoc, length-append}
 use Rattle.std.specs.Prelude.{Option, Some, None, min, max, option_map}
 use Rattle.std.proofs.lemmas.Grind.{flat_map-append}
 use Rattle.std.proofs.lemmas.List.Sums.{sum_by-cons}
 use Rattle.play_outside.specs.Reading.{Reading}
+use Rattle.play_outside.specs.declared.link.Look as told
+use Rattle.play_outside.specs.Faults.{one_more}
+use Rattle.play_outside.specs.Link.{one_look}
 use Rattle.play_outside.specs.SinkState.{SinkState, more_taken}
 use Rattle.play_outside.proofs.Taking.{more_taken-more_taken, more_taken-nil}
 use Rattle.conn_worker.specs.Followed.{Service, Followed, replies, reply_of, sent_bytes}
-use Rattle.conn_worker.specs.Rounds.{Look, Got, End, Nothing, Round, after_look, after_round, after_rounds, bytes_in, followed_in, idle_looks, look_bytes, number_idle}
+use Rattle.conn_worker.specs.Rounds.{Look, Got, End, Nothing, Round, after_look, after_round, after_rounds, bytes_in, followed_in, idle_looks, look_bytes, looks_from, number_idle}
 
 look_taken : (look : Look) (link : SinkState) → (after_look look link).taken ≡ link.taken
 look_taken (Got bytes) link = refl
@@ -96,3 +99,45 @@ rounds_idle service (round ∷ rounds) link below =
 
     counted : (start one more next last all : ℕ) → next ≡ start + one → last ≡ next + more → all ≡ one + more → last ≡ start + all
     counted start one more next last all first rest whole = omega arith
+
+-- the looks were told
+look_step : (service : Service) (taken added : List ℕ) (reading : Reading) (bytes : List ℕ) (rounds : List Round)
+    → (reading.looks ++ record { taken = length taken; read = length reading.bytes } ∷ []) ++ looks_from service (length (taken ++ added)) (length (reading.bytes ++ bytes)) rounds
+    ≡ reading.looks ++ record { taken = length taken; read = length reading.bytes } ∷ looks_from service (length taken + length added) (length reading.bytes + length bytes) rounds
+look_step service taken added reading bytes rounds =
+    let one : told.Look = record { taken = length taken; read = length reading.bytes } in
+    append_assoc reading.looks (one ∷ []) (looks_from service (length (taken ++ added)) (length (reading.bytes ++ bytes)) rounds)
+    ∙ ap₂ (λ (a b : ℕ). reading.looks ++ one ∷ looks_from service a b rounds) (length-append taken added) (length-append reading.bytes bytes)
+
+-- what a link tells of its looks, where it tells of them
+abbrev told_looks : SinkState → Option (List told.Look)
+told_looks link = option_map (λ (r : Reading). r.looks) link.reading
+
+looks_by : (service : Service) (look : Look) (followed : List Followed) (rounds : List Round) (taken : List ℕ) (reading : Reading) (link : SinkState)
+    → ((more : List ℕ) (given : Reading) (after : SinkState)
+    → told_looks (after_rounds service rounds (record after { taken = Some more; reading = Some given })) ≡ Some (given.looks ++ looks_from service (length more) (length given.bytes) rounds))
+    → told_looks (after_rounds service rounds (after_round service (record { look = look; followed = followed }) (record link { taken = Some taken; reading = Some reading })))
+    ≡ Some (reading.looks ++ looks_from service (length taken) (length reading.bytes) (record { look = look; followed = followed } ∷ rounds))
+looks_by service (Got bytes) followed rounds taken reading link rest =
+    rest (taken ++ replies service followed) (one_look (length taken) bytes reading) link
+    ∙ ap Some (look_step service taken (replies service followed) reading bytes rounds)
+looks_by service End followed rounds taken reading link rest =
+    rest (taken ++ replies service followed) (record (one_look (length taken) [] reading) { ended = true }) link
+    ∙ ap Some (look_step service taken (replies service followed) reading [] rounds)
+looks_by service Nothing followed rounds taken reading link rest =
+    rest (taken ++ replies service followed) (one_look (length taken) [] reading) (record link { idle = one_more link.idle })
+    ∙ ap Some (look_step service taken (replies service followed) reading [] rounds)
+
+looks_told : (service : Service) (rounds : List Round) (taken : List ℕ) (reading : Reading) (link : SinkState)
+    → told_looks (after_rounds service rounds (record link { taken = Some taken; reading = Some reading }))
+    ≡ Some (reading.looks ++ looks_from service (length taken) (length reading.bytes) rounds)
+looks_told service [] taken reading link = ap Some (sym (append-nil reading.looks))
+looks_told service (round ∷ rounds) taken reading link =
+    looks_by service round.look round.followed rounds taken reading link (λ more given after. looks_told service rounds more given after)
+
+pub rounds_looks : (service : Service) (rounds : List Round) (link : SinkState) (taken : List ℕ) (reading : Reading)
+    → link.taken ≡ Some taken → link.reading ≡ Some reading
+    → told_looks (after_rounds service rounds link) ≡ Some (reading.looks ++ looks_from service (length taken) (length reading.bytes) rounds)
+rounds_looks service rounds link taken reading takes reads =
+    let same : link ≡ record link { taken = Some taken; reading = Some reading } = λ i. record link { taken = takes i; reading = reads i } in
+    ap (λ (l : SinkState). told_looks (after_rounds service rounds l)) same ∙ looks_told service rounds taken reading link

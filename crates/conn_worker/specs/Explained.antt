@@ -89,8 +89,8 @@ pub record IsLinkFault (service : Service) (talk : Talk) : Type 0 where
   pub failed : talk.failure ≢ NoFailure
   pub running : stop_at talk.pass.seen ≡ None
 
--- the history holds a stop that another call made, at this position, and every step before that one was followed which would
--- have asked for more
+-- the history holds a stop that another call made, at this position: a look at it found the stop after all steps had been followed,
+-- or the first step that was not followed was asked for, and the stage refused it
 pub record IsEnded (service : Service) (talk : Talk) (at : ℕ) : Type 0 where
   pub whole : talk.failure ≡ NoFailure
   pub stopped : stop_at talk.pass.seen ≡ Some at

@@ -1,5 +1,6 @@
 -- The looks at a link, and what followed each of them.
-use Rattle.std.specs.Prelude.{◌≡◌, ℕ, List, [], ◌∷◌, flat_map, sum_by}
+use Rattle.std.specs.Prelude.{◌≡◌, ℕ, ◌+◌, List, [], ◌∷◌, flat_map, length, sum_by}
+use Rattle.play_outside.specs.declared.link.Look as told
 use Rattle.play_outside.specs.SinkState.{SinkState, after_taking}
 use Rattle.play_outside.specs.Sink.{Fails}
 use Rattle.play_outside.specs.Link.{after_read, after_end, after_idle, after_failed_read}
@@ -36,7 +37,7 @@ bytes_in rounds = flat_map (λ (round : Round). look_bytes round.look) rounds
 abbrev pub followed_in : List Round → List Followed
 followed_in rounds = flat_map (λ (round : Round). round.followed) rounds
 
--- what each look found
+-- how many looks found nothing yet
 abbrev pub number_idle : List Round → ℕ
 number_idle rounds = sum_by (λ (round : Round). idle_looks round.look) rounds
 
@@ -54,6 +55,14 @@ after_round service round link = after_taking (after_look round.look link) (repl
 abbrev pub after_rounds : Service → List Round → SinkState → SinkState
 after_rounds service [] link = link
 after_rounds service (round ∷ rounds) link = after_rounds service rounds (after_round service round link)
+
+-- what a link tells of its looks in these rounds, where it had taken and given so many bytes before: a look comes when the replies
+-- to all steps before it have been taken
+abbrev pub looks_from : Service → ℕ → ℕ → List Round → List told.Look
+looks_from service taken read [] = []
+looks_from service taken read (round ∷ rounds) =
+    record { taken = taken; read = read }
+    ∷ looks_from service (taken + length (replies service round.followed)) (read + length (look_bytes round.look)) rounds
 
 -- whether a link failed in the end: in no call, in a read, or in a write of the reply to this step, which was followed too
 pub data Failure : Type 0 where

@@ -1,9 +1,11 @@
-use Rattle.std.proofs.Common.{◌≡◌, ◌+◌, ◌-◌, ◌<◌, List, take, drop, length, ap, sym, subst, ◌∙◌}
+use Rattle.std.proofs.Common.{◌≡◌, ◌+◌, ◌-◌, ◌<◌, List, take, drop, length, ap, sym, subst, ◌∙◌, ◌++◌}
 use Rattle.std.proofs.lemmas.Bool.{false≢true}
 use Rattle.std.proofs.lemmas.Result.{err_from_is_err_and}
 use Rattle.play_types.specs.declared.command.Cmd.{Cmd}
 use Rattle.history_model.specs.commands.Channels.{AreAimed}
+use Rattle.play_session.specs.Step.{viewed}
 use Rattle.play_session.specs.declared.step.Step.TheVariants.{NeedMore}
+use Rattle.conn_worker.specs.Rounds.{bytes_in}
 use Rattle.conn_worker.specs.Explained.{Standing, IsExplained}
 use Rattle.conn_worker.specs.declared.link_end.LinkEnd.{LinkEnd}
 use Rattle.conn_worker.specs.inner.UnderWay.{Now, TakesPiece}
@@ -51,20 +53,21 @@ loop-preserved g c =
     let rest = take (length piece - c.loop.at) (drop c.loop.at piece) in
     let follows = c.in_ok-follow.ensures.follows in
     let done = c.in_ok-follow.field-0 in
+    let step = viewed c.next-step.result c.batch.result.now in
     record {
       within = piece_within piece c.loop.at c.feed-at.result c.loop.session.reader.held c.loop.invariant.within c.feed-at.ensures.count;
       of = c.in_ok-follow.ensures.of;
-      number = goes_number mine _ done before after follows ∙ c.loop.invariant.number;
+      number = goes_number mine step done before after follows ∙ c.loop.invariant.number;
       known = given_progress config names c.feed-at.new.self c.next-step.new.self c.next-step.result c.next-step.ensures.gives
           (fed_progress config names c.loop.session c.feed-at.new.self (take c.feed-at.result rest) (c.feed-at.ensures.represents config names) c.loop.invariant.known);
       going = c.next-step.ensures.ended ∙ goes_going mine c.next-step.result c.batch.result.now done before after follows;
       aimed = c.next-step.ensures.aimed (subst (AreAimed config) (sym c.feed-at.ensures.same.1) c.loop.invariant.aimed);
-      running = goes_running mine _ done before after follows c.loop.invariant.running;
+      running = goes_running mine step done before after follows c.loop.invariant.running;
       takes = λ past same way.
           let found = c.loop.invariant.takes past same way in
           let fed = piece_fed service past piece found.0 c.loop.at c.feed-at.result rest before c.loop.session c.feed-at.new.self same
           (rest_of piece c.loop.at c.loop.invariant.within) c.feed-at.ensures.represents c.feed-at.ensures.same found.1 in
-          piece_goes service mine past piece found.0 _ before after c.feed-at.new.self c.next-step.new.self c.next-step.result c.batch.result.now done same
+          piece_goes service mine past piece found.0 (bytes_in past.rounds ++ take (c.loop.at + c.feed-at.result) piece) before after c.feed-at.new.self c.next-step.new.self c.next-step.result c.batch.result.now done same
           (ap (service_in self) c.loop.invariant.number) c.batch.ensures fed c.next-step.ensures.gives c.next-step.ensures.ended c.next-step.ensures.aimed
           c.next-step.ensures.unchanged follows;
     }

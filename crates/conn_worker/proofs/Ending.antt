@@ -26,7 +26,7 @@ use Rattle.conn_worker.specs.inner.UnderWay as way
 use Rattle.conn_worker.specs.inner.UnderWay.{Goes, HasGiven, IsBetweenLooks, IsUnderWay, Kills, Leaves, Now, Past, Stops, progress_of, with_piece}
 use Rattle.conn_worker.specs.declared.link_end.LinkEnd.{LinkEnd}
 use Rattle.conn_worker.specs.declared.link_end.LinkEnd.TheVariants.{Over, Killed, LinkFault, Ended}
-use Rattle.conn_worker.proofs.Lists.{bytes_in-step, followed_in-none, followed_in-step, last_or-snoc, number_asked-more, number_idle-more, number_idle-step, steps_in-more}
+use Rattle.conn_worker.proofs.Lists.{list_any-more, bytes_in-step, followed_in-none, followed_in-step, last_or-snoc, number_asked-more, number_idle-more, number_idle-step, steps_in-more}
 use Rattle.conn_worker.proofs.Giving.{given_end, given_first, given_next, given_prefix, given_step, none_ends}
 use Rattle.conn_worker.proofs.Passes.{made_looked, made_more}
 use Rattle.conn_worker.proofs.Links.{after_rounds-looked, after_rounds-step, looks_more, looks_step}
@@ -107,7 +107,12 @@ ends_unread past now link between is =
       looks = way.looks;
       link = is ∙ ap after_failed_read way.link;
       turns = whole (λ fs. now.standing.pass.turns ≤ past.before.pass.turns + number_asked fs + number_idle past.rounds + 1) (followed_in past.rounds) (omega (arith, way.turns));
-      ending = record { failed = λ e. absurd cc; running = way.running };
+      ending = record {
+        failed = λ e. absurd cc;
+        going = whole (λ fs. list_any is_end (steps_in fs) ≡ false) (followed_in past.rounds) between.caught_up.going;
+        caught_up = λ _. between.caught_up;
+        running = way.running;
+      };
     }
 
 -- a look found nothing yet, and the history that was found then holds a stop
@@ -133,6 +138,7 @@ ends_stopped past now link pass at between is looks =
     })
     (record {
       whole = refl;
+      going = whole (λ fs. list_any is_end (steps_in fs) ≡ false) (followed_in rounds) now_all.going;
       stopped = ap stop_at (ap (λ (p : PassView). p.seen) looks.after) ∙ sym looks.told;
       next = inl (whole (λ fs. steps_in fs ≡ steps_of past.service fs (bytes_in rounds)) (followed_in rounds) now_all.all);
     })
@@ -181,6 +187,7 @@ module _ (past : Past) (piece : List ℕ) (followed : List Followed) (before : S
       })
       (record {
         whole = refl;
+        going = whole (λ fs. list_any is_end (steps_in fs) ≡ false) had none;
         stopped = ap stop_at (ap (λ (p : PassView). p.seen) stops.finds.after_is) ∙ stops.finds.stop;
         next = inr (whole (λ fs. IsNextAsked past.service (record { rounds = rounds; failure = NoFailure; pass = after.pass })) had
             (record {
@@ -211,7 +218,14 @@ module _ (past : Past) (piece : List ℕ) (followed : List Followed) (before : S
       }
 
   pub ends_unsent : (after : Standing) → way.Fails past.service step before after → IsExplained past.service LinkFault past.before after
-  ends_unsent after fails = unsent_step LinkFault after fails.follows (record { failed = λ e. absurd cc; running = fails.running })
+  ends_unsent after fails =
+      let one = fails.follows.one in
+      unsent_step LinkFault after fails.follows (record {
+        failed = λ e. absurd cc;
+        going = ap (list_any is_end) (steps_in-more had one) ∙ list_any-more is_end (steps_in had) one.step none (ap is_end fails.follows.step_is ∙ fails.going);
+        caught_up = λ e. absurd cc;
+        running = fails.running;
+      })
 
   -- the step is an end, and all steps were followed with it
   all_with : (one : Followed) → one.step ≡ step → is_end step ≡ true

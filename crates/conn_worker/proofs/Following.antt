@@ -46,6 +46,7 @@ sends_step service step one before after link written bytes (Ok done) going is m
 sends_step service step one before after link written bytes (Err Over) going is makes running same sends = absurd sends
 sends_step service step one before after link written bytes (Err Killed) going is makes running same sends = absurd sends
 sends_step service step one before after link written bytes (Err LinkFault) going is makes running same sends = record {
+  going = going;
   follows = record { one = one; step_is = is; makes = makes; sends = subst (λ (bs : List ℕ). Sends sent.Failed bs link written) (sym same) sends };
   running = running;
 }

@@ -84,15 +84,18 @@ pub record IsKilled (service : Service) (talk : Talk) : Type 0 where
   pub all : AreAllCovered service talk
   pub cause : last_step (covered talk) ≡ Some KillServer
 
--- the link failed, and no stop was seen
+-- the link failed: no step that was followed is an end, and no stop was seen. Before a read that failed all steps had been followed
 pub record IsLinkFault (service : Service) (talk : Talk) : Type 0 where
   pub failed : talk.failure ≢ NoFailure
+  pub going : list_any is_end (steps_in (covered talk)) ≡ false
+  pub caught_up : talk.failure ≡ ReadFailed → IsCaughtUp service talk.rounds
   pub running : stop_at talk.pass.seen ≡ None
 
--- the history holds a stop that another call made, at this position: a look at it found the stop after all steps had been followed,
--- or the first step that was not followed was asked for, and the stage refused it
+-- the history holds a stop at this position, and no step that was followed is an end, so another call made it: a look found the
+-- stop after all steps had been followed, or the first step that was not followed was asked for, and the stage refused it
 pub record IsEnded (service : Service) (talk : Talk) (at : ℕ) : Type 0 where
   pub whole : talk.failure ≡ NoFailure
+  pub going : list_any is_end (steps_in (covered talk)) ≡ false
   pub stopped : stop_at talk.pass.seen ≡ Some at
   pub next : AreAllCovered service talk ⊎ IsNextAsked service talk
 

@@ -103,6 +103,7 @@ pub record Leaves (service : Service) (step : Step) (before after : Standing) : 
 
 -- the step was followed, and the link failed before its reply was wholly written
 pub record Fails (service : Service) (step : Step) (before after : Standing) : Type 0 where
+  pub going : is_end step ≡ false
   pub follows : Follows service step sent.Failed before after
   pub running : stop_at after.pass.seen ≡ None
 

@@ -1,0 +1,3 @@
+mod Copying
+pub mod OnLiterals
+mod Unused

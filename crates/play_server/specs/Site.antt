@@ -1,0 +1,63 @@
+-- What the calls of a site do.
+use Rattle.std.specs.Prelude.{◌≡◌, ℕ, ◌+◌, ◌<◌, Bool, true, false, Option, List, All, length, slice_index_or, vec_len, Result, Ok, Err}
+use Rattle.play_types.specs.Config.{ConfigView}
+use Rattle.play_outside.specs.ClockState.{ClockState}
+use Rattle.play_outside.specs.ListenerState.{ListenerState}
+use Rattle.play_outside.specs.SinkState.{SinkState}
+use Rattle.play_outside.specs.Fresh.{IsFreshClock, IsFreshListener, IsNewSink}
+use Rattle.play_outside.specs.declared.devices.Devices.{Devices}
+use Rattle.play_outside.specs.declared.folder.FileFault.{FileFault}
+use Rattle.play_outside.specs.declared.folder.FileFault.TheVariants as fault
+use Rattle.play_outside.specs.declared.sink.WriteStep.{WriteStep}
+use Rattle.play_outside.specs.declared.sink.WriteStep.TheVariants.{Took, Failed}
+use Rattle.play_server.specs.SiteState.{SiteState, after_call, after_site_fault, after_line}
+use Rattle.play_server.specs.declared.site.ReadyCall.{ReadyCall}
+
+-- how clocks, doors and outputs are read: what each of them tells
+pub record DeviceWords (C D O L : Type 0) : Type 0 where
+  pub clock : C → ClockState
+  pub door : D → ListenerState L
+  pub out : O → SinkState
+
+-- a clock that is fresh and has not failed
+abbrev pub IsNewClock : ClockState → Type 0
+IsNewClock state = IsFreshClock state × (state.faults ≡ 0)
+
+-- a door that is fresh and has not failed
+abbrev pub IsNewDoor : {L : Type 0} → ListenerState L → Type 0
+IsNewDoor state = IsFreshListener state × (state.faults ≡ 0)
+
+-- the elements have the marks 1, 2, .. in order
+abbrev pub AreNumbered : {X : Type 0} → (X → ℕ) → List X → Type 0
+AreNumbered {X} mark xs = (at : ℕ) (other : X) → at < length xs → mark (slice_index_or xs at other) ≡ at + 1
+
+-- the clock, the doors and the outputs are fresh and without faults, and marked: the doors and the outputs by their places
+-- from 1 on, and the output for the history by 0
+pub record AreNew {C D O L : Type 0} (words : DeviceWords C D O L) (devices : Devices C D O) : Type 0 where
+  pub clock : IsNewClock (words.clock devices.clock)
+  pub doors : All (λ door. IsNewDoor (words.door door)) devices.doors.items
+  pub door_marks : AreNumbered (λ door. (words.door door).mark) devices.doors.items
+  pub outs : All (λ out. IsNewSink (words.out out)) devices.outs.items
+  pub out_marks : AreNumbered (λ out. (words.out out).mark) devices.outs.items
+  pub history : IsNewSink (words.out devices.history)
+  pub history_mark : (words.out devices.history).mark ≡ 0
+
+-- the devices are new, with a door for each connection of the configuration and an output for each channel
+pub record AreReady {C D O L : Type 0} (words : DeviceWords C D O L) (config : ConfigView) (devices : Devices C D O) : Type 0 where
+  pub new : AreNew words devices
+  pub doors : vec_len devices.doors ≡ config.connections
+  pub outs : vec_len devices.outs ≡ length config.channels
+
+-- a call of `ready` with this configuration and this path of the history's file, and whether it answered Ok
+abbrev pub ready_call : ConfigView → Option (List ℕ) → Bool → ReadyCall
+ready_call config history ok = record { config = config; history = history; ok = ok }
+
+-- `ready` gave no devices: it failed, or memory ran out and nothing changed
+abbrev pub IsNotReady : {C D O : Type 0} → FileFault → ReadyCall → SiteState C D O → SiteState C D O → Type 0
+IsNotReady fault.Failed call before after = after ≡ after_site_fault (after_call call before)
+IsNotReady fault.OutOfMemory call before after = after ≡ before
+
+-- the whole line was said, or the site failed and said nothing of it
+abbrev pub Says : {C D O : Type 0} → WriteStep → List ℕ → SiteState C D O → SiteState C D O → Type 0
+Says (Took count) line before after = (count ≡ length line) × (after ≡ after_line line before)
+Says Failed line before after = after ≡ after_site_fault before

@@ -1,0 +1,46 @@
+-- What a site tells of its calls.
+use Rattle.std.specs.Prelude.{ℕ, Option, Some, List, [], ◌∷◌, ◌++◌, option_map}
+use Rattle.play_outside.specs.Faults.{one_more}
+use Rattle.play_outside.specs.declared.devices.Devices.{Devices}
+use Rattle.play_server.specs.declared.site.ReadyCall.{ReadyCall}
+
+-- the calls of `ready` that did not run out of memory, in order; the devices that were finished last, and how often devices
+-- were finished; and the bytes of the lines that were said, each with a line feed at its end
+pub record SiteTold (C D O : Type 0) : Type 0 where
+  pub calls : List ReadyCall
+  pub finished : Option (Devices C D O)
+  pub finishes : ℕ
+  pub said : List ℕ
+
+-- what was told, where the site tells it, and how often `ready` or `say` has failed
+pub record SiteState (C D O : Type 0) : Type 0 where
+  pub told : Option (SiteTold C D O)
+  pub faults : ℕ
+
+-- what is told after one more call of `ready`
+abbrev pub one_call : {C D O : Type 0} → ReadyCall → SiteTold C D O → SiteTold C D O
+one_call call told = record told { calls = told.calls ++ call ∷ [] }
+
+-- what is told after devices were finished
+abbrev pub one_finish : {C D O : Type 0} → Devices C D O → SiteTold C D O → SiteTold C D O
+one_finish devices told = record told { finished = Some devices; finishes = one_more told.finishes }
+
+-- what is told after a line was said
+abbrev pub one_line : {C D O : Type 0} → List ℕ → SiteTold C D O → SiteTold C D O
+one_line line told = record told { said = told.said ++ line ++ 10 ∷ [] }
+
+-- the site after a call of `ready`
+abbrev pub after_call : {C D O : Type 0} → ReadyCall → SiteState C D O → SiteState C D O
+after_call call state = record state { told = option_map (one_call call) state.told }
+
+-- the site after one more fault
+abbrev pub after_site_fault : {C D O : Type 0} → SiteState C D O → SiteState C D O
+after_site_fault state = record state { faults = one_more state.faults }
+
+-- the site after devices were finished
+abbrev pub after_finish : {C D O : Type 0} → Devices C D O → SiteState C D O → SiteState C D O
+after_finish devices state = record state { told = option_map (one_finish devices) state.told }
+
+-- the site after a line was said
+abbrev pub after_line : {C D O : Type 0} → List ℕ → SiteState C D O → SiteState C D O
+after_line line state = record state { told = option_map (one_line line) state.told }

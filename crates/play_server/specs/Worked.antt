@@ -1,0 +1,25 @@
+-- Words for the worked command lines.
+use Rattle.std.specs.Prelude.{ℕ, Option, List, [], ◌∷◌, map, codes}
+use Prim.Native.String.{String}
+use Rattle.clap.specs.Words.{Kinds, fault_of, first_of, matches_of}
+use Rattle.play_server.specs.ServerWords.{playd_app, workers_in}
+
+-- the words after the program's own
+abbrev pub line : List String → List (List ℕ)
+line words = codes "playd" ∷ map codes words
+
+-- why the words are refused; nothing where they are accepted
+abbrev pub faults : List String → Kinds
+faults words = fault_of playd_app (line words)
+
+-- the path of the configuration
+abbrev pub config : List String → Option (List ℕ)
+config words = first_of (codes "config") (matches_of playd_app (line words))
+
+-- the number of workers
+abbrev pub workers : List String → ℕ
+workers words = workers_in (matches_of playd_app (line words))
+
+-- the path of the history's file
+abbrev pub journal : List String → Option (List ℕ)
+journal words = first_of (codes "journal") (matches_of playd_app (line words))

@@ -1,0 +1,199 @@
+//! The words of the command line.
+ghost use Rattle.std.specs.Prelude.{◌≡◌, ◌≢◌, ◌∷◌, ◌++◌, [], true, is_some, codes, List, ℕ, IfOk, IsErrOf, map, take, option_map, Some, string_bytes};
+ghost use Rattle.clap.specs.Words.{fault_of, first_of, first_value, found_of, matches_of, rows_of, rule_of};
+ghost use Rattle.clap.specs.Built.{FitsChain, TakesValue};
+ghost use Rattle.play_server.specs.ServerWords.{ReadsWords, Names, config_rule, journal_rule, playd_app, workers_in, workers_rule};
+ghost use Rattle.play_server.specs.inner.ServerCommand.{IsServerCommand};
+ghost use Rattle.play_server.specs.declared.words.WordsFault.TheVariants.{OutOfMemory};
+
+use clap::error::ErrorKind;
+use clap::{Arg, ArgAction, ArgMatches, Command};
+use std::alloc::{AllocError, Global};
+use std::error::Error;
+use std::fmt;
+
+/// The program's own word, which `clap` takes before the others.
+const PROGRAM: &str = "playd";
+
+/// What the words of `playd` name.
+#[derive(Debug, Drop)]
+pub struct ServerWords {
+    /// The path of the configuration.
+    pub config: String,
+    /// How many threads make frames, 1 to 64.
+    pub workers: u32,
+    /// The path of the file that the history's text is written to.
+    pub journal: Option<String>,
+}
+
+/// Why the words name nothing.
+#[derive(Clone, Copy, Debug, PartialEq, Eq)]
+pub enum WordsFault {
+    /// They are no command line of `playd`.
+    Usage,
+    /// Memory ran out.
+    OutOfMemory,
+}
+
+impl fmt::Display for WordsFault {
+    fn fmt<W: fmt::Write>(&self, f: &mut fmt::Formatter<W>) -> fmt::Result {
+        match self {
+            WordsFault::Usage => write!(f, "the words are no command line of playd"),
+            WordsFault::OutOfMemory => write!(f, "out of memory"),
+        }
+    }
+}
+
+impl Error for WordsFault {}
+
+impl From<AllocError> for WordsFault {
+    ghost from_gives = { λ _ fault. fault ≡ OutOfMemory };
+
+    fn from(_error: AllocError) -> WordsFault {
+        WordsFault::OutOfMemory
+    }
+}
+
+impl ServerWords {
+    /// Reads the words that follow the program's name: `--config FILE` once, and `--workers N`, a number from 1 to 64,
+    /// and `--journal FILE` at most once each, in any order. Without `--workers` there is one worker.
+    ///
+    /// `Usage` comes exactly where `clap` refuses the words for another cause than memory.
+    pub fn read(alloc: Global, words: &[String]) -> Result<ServerWords, WordsFault>
+        ensures { ReadsWords (codes "playd" ∷ map string_bytes words.now) result }
+    {
+        let line = command_line(alloc, words)?;
+        let matches = parse(alloc, line.as_slice())?;
+        named(alloc, &matches)
+    }
+}
+
+/// Returns the words with the program's own word before them.
+fn command_line(alloc: Global, words: &[String]) -> Result<Vec<&str>, AllocError>
+    ensures { IfOk result (λ line. map (λ word. word.now) line.items ≡ codes "playd" ∷ map string_bytes words.now) }
+{
+    let mut line = Vec::with_capacity(alloc, words.len() + 1)?;
+    line.push_reserved(PROGRAM);
+    for word in words {
+        line.push_reserved(word.as_str());
+    }
+    Ok(line)
+}
+
+/// Parses the words, the first of which is the program's name.
+fn parse<'a>(alloc: Global, words: &'a [&'a str]) -> Result<ArgMatches<'a>, WordsFault>
+    ensures accepted { IfOk result (λ m. (fault_of playd_app (map (λ w. w.now) words.entry.now) ≡ [])
+        × (rows_of (found_of m) ≡ matches_of playd_app (map (λ w. w.now) words.entry.now))) }
+    ensures config { IfOk result (λ m. is_some (first_value (found_of m) (codes "config")) ≡ true) }
+    ensures usage { IsErrOf result WordsFault.Usage
+        → fault_of playd_app (map (λ w. w.now) words.entry.now) ≢ [] }
+{
+    let command = server_command(alloc)?;
+    match command.try_get_matches_from(words) {
+        Ok(matches) => Ok(matches),
+        Err(error) => {
+            if error.kind() == ErrorKind::OutOfMemory {
+                Err(WordsFault::OutOfMemory)
+            } else {
+                Err(WordsFault::Usage)
+            }
+        }
+    }
+}
+
+/// Returns the command of `playd`.
+fn server_command<'a>(alloc: Global) -> Result<Command<'a>, AllocError>
+    ensures { IfOk result IsServerCommand }
+{
+    let config = config_arg(alloc);
+    let workers = workers_arg(alloc);
+    let journal = journal_arg(alloc);
+    let bare = Command::new(alloc, PROGRAM)
+        .disable_help_flag(true)
+        .disable_version_flag(true);
+    let one = bare.arg(config)?;
+    let two = one.arg(workers)?;
+    two.arg(journal)
+}
+
+/// Returns the argument `--config FILE`.
+fn config_arg<'a>(alloc: Global) -> Arg<'a>
+    ensures rule { rule_of result ≡ config_rule }
+    ensures fits { FitsChain result }
+    ensures value { TakesValue result }
+    ensures id { result.id.now ≡ codes "config" }
+{
+    Arg::new(alloc, "config")
+        .long("config")
+        .required(true)
+        .action(ArgAction::Set)
+}
+
+/// Returns the argument `--workers N`.
+fn workers_arg<'a>(alloc: Global) -> Arg<'a>
+    ensures rule { rule_of result ≡ workers_rule }
+    ensures fits { FitsChain result }
+    ensures id { result.id.now ≡ codes "workers" }
+{
+    Arg::new(alloc, "workers")
+        .long("workers")
+        .action(ArgAction::Set)
+        .value_parser(clap::value_parser!(u32).range(1..65))
+}
+
+/// Returns the argument `--journal FILE`.
+fn journal_arg<'a>(alloc: Global) -> Arg<'a>
+    ensures rule { rule_of result ≡ journal_rule }
+    ensures fits { FitsChain result }
+    ensures id { result.id.now ≡ codes "journal" }
+{
+    Arg::new(alloc, "journal")
+        .long("journal")
+        .action(ArgAction::Set)
+}
+
+/// Returns what words that were accepted name.
+fn named(alloc: Global, matches: &ArgMatches<'_>) -> Result<ServerWords, WordsFault>
+    requires { is_some (first_value (found_of matches.now) (codes "config")) ≡ true }
+    ensures words { IfOk result (λ words. Names (rows_of (found_of matches.now)) words) }
+    ensures memory { IsErrOf result WordsFault.Usage → ⊥ }
+{
+    let config = String::from_str(alloc, config_of(matches))?;
+    let journal = journal_of(alloc, matches)?;
+    Ok(ServerWords {
+        config,
+        workers: workers_of(matches),
+        journal,
+    })
+}
+
+/// Returns the path of the configuration.
+fn config_of<'a>(matches: &ArgMatches<'a>) -> &'a str
+    requires { is_some (first_value (found_of matches.now) (codes "config")) ≡ true }
+    ensures { first_of (codes "config") (rows_of (found_of matches.now)) ≡ Some result.now }
+{
+    match matches.get_str("config") {
+        Some(text) => text,
+        None => unreachable!(),
+    }
+}
+
+/// Returns the number of workers.
+fn workers_of(matches: &ArgMatches<'_>) -> u32
+    ensures { result ≡ workers_in (rows_of (found_of matches.now)) }
+{
+    match matches.get_str("workers") {
+        Some(text) => u32::from(text.parse::<u8>().unwrap_or(0).clamp(1, 64)),
+        None => 1,
+    }
+}
+
+/// Returns a copy of the path of the history's file.
+fn journal_of(alloc: Global, matches: &ArgMatches<'_>) -> Result<Option<String>, AllocError>
+    ensures { IfOk result (λ journal. first_of (codes "journal") (rows_of (found_of matches.now)) ≡ option_map string_bytes journal) }
+{
+    match matches.get_str("journal") {
+        Some(path) => Ok(Some(String::from_str(alloc, path)?)),
+        None => Ok(None),
+    }
+}

@@ -1,15 +1,8 @@
 -- Setting up, and what a call leaves as it was.
-use Rattle.std.proofs.Common.{◌≡◌, ◌≢◌, ℕ, ◌+◌, false, List, [], refl, sym, ap, ◌∙◌, subst, arith, length, get_or, inl, inr}
-use Rattle.std.specs.Prelude.{Option, Some, None, option_map, option_and_then, Result, Ok, Err, All}
-use Rattle.std.specs.List.{list_any, position, position_or_len}
+use Rattle.std.proofs.Common.{◌≡◌, ◌≢◌, ℕ, List, refl, sym, ap, ◌∙◌, subst}
+use Rattle.std.specs.Prelude.{Some, Result, Ok, Err}
 use Rattle.std.specs.Result.{IsErrAnd}
-use Rattle.std.proofs.lemmas.Bool.{cases_Bool}
-use Rattle.std.proofs.lemmas.Bool.Decides.{nat_tests}
-use Rattle.amcp_text.proofs.FirstEnd.{position_or_len_some, position_or_len_none}
-use Rattle.std.proofs.lemmas.Grind.{common_steps}
-use Rattle.std.proofs.lemmas.List.Sums.{fails_before_first}
-use Rattle.std.proofs.lemmas.List.Elements.{All-from_get_or}
-use Rattle.play_types.specs.Config.{ChannelView, ConfigView}
+use Rattle.play_types.specs.Config.{ConfigView}
 use Rattle.play_outside.specs.FolderState.{FolderState}
 use Rattle.play_outside.specs.Folder.{IsHeld, config_at, Misses}
 use Rattle.play_outside.specs.declared.folder.FileFault.{FileFault}

@@ -34,6 +34,18 @@ fault_line (MediaTotal total) = codes "E media total " ++ decimal total ++ 10 �
 fault_line Device = codes "E device\n"
 fault_line OutOfMemory = codes "E memory\n"
 
+-- the line has a name or a number
+abbrev pub HasDetail : RunFault → Type 0
+HasDetail Usage = ⊥
+HasDetail ConfigText = ⊥
+HasDetail (ConfigKey key) = Unit {0}
+HasDetail (BadLine number) = Unit {0}
+HasDetail InputTooLong = ⊥
+HasDetail (MediaTwice name) = Unit {0}
+HasDetail (MediaTotal total) = Unit {0}
+HasDetail Device = ⊥
+HasDetail OutOfMemory = ⊥
+
 -- the fault of a run whose configuration was not read
 abbrev pub fault_of_file : FileFault → RunFault
 fault_of_file file.Failed = Device

@@ -64,3 +64,17 @@ fault_of_held files (Some bytes) = fault_of_text files (config_in bytes)
 -- the first fault of files whose configuration has this path, none where a server can be set up from them
 unfoldable pub fault_of_files : List ℕ → Files → Option RunFault
 fault_of_files path files = fault_of_held files (config_at path files)
+
+-- a result tells the first fault of the files: where a server was set up there is none, and a refusal has it. A read that failed and
+-- memory that ran out tell nothing of it
+abbrev pub TellsFirst : Result ServerSetup RunFault → Option RunFault → Type 0
+TellsFirst (Ok setup) first = first ≡ None
+TellsFirst (Err ConfigText) first = first ≡ Some ConfigText
+TellsFirst (Err (ConfigKey key)) first = first ≡ Some (ConfigKey key)
+TellsFirst (Err (MediaTwice name)) first = first ≡ Some (MediaTwice name)
+TellsFirst (Err (MediaTotal total)) first = first ≡ Some (MediaTotal total)
+TellsFirst (Err Device) first = Unit {0}
+TellsFirst (Err OutOfMemory) first = Unit {0}
+TellsFirst (Err Usage) first = ⊥
+TellsFirst (Err (BadLine number)) first = ⊥
+TellsFirst (Err InputTooLong) first = ⊥

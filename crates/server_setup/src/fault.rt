@@ -1,7 +1,8 @@
 //! The faults of a run.
-ghost use Rattle.std.specs.Prelude.{◌≡◌};
+ghost use Rattle.std.specs.Prelude.{◌≡◌, ◌∷◌, ◌++◌, [], IfOk, MatchOption, string_bytes};
 ghost use Rattle.play_outside.specs.Sink.{Sends};
-ghost use Rattle.server_setup.specs.Fault.{fault_line, fault_of_config, fault_of_file, fault_of_scan, status_of};
+ghost use Rattle.server_setup.specs.Fault.{HasDetail, fault_line, fault_of_config, fault_of_file, fault_of_scan, status_of};
+ghost use Rattle.server_setup.specs.inner.Detail.{detail_of};
 ghost use Rattle.server_setup.specs.declared.fault.RunFault.TheVariants.{OutOfMemory};
 
 use clip_store::ScanFault;
@@ -9,7 +10,7 @@ use config_file::ConfigFault;
 use itoa::Buffer;
 use play_outside::{FileFault, Sent, Sink, send_parts};
 use play_types::Text;
-use std::alloc::AllocError;
+use std::alloc::{AllocError, Global};
 use std::error::Error;
 use std::fmt;
 
@@ -59,29 +60,76 @@ impl RunFault {
         ensures { Sends result (fault_line self.now) (K.state to.old) (K.state to.new) }
     {
         let mut digits = Buffer::new();
+        let detail = self.detail(&mut digits);
+        send_both(self.label(), detail, to)
+    }
+
+    /// Returns the line without its line feed, where it has neither a name nor a number.
+    pub fn short_line(&self) -> Option<&'static str>
+        ensures { MatchOption result (HasDetail self.now) (λ line. line.now ++ 10 ∷ [] ≡ fault_line self.now) }
+    {
         match self {
-            RunFault::Usage => send_parts(&[b"E usage\n"], to),
-            RunFault::ConfigText => send_parts(&[b"E config text\n"], to),
-            RunFault::ConfigKey(key) => {
-                send_parts(&[b"E config key ", key.as_str().as_bytes(), b"\n"], to)
-            }
-            RunFault::BadLine(number) => {
-                send_parts(&[b"E line ", digits.format(*number).as_bytes(), b"\n"], to)
-            }
-            RunFault::InputTooLong => send_parts(&[b"E input too long\n"], to),
-            RunFault::MediaTwice(name) => {
-                send_parts(&[b"E media twice ", name.as_str().as_bytes(), b"\n"], to)
-            }
-            RunFault::MediaTotal(total) => {
-                send_parts(
-                    &[b"E media total ", digits.format(*total).as_bytes(), b"\n"],
-                    to,
-                )
-            }
-            RunFault::Device => send_parts(&[b"E device\n"], to),
-            RunFault::OutOfMemory => send_parts(&[b"E memory\n"], to),
+            RunFault::ConfigKey(_)
+            | RunFault::BadLine(_)
+            | RunFault::MediaTwice(_)
+            | RunFault::MediaTotal(_) => None,
+            RunFault::Usage
+            | RunFault::ConfigText
+            | RunFault::InputTooLong
+            | RunFault::Device
+            | RunFault::OutOfMemory => Some(self.label()),
         }
     }
+
+    /// Returns the line without its line feed.
+    pub fn line(&self, alloc: Global) -> Result<String, AllocError>
+        ensures { IfOk result (λ line. string_bytes line ++ 10 ∷ [] ≡ fault_line self.now) }
+    {
+        let mut digits = Buffer::new();
+        let detail = self.detail(&mut digits);
+        let mut line = String::from_str(alloc, self.label())?;
+        line.push_str(detail)?;
+        Ok(line)
+    }
+
+    /// Returns what stands in the line before the name or the number that it ends with: all of it where it has none.
+    fn label(&self) -> &'static str
+        ensures { result.now ++ detail_of self.now ++ 10 ∷ [] ≡ fault_line self.now }
+    {
+        match self {
+            RunFault::Usage => "E usage",
+            RunFault::ConfigText => "E config text",
+            RunFault::ConfigKey(_) => "E config key ",
+            RunFault::BadLine(_) => "E line ",
+            RunFault::InputTooLong => "E input too long",
+            RunFault::MediaTwice(_) => "E media twice ",
+            RunFault::MediaTotal(_) => "E media total ",
+            RunFault::Device => "E device",
+            RunFault::OutOfMemory => "E memory",
+        }
+    }
+
+    /// Returns the name or the number that the line ends with, and nothing where it has none. `digits` is room for a number.
+    fn detail<'a>(&'a self, digits: &'a mut Buffer) -> &'a str
+        ensures { result.now ≡ detail_of self.entry.now }
+    {
+        match self {
+            RunFault::ConfigKey(name) | RunFault::MediaTwice(name) => name.as_str(),
+            RunFault::BadLine(number) | RunFault::MediaTotal(number) => digits.format(*number),
+            RunFault::Usage
+            | RunFault::ConfigText
+            | RunFault::InputTooLong
+            | RunFault::Device
+            | RunFault::OutOfMemory => "",
+        }
+    }
+}
+
+/// Writes a line that has two parts.
+fn send_both<'a, K: Sink>(label: &'a str, detail: &'a str, to: &mut K) -> Sent
+    ensures { Sends result (label.now ++ detail.now ++ 10 ∷ []) (K.state to.old) (K.state to.new) }
+{
+    send_parts(&[label.as_bytes(), detail.as_bytes(), b"\n"], to)
 }
 
 impl fmt::Display for RunFault {

@@ -22,8 +22,8 @@ pub record IsPrefix (whole part : Reading) : Type 0 where
   pub parts : take MAX_INPUT_BYTES whole.bytes ≡ part.bytes ++ rest
   pub at_end : part.ended ≡ true → (whole.ended ≡ true) × (part.bytes ≡ whole.bytes)
 
--- how a run ends after a reading. At ReadFault the output is exactly that of the lines received in the bytes read before: so before
--- each read the output of all lines received so far was written, since whether that read fails is not known before it
+-- how a run ends after a reading. At ReadFault the output is exactly that of the lines received in the bytes read before. Whether a
+-- read fails is not known before it is made, so this is how a run has to behave at every read
 abbrev pub EndsAs : Run → Ending → Reading → SinkState → Type 0
 EndsAs run Finished reading state =
     (reading.ended ≡ true) × (length reading.bytes ≤ MAX_INPUT_BYTES) × IsDone run (received reading.bytes true) state

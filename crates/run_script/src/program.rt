@@ -36,8 +36,8 @@ use std::thread::Threads;
 /// Status 1 comes exactly for its cause, and each other status above 0 only for one of its causes. Where the folder tells its
 /// files, a cause in the configuration or in the clips is always met, unless a read fails or memory runs out before it.
 ///
-/// Before each read of the input the output of all lines received so far is written: where a read fails, the output is exactly
-/// that of the lines received before it, and then the line of the fault.
+/// Wherever a read of the input fails, the output is exactly that of the lines received before it, and then the line of the
+/// fault. Whether a read fails is not known before it is made, so this is how the program has to behave at every read.
 ///
 /// It waits for nobody and always returns.
 pub fn run_main<R: Threads + Sync, I: Source, M: MediaDir, O: Sink>(

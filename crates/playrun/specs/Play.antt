@@ -4,8 +4,8 @@ use Rattle.server_setup.specs.Fault.{fault_line, status_of}
 use Rattle.server_setup.specs.declared.fault.RunFault.{RunFault}
 use Rattle.server_setup.specs.declared.fault.RunFault.TheVariants as run
 use Rattle.run_script.specs.Program.{Outside, WritesFaultLine}
-use Rattle.playrun.specs.declared.play.WordsFault.{WordsFault}
-use Rattle.playrun.specs.declared.play.WordsFault.TheVariants.{Unreadable, OutOfMemory}
+use Rattle.host_system.specs.declared.words.WordsFault.{WordsFault}
+use Rattle.host_system.specs.declared.words.WordsFault.TheVariants.{Unreadable, OutOfMemory}
 
 -- words that cannot be read are no command line
 abbrev pub run_fault_of : WordsFault → RunFault

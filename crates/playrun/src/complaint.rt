@@ -1,17 +1,9 @@
 //! What is said on standard error, for a person. Where that cannot be written, nothing is said.
 
-use std::fmt::Display;
 use std::io::Eprint;
 
-/// Says why a file, a folder or a stream failed.
-pub fn complain<E: Eprint, D: Display>(errors: &E, of: &str, why: &D) {
-    let _ = errors.eprintln(format_args!("playrun: {of}: {why}"));
-}
-
-/// Says why a file of a folder failed.
-pub fn complain_of_file<E: Eprint, D: Display>(errors: &E, folder: &str, name: &str, why: &D) {
-    let _ = errors.eprintln(format_args!("playrun: {folder}/{name}: {why}"));
-}
+/// The name of the program, with which each line on standard error begins.
+pub const PROGRAM: &str = "playrun";
 
 /// Says which words the program takes, with an example of each form.
 pub fn say_usage<E: Eprint>(errors: &E) {

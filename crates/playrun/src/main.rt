@@ -2,16 +2,15 @@
 #![tactic(auto)]
 
 mod complaint;
-mod folder_media;
 mod play;
-mod read_fault;
 mod std_sink;
 mod std_source;
 #[cfg(test)]
 mod tests;
 
-use folder_media::FolderMedia;
-use play::{play, words_of};
+use complaint::PROGRAM;
+use host_system::{FolderMedia, words_of};
+use play::play;
 use std::alloc::AllocError;
 use std::env;
 use std::process::ExitCode;
@@ -23,7 +22,7 @@ fn main(rt: HostRuntime) -> Result<ExitCode, AllocError> {
     let alloc = rt.alloc();
     let words = words_of(alloc, env::args(&rt));
     let mut input = StdSource::new(rt.stdin(), rt.clone()?);
-    let mut media = FolderMedia::new(rt.clone()?);
+    let mut media = FolderMedia::new(rt.clone()?, PROGRAM);
     let mut output = StdSink::new(rt.stdout(), rt.clone()?);
     let status = play(&rt, alloc, words, &mut input, &mut media, &mut output);
     Ok(ExitCode::from(status))

@@ -5,36 +5,13 @@ ghost use Rattle.run_script.specs.Program.{PlaysScript, WritesFaultLine};
 ghost use Rattle.playrun.specs.Play.{EndsAtOnce, run_fault_of};
 
 use super::complaint::say_usage;
+use host_system::WordsFault;
 use play_outside::{MediaDir, Sink, Source};
 use run_script::run_main;
 use server_setup::RunFault;
 use std::alloc::Global;
-use std::env::Args;
-use std::io::{self, Eprint, ErrorKind};
+use std::io::Eprint;
 use std::thread::Threads;
-
-/// Why the words of a command line are not known.
-#[derive(Clone, Copy, Debug, PartialEq, Eq)]
-pub enum WordsFault {
-    /// The system does not tell them, or one of them is not UTF-8.
-    Unreadable,
-    /// Memory ran out.
-    OutOfMemory,
-}
-
-/// Returns the words after the program's own name.
-pub fn words_of(alloc: Global, args: io::Result<Args>) -> Result<Vec<String>, WordsFault> {
-    match args {
-        Ok(args) => args
-            .skip(1)
-            .collect(alloc)
-            .map_err(|_| WordsFault::OutOfMemory),
-        Err(error) if matches!(error.kind(), ErrorKind::OutOfMemory) => {
-            Err(WordsFault::OutOfMemory)
-        }
-        Err(_) => Err(WordsFault::Unreadable),
-    }
-}
 
 /// Plays a script as `run_main` does with these words. Words that cannot be read are no command line, with status 1, and
 /// where memory ran out for them the status is 5; nothing is read then. At status 1 standard error says which words there

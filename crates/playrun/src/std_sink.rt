@@ -3,8 +3,9 @@ ghost use Rattle.std.specs.Prelude.{◌≡◌, ◌<◌, None, length};
 ghost use Rattle.play_outside.specs.Sink.{Writes};
 ghost use Rattle.playrun.specs.Stream.{AddsTo};
 
-use super::complaint::complain;
+use super::complaint::PROGRAM;
 use super::std_source::INTERRUPTIONS;
+use host_system::complain;
 use play_outside::{Sink, WriteStep};
 use std::io::{Eprint, ErrorKind, Write};
 
@@ -45,7 +46,7 @@ impl<W: Write + Drop, E: Eprint + Drop> Sink for StdSink<W, E> {
                 Ok(count) => return WriteStep::Took(count),
                 Err(error) if matches!(error.kind(), ErrorKind::Interrupted) => {}
                 Err(error) => {
-                    complain(&self.errors, "standard output", &error);
+                    complain(&self.errors, PROGRAM, "standard output", &error);
                     break;
                 }
             }

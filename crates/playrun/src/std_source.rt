@@ -3,7 +3,8 @@ ghost use Rattle.std.specs.Prelude.{◌≡◌, ◌<◌, None, length};
 ghost use Rattle.play_outside.specs.Source.{Reads};
 ghost use Rattle.playrun.specs.Stream.{GivesFrom};
 
-use super::complaint::complain;
+use super::complaint::PROGRAM;
+use host_system::complain;
 use play_outside::{ReadStep, Source};
 use std::io::{Eprint, ErrorKind, Read};
 
@@ -46,7 +47,7 @@ impl<R: Read + Drop, E: Eprint + Drop> Source for StdSource<R, E> {
                 Ok(count) => return ReadStep::Got(count),
                 Err(error) if matches!(error.kind(), ErrorKind::Interrupted) => {}
                 Err(error) => {
-                    complain(&self.errors, "standard input", &error);
+                    complain(&self.errors, PROGRAM, "standard input", &error);
                     break;
                 }
             }

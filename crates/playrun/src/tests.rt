@@ -1,10 +1,8 @@
-//! What the devices do over streams that are interrupted or fail, and over files of the system.
+//! What the devices do over streams that are interrupted or fail, and what is played of files of the system.
 ghost use Rattle.std.specs.Prelude.{◌≤◌, IfOk};
 
 use super::*;
-use play_outside::{
-    FileFault, MediaDir, MemSink, MemSource, ReadStep, Sent, Sink, Source, WriteStep, send,
-};
+use play_outside::{MemSink, MemSource, ReadStep, Sent, Sink, Source, WriteStep, send};
 use run_script::run_main;
 use std::io::{Eprint, ErrorKind, Read, Write};
 use std::rt::Files;
@@ -90,38 +88,6 @@ fn writes_again_after_interruptions(rt: HostRuntime) -> Result<(), Fail> {
     for step in [WriteStep::Failed, WriteStep::Took(2)] {
         assert_eq!(rt; stuck.write(b"abc"), step);
     }
-    Ok(())
-}
-
-/// No clause says what a file of the system holds.
-#[test]
-fn reads_files(rt: HostRuntime) -> Result<(), Fail> {
-    let alloc = rt.alloc();
-    fs::create_dir_all(&rt, "playrun_test/inner")?;
-    write_file(&rt, "playrun_test/one", b"abc")?;
-    let large = vec![in alloc; 7; 1_048_577]?;
-    write_file(&rt, "playrun_test/.large", large.as_slice())?;
-    let mut media = FolderMedia::new(rt.clone()?);
-    let read = media.config(alloc, "playrun_test/one")?;
-    assert_eq!(rt; read.as_slice(), b"abc".as_slice());
-    let read = media.bytes(alloc, "playrun_test", "one")?;
-    assert_eq!(rt; read.as_slice(), b"abc".as_slice());
-    let read = media.bytes(alloc, "playrun_test", ".large")?;
-    assert_eq!(rt; read.len(), large.len());
-    // A file that is missing, and a folder, cannot be read.
-    for name in ["two", "inner"] {
-        let fault = media.bytes(alloc, "playrun_test", name).err();
-        assert_eq!(rt; fault, Some(FileFault::Failed));
-    }
-    let mut names = media.names(alloc, "playrun_test")?;
-    names.as_mut_slice().sort_unstable();
-    assert_eq!(rt; names.len(), 3);
-    assert_eq!(rt; names[0].as_str(), ".large");
-    assert_eq!(rt; names[1].as_str(), "inner");
-    assert_eq!(rt; names[2].as_str(), "one");
-    let fault = media.names(alloc, "playrun_test/none").err();
-    assert_eq!(rt; fault, Some(FileFault::Failed));
-    fs::remove_dir_all(&rt, "playrun_test")?;
     Ok(())
 }
 
@@ -211,7 +177,7 @@ fn plays_the_clips_of_a_folder(rt: HostRuntime) -> Result<(), Fail> {
             path,
         ]?;
         let mut input = MemSource::new(SCRIPT.to_vec(alloc)?, 4096, Vec::new(alloc));
-        let mut media = FolderMedia::new(rt.clone()?);
+        let mut media = FolderMedia::new(rt.clone()?, PROGRAM);
         let mut out = MemSink::new(alloc, 0, 1000, 4096, Vec::new(alloc))?;
         let found = run_main(
             &rt,

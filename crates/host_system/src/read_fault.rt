@@ -2,7 +2,8 @@
 
 ghost use Rattle.std.specs.Prelude.{◌↔◌, ◌≡◌, IsTrue};
 ghost use Rattle.play_outside.specs.declared.folder.FileFault.TheVariants.{OutOfMemory};
-ghost use Rattle.playrun.specs.Faults.{fault_of};
+ghost use Rattle.host_system.specs.inner.Faults.{fault_of};
+ghost use Rattle.host_system.specs.declared.read_fault.ReadFault.TheVariants.{System};
 
 use std::fmt;
 use std::io::{Error, ErrorKind};
@@ -38,6 +39,8 @@ impl fmt::Display for ReadFault {
 }
 
 impl From<Error> for ReadFault {
+    ghost from_gives = { λ error fault. fault ≡ System error };
+
     fn from(error: Error) -> ReadFault {
         ReadFault::System(error)
     }

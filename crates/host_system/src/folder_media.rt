@@ -1,10 +1,10 @@
 //! Configurations and media in files of the system.
 ghost use Rattle.std.specs.Prelude.{◌≡◌, None};
 ghost use Rattle.play_outside.specs.Folder.{Misses};
-ghost use Rattle.playrun.specs.Faults.{fault_of};
+ghost use Rattle.host_system.specs.inner.Faults.{fault_of};
 
-use super::complaint::{complain, complain_of_file};
-use super::read_fault::ReadFault;
+use crate::complaint::{complain, complain_of_file};
+use crate::read_fault::ReadFault;
 use play_outside::{FileFault, MediaDir};
 use std::alloc::Global;
 use std::fs;
@@ -16,15 +16,21 @@ use std::rt::Files;
 #[derive(Drop)]
 pub struct FolderMedia<R> {
     rt: R,
+    program: &'static str,
     faults: u64,
 }
 
 impl<R: Files + Eprint + AllocGlobal + Clone + Drop> FolderMedia<R> {
-    /// Returns the files of the system. No read of them has failed yet.
-    pub fn new(rt: R) -> FolderMedia<R>
+    /// Returns the files of the system. No read of them has failed yet. What is said of a failure begins with the name of
+    /// the program.
+    pub fn new(rt: R, program: &'static str) -> FolderMedia<R>
         ensures { ⟦<FolderMedia<R> as MediaDir>⟧.state result ≡ record { files = None; faults = 0 } }
     {
-        FolderMedia { rt, faults: 0 }
+        FolderMedia {
+            rt,
+            program,
+            faults: 0,
+        }
     }
 
     /// Returns the fault, and counts it unless memory ran out.
@@ -48,7 +54,7 @@ impl<R: Files + Eprint + AllocGlobal + Clone + Drop> MediaDir for FolderMedia<R>
         match read_file(&self.rt, alloc, path) {
             Ok(bytes) => Ok(bytes),
             Err(fault) => {
-                complain(&self.rt, path, &fault);
+                complain(&self.rt, self.program, path, &fault);
                 Err(self.missed(fault))
             }
         }
@@ -59,7 +65,7 @@ impl<R: Files + Eprint + AllocGlobal + Clone + Drop> MediaDir for FolderMedia<R>
         match list_names(&self.rt, alloc, folder) {
             Ok(names) => Ok(names),
             Err(fault) => {
-                complain(&self.rt, folder, &fault);
+                complain(&self.rt, self.program, folder, &fault);
                 Err(self.missed(fault))
             }
         }
@@ -70,7 +76,7 @@ impl<R: Files + Eprint + AllocGlobal + Clone + Drop> MediaDir for FolderMedia<R>
         match read_file_in(&self.rt, alloc, folder, name) {
             Ok(bytes) => Ok(bytes),
             Err(fault) => {
-                complain_of_file(&self.rt, folder, name, &fault);
+                complain_of_file(&self.rt, self.program, folder, name, &fault);
                 Err(self.missed(fault))
             }
         }

@@ -4,8 +4,8 @@ use Rattle.std.specs.declared.io.ErrorKind.{ErrorKind}
 use Rattle.std.specs.declared.io.ErrorKind.TheVariants as kind
 use Rattle.play_outside.specs.declared.folder.FileFault.{FileFault}
 use Rattle.play_outside.specs.declared.folder.FileFault.TheVariants.{Failed, OutOfMemory}
-use Rattle.playrun.specs.declared.read_fault.ReadFault.{ReadFault}
-use Rattle.playrun.specs.declared.read_fault.ReadFault.TheVariants.{NotRegular, System}
+use Rattle.host_system.specs.declared.read_fault.ReadFault.{ReadFault}
+use Rattle.host_system.specs.declared.read_fault.ReadFault.TheVariants.{NotRegular, System}
 
 -- out of memory is told apart from every other error of the system
 abbrev pub fault_of_kind : ErrorKind → FileFault

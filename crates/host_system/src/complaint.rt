@@ -1,0 +1,20 @@
+//! What is said on standard error, for a person. Where that cannot be written, nothing is said.
+
+use std::fmt::Display;
+use std::io::Eprint;
+
+/// Says on standard error, after the name of the program, why a file, a folder or a stream failed.
+pub fn complain<E: Eprint, D: Display>(errors: &E, program: &str, of: &str, why: &D) {
+    let _ = errors.eprintln(format_args!("{program}: {of}: {why}"));
+}
+
+/// Says why a file of a folder failed.
+pub(crate) fn complain_of_file<E: Eprint, D: Display>(
+    errors: &E,
+    program: &str,
+    folder: &str,
+    name: &str,
+    why: &D,
+) {
+    let _ = errors.eprintln(format_args!("{program}: {folder}/{name}: {why}"));
+}

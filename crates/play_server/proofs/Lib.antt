@@ -1,3 +1,16 @@
+mod Beginning
 mod Copying
+mod Explaining
+mod Failing
+mod Finishing
+mod Going
 pub mod OnLiterals
+pub mod Places
+mod Programs
+mod Running
+mod Said
+mod Statuses
+mod Tags
 mod Unused
+mod Working
+mod Writing

@@ -1,5 +1,5 @@
 -- Devices that are new, in the words in which they are kept.
-use Rattle.std.proofs.Common.{◌≡◌, ℕ, List, [], ◌∷◌, Bool, true, false, length, ap, refl, arith}
+use Rattle.std.proofs.Common.{◌≡◌, List, [], ◌∷◌, Bool, false, length, ap, arith}
 use Rattle.std.specs.Prelude.{Option, Some, None, IfSome, slice_index_or}
 use Rattle.play_outside.specs.ListenerState.{ListenerTold, ListenerState}
 use Rattle.play_outside.specs.declared.devices.Devices.{Devices}

@@ -2,6 +2,11 @@ pub mod ServerWords
 pub mod SiteState
 pub mod Site
 pub mod MemSite
+pub mod Links
+pub mod Doors
+pub mod Run
+pub mod Program
+pub mod Statuses
 pub mod Worked
 pub mod Unused
 pub mod inner

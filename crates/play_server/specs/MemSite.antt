@@ -1,5 +1,5 @@
 -- A site in memory.
-use Rattle.std.specs.Prelude.{◌≡◌, ℕ, ◌==◌, ◌&&◌, Bool, false, not, Option, Some, None, length, vec_len}
+use Rattle.std.specs.Prelude.{◌==◌, ◌&&◌, Bool, false, not, Option, Some, None, length, vec_len}
 use Rattle.std.specs.List.{list_any}
 use Rattle.play_types.specs.Config.{ConfigView}
 use Rattle.play_outside.specs.Faults.{one_more}

@@ -1,5 +1,5 @@
 -- What the calls of a site do.
-use Rattle.std.specs.Prelude.{◌≡◌, ℕ, ◌+◌, ◌<◌, Bool, true, false, Option, List, All, length, slice_index_or, vec_len, Result, Ok, Err}
+use Rattle.std.specs.Prelude.{◌≡◌, ℕ, ◌+◌, ◌<◌, Bool, Option, List, All, length, slice_index_or, vec_len}
 use Rattle.play_types.specs.Config.{ConfigView}
 use Rattle.play_outside.specs.ClockState.{ClockState}
 use Rattle.play_outside.specs.ListenerState.{ListenerState}

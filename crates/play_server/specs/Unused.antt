@@ -1,5 +1,5 @@
 -- Devices that are kept, in words that have one proof at most.
-use Rattle.std.specs.Prelude.{◌≡◌, ◌<◌, ◌+◌, ℕ, Option, Some, None, false, IfSome, List, All, length, slice_index_or}
+use Rattle.std.specs.Prelude.{◌≡◌, false, IfSome, All, length}
 use Rattle.std.proofs.Props.{props}
 use Rattle.play_outside.specs.ListenerState.{ListenerState}
 use Rattle.play_outside.specs.SinkState.{SinkState}

@@ -1,5 +1,5 @@
 -- Words for the worked command lines.
-use Rattle.std.specs.Prelude.{ℕ, Option, List, [], ◌∷◌, map, codes}
+use Rattle.std.specs.Prelude.{ℕ, Option, List, ◌∷◌, map, codes}
 use Prim.Native.String.{String}
 use Rattle.clap.specs.Words.{Kinds, fault_of, first_of, matches_of}
 use Rattle.play_server.specs.ServerWords.{playd_app, workers_in}

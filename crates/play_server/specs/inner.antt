@@ -1,1 +1,3 @@
 pub mod ServerCommand
+pub mod Places
+pub mod Beside

@@ -1,0 +1,432 @@
+-- A run by its one history, from what its threads did.
+use Rattle.std.proofs.Common.{◌≡◌, ◌⊎◌, ℕ, zero, suc, ◌+◌, ◌<◌, ◌≤◌, ◌==◌, ◌&&◌, ◌||◌, Bool, true, false, true≢false, List, [], ◌∷◌, ◌++◌, length, map, refl, sym, ap, subst, ◌∙◌, arith, inl, inr}
+use Rattle.std.specs.Prelude.{All, Option, None, Some, option_map, slice_index_or}
+use Rattle.std.specs.List.{list_any, range_with_len}
+use Rattle.std.proofs.Math.Bool.{or-true}
+use Rattle.std.proofs.lemmas.Bool.Decides.{nat_tests}
+use mathlib.Core.Option.{some, some-injective, some-ne-none}
+use mathlib.Core.List.{IsPrefix}
+use lib.ListN.{get_elem?}
+use Rattle.play_types.specs.Config.{ChannelView}
+use Rattle.play_types.specs.History.{IsHistory, held, stop_at, ticks}
+use Rattle.play_types.specs.Scene.{IsConfigured}
+use Rattle.play_types.specs.declared.event.Event.{Event}
+use Rattle.play_types.specs.declared.event.Event.TheVariants.{Do, Batch, Tick, Stop}
+use Rattle.play_types.specs.declared.event.Tag.{Tag}
+use Rattle.play_types.proofs.Histories.{stop_at-other}
+use Rattle.play_outside.specs.SinkState.{SinkState, after_taking}
+use Rattle.play_outside.specs.Sink.{Fails, Sends}
+use Rattle.play_outside.specs.declared.devices.Devices.{Devices}
+use Rattle.play_outside.specs.declared.sink.Sent.{Sent}
+use Rattle.clip_format.specs.Table.{media_names}
+use Rattle.history_model.specs.pictures.Media.{Setup}
+use Rattle.history_model.specs.scripts.History.{channel_size, server}
+use Rattle.band_render.specs.Rendered.{sizes}
+use Rattle.play_scene.specs.Frames.{FrameView, zero_frame}
+use Rattle.history_model.specs.text.History.{history_text}
+use Rattle.play_journal.specs.Journal.{IsJournal, JournalView}
+use Rattle.stage_lock.specs.Own.{has_final, is_final, is_own, made_by}
+use Rattle.stage_lock.specs.Views.{PassView, SharedView}
+use Rattle.stage_lock.specs.Calls.{new_pass}
+use Rattle.stage_lock.specs.Closing.{Closes, IsOf}
+use Rattle.stage_lock.proofs.Positions.{positions-are}
+use Rattle.conn_worker.specs.Work.{Setting}
+use Rattle.play_ticker.specs.Ends.{EndsPass, clock_at_end}
+use Rattle.play_ticker.specs.Frames.{AreBlank, before_last_tick, frames_text, is_tick, raw_frame, tick_positions}
+use Rattle.play_ticker.specs.Outputs.{EachOutput, IsWritten, TakesFrames}
+use Rattle.play_ticker.specs.declared.ending.TickEnd.{TickEnd}
+use Rattle.play_ticker.specs.declared.ending.TickEnd.TheVariants.{ClockClosed, Ended, TicksOver, ClockFault, OutFault}
+use Rattle.play_ticker.proofs.Frames.{GoesOn, before_last_tick-quiet, frames_text-quiet, goes_on_by_ticks, ticks-quiet}
+use Rattle.play_server.specs.Site.{DeviceWords}
+use Rattle.play_server.specs.Doors.{DoorRun, EachDoor, HasServed, is_door_fault}
+use Rattle.play_server.specs.Links.{EachFrom}
+use Rattle.play_server.specs.Run.{EndsWithStop, HasRun, IsMadeBy, IsStoppedBy, Program, Serves, TicksEndBy, ends_so, is_cut, is_found, is_tick_fault, setting_of, setup_of}
+use Rattle.play_server.specs.inner.Beside.{Hall, RanBeside, RanWith, door_words, ticker_pass, worker_passes}
+use Rattle.play_server.specs.inner.Places.{setting_at}
+use Rattle.play_server.specs.declared.desk.Desk.{Desk}
+use Rattle.play_server.specs.declared.floor.Floor.{Floor}
+use Rattle.play_server.specs.declared.served.ServeEnd.{ServeEnd}
+use Rattle.play_server.proofs.Explaining.{IsNewPass, stop_stays}
+use Rattle.play_server.proofs.Running.{DoorsServed, IsOfLinks, doors_served, is_faulty}
+
+one_more : (event : Event) (events : List Event) (at : ℕ) → ((k : ℕ) → stop_at events ≡ Some k → EndsWithStop events)
+    → option_map (λ n. 1 + n) (stop_at events) ≡ Some at → EndsWithStop (event ∷ events)
+one_more event events at rest is = go (stop_at events) refl is
+  where
+    more : EndsWithStop events → EndsWithStop (event ∷ events)
+    more ends = record { events = event ∷ ends.events; tag = ends.tag; whole = ap (λ (es : List Event). event ∷ es) ends.whole }
+
+    go : (o : Option ℕ) → stop_at events ≡ o → option_map (λ n. 1 + n) o ≡ Some at → EndsWithStop (event ∷ events)
+    go None found h = absurd cc
+    go (Some k) found h = more (rest k found)
+
+-- a history with a stop ends with it
+ends_with_stop : (history : List Event) (at : ℕ) → IsHistory history → stop_at history ≡ Some at → EndsWithStop history
+ends_with_stop [] at whole is = absurd cc
+ends_with_stop (Do tag cmd ∷ events) at whole is = one_more (Do tag cmd) events at (λ k found. ends_with_stop events k whole found) (sym (stop_at-other (Do tag cmd) events refl) ∙ is)
+ends_with_stop (Batch tag cmds ∷ events) at whole is = one_more (Batch tag cmds) events at (λ k found. ends_with_stop events k whole.1 found) (sym (stop_at-other (Batch tag cmds) events refl) ∙ is)
+ends_with_stop (Tick ∷ events) at whole is = one_more Tick events at (λ k found. ends_with_stop events k whole found) (sym (stop_at-other Tick events refl) ∙ is)
+ends_with_stop (Stop tag ∷ events) at whole is = record { events = []; tag = tag; whole = ap (λ (es : List Event). Stop tag ∷ es) whole }
+
+-- the tag of the server's own stop
+same_server : (tag : Tag) → is_final (Stop tag) ≡ true → tag ≡ server
+same_server tag is = go (tag.worker == 0) refl (tag.session == 0) refl is
+  where
+    go : (a : Bool) → (tag.worker == 0) ≡ a → (b : Bool) → (tag.session == 0) ≡ b → (a && b) ≡ true → tag ≡ server
+    go true worker true session h =
+        let w : tag.worker ≡ 0 = grind (arith, nat_tests) in
+        let s : tag.session ≡ 0 = grind (arith, nat_tests) in
+        λ i. record { worker = w i; session = s i }
+    go true worker false session h = absurd cc
+    go false worker b session h = absurd cc
+
+has_final_last : (events : List Event) → has_final (events ++ Stop server ∷ []) ≡ true
+has_final_last [] = refl
+has_final_last (event ∷ events) = ap (λ (b : Bool). is_final event || b) (has_final_last events) ∙ or-true (is_final event)
+
+-- the ticker has seen a stop
+seen_stop : (ticker : TickEnd) (old new : PassView) → EndsPass ticker old new → (at : ℕ) × (stop_at new.seen ≡ Some at)
+seen_stop ClockClosed old new end = (end.at, end.stopped)
+seen_stop (Ended at) old new end = (at, end.0)
+seen_stop TicksOver old new end = (end.0.at, end.0.stopped)
+seen_stop ClockFault old new end = (end.at, end.stopped)
+seen_stop (OutFault channel) old new end = (end.0.at, end.0.stopped)
+
+-- how the pulses ended, by a history that goes on from what the ticker has seen
+ticks_end : (channels : ℕ) (ticker : TickEnd) (old new : PassView) (history : List Event) → EndsPass ticker old new → IsPrefix new.seen history
+    → ticks history ≡ ticks new.seen → new.stage.sizes.channels ≡ channels → TicksEndBy channels history ticker
+ticks_end channels ClockClosed old new history end grows same sized = tt
+ticks_end channels (Ended at) old new history end grows same sized = stop_stays new.seen history at grows end.0
+ticks_end channels TicksOver old new history end grows same sized = same ∙ end.1
+ticks_end channels ClockFault old new history end grows same sized = tt
+ticks_end channels (OutFault channel) old new history end grows same sized =
+    (subst (λ (n : ℕ). 0 < n) (sym same) end.1, subst (λ (n : ℕ). IsConfigured n channel) sized end.2)
+
+-- what the outputs took is of each history with the same ticks
+written_later : (setup : Setup) (seen history : List Event) → GoesOn seen history → (ticker : TickEnd) (channel : ℕ) (old new : SinkState)
+    → IsWritten ticker (record { setup = setup; history = seen }) channel old new → IsWritten ticker (record { setup = setup; history = history }) channel old new
+written_later setup seen history on = go
+  where
+    frames : (channel : ℕ) → frames_text setup seen channel ≡ frames_text setup history channel
+    frames channel = sym (frames_text-quiet setup channel seen history on)
+
+    last : before_last_tick seen ≡ before_last_tick history
+    last = sym (before_last_tick-quiet seen history on)
+
+    takes : (channel : ℕ) (old new : SinkState) → TakesFrames (record { setup = setup; history = seen }) channel old new → TakesFrames (record { setup = setup; history = history }) channel old new
+    takes channel old new h = h ∙ ap (after_taking old) (frames channel)
+
+    go : (ticker : TickEnd) (channel : ℕ) (old new : SinkState)
+        → IsWritten ticker (record { setup = setup; history = seen }) channel old new → IsWritten ticker (record { setup = setup; history = history }) channel old new
+    go ClockClosed channel old new h = takes channel old new h
+    go (Ended at) channel old new h = takes channel old new h
+    go TicksOver channel old new h = takes channel old new h
+    go ClockFault channel old new h = takes channel old new h
+    go (OutFault failed) channel old new h = record {
+      below = λ less. takes channel old new (h.below less);
+      failing = λ is. subst (λ (l : List Event). Fails (raw_frame setup l channel) (after_taking old (frames_text setup l channel)) new) last (h.failing is);
+      above = λ more. subst (λ (l : List Event). TakesFrames (record { setup = setup; history = l }) channel old new) last (h.above more);
+    }
+
+each_output : {O : Type 0} (P Q : ℕ → O → O → Type 0) (channel : ℕ) (olds news : List O) → ((channel : ℕ) (old new : O) → P channel old new → Q channel old new)
+    → EachOutput P channel olds news → EachOutput Q channel olds news
+each_output P Q channel [] [] f each = tt
+each_output P Q channel [] (new ∷ news) f each = absurd each
+each_output P Q channel (old ∷ olds) [] f each = absurd each
+each_output P Q channel (old ∷ olds) (new ∷ news) f each = (f channel old new each.0, each_output P Q (suc channel) olds news f each.1)
+
+each_door : {L D : Type 0} (P Q : ℕ → DoorRun L → D → D → Type 0) (worker : ℕ) (runs : List (DoorRun L)) (olds news : List D)
+    → ((worker : ℕ) (run : DoorRun L) (old new : D) → P worker run old new → Q worker run old new)
+    → EachDoor P worker runs olds news → EachDoor Q worker runs olds news
+each_door P Q worker [] [] [] f each = tt
+each_door P Q worker (run ∷ runs) (old ∷ olds) (new ∷ news) f each = (f worker run old new each.0, each_door P Q (suc worker) runs olds news f each.1)
+each_door P Q worker runs olds news f each = absurd each
+
+-- the passes of the workers are new and are numbered
+new_workers : (stage : SharedView) (number count : ℕ) → EachFrom IsNewPass number (map (new_pass stage) (range_with_len number count))
+new_workers stage number zero = tt
+new_workers stage number (suc count) =
+    let next : number + 1 ≡ suc number = omega arith in (
+      record { number_is = refl; seen = refl; made = refl; ends = refl },
+      subst (λ (n : ℕ). EachFrom (IsNewPass) n (map (new_pass stage) (range_with_len (number + 1) count))) next (new_workers stage (number + 1) count),
+    )
+
+at_index : {X : Type 0} (xs : List X) (k : ℕ) (d : X) → k < length xs → get_elem? xs k ≡ some (slice_index_or xs k d)
+at_index [] k d less = absurd (omega (arith, less))
+at_index (x ∷ xs) zero d less = refl
+at_index (x ∷ xs) (suc k) d less = at_index xs k d (omega (arith, less))
+
+at_index_of : (xs ys : List Event) (k : ℕ) (event : Event) → IsPrefix xs ys → get_elem? xs k ≡ some event → get_elem? ys k ≡ some event
+at_index_of [] ys k event p h = absurd (some-ne-none event (sym h))
+at_index_of (x ∷ xs) [] k event p h = absurd (cc (p.1))
+at_index_of (x ∷ xs) (y ∷ ys) zero event p h = cc (p.1, h)
+at_index_of (x ∷ xs) (y ∷ ys) (suc k) event p h = at_index_of xs ys k event (p.0, cc (p.1)) h
+
+-- what is known when all threads have ended, the stage was closed and the text was written
+pub record Closed {C D O L : Type 0} (words : DeviceWords C D O L) (tells : L → SinkState) (program : Program) (floor : Floor) (run : TickEnd × Sent × Devices C D O × Devices C D O) : Type 0 where
+  pub after : List PassView
+  pub first : PassView
+  pub others : List PassView
+  pub passes : after ≡ first ∷ others
+  pub before_desks : List Desk
+  pub desks : List Desk
+  pub journal : JournalView
+  pub config : floor.config.now ≡ program.config
+  pub names : floor.names.now ≡ media_names program.media
+  pub channels : floor.stage.now.sizes.channels ≡ length program.config.channels
+  pub setup : Setup
+  pub setup_is : setup ≡ setup_of program
+  pub beside : RanBeside words (door_words words tells) setup floor (
+    run.0,
+    record { first = ticker_pass floor.stage.now; others = worker_passes floor.stage.now (length run.2.doors.items); desks = before_desks; clock = run.2.clock; doors = run.2.doors.items; outs = run.2.outs.items },
+    record { first = first; others = others; desks = desks; clock = run.3.clock; doors = run.3.doors.items; outs = run.3.outs.items },
+  )
+  pub closes : Closes after journal.events
+  pub is_journal : IsJournal journal
+  pub limit : journal.limit ≡ program.config.journal_limit
+  pub text : Sends run.1 (history_text floor.names.now journal.events) (words.out run.2.history) (words.out run.3.history)
+
+module _ {C D O L : Type 0} (words : DeviceWords C D O L) (tells : L → SinkState) (program : Program) (floor : Floor)
+    (ticker : TickEnd) (written : Sent) (given finished : Devices C D O)
+    (c : Closed words tells program floor (ticker, written, given, finished)) where
+  abbrev history : List Event
+  history = c.journal.events
+
+  abbrev first : PassView
+  first = c.first
+
+  abbrev others : List PassView
+  others = c.others
+
+  first_at : get_elem? c.after 0 ≡ some first
+  first_at = ap (λ (ps : List PassView). get_elem? ps 0) c.passes
+
+  other_at : (j : ℕ) (pass : PassView) → get_elem? others j ≡ some pass → get_elem? c.after (suc j) ≡ some pass
+  other_at j pass at = ap (λ (ps : List PassView). get_elem? ps (suc j)) c.passes ∙ at
+
+  first_is : IsOf history (length c.after) first
+  first_is = c.closes.each 0 first first_at
+
+  made_ticks : made_by 0 history ≡ tick_positions first.seen
+  made_ticks = sym (ap (λ (n : ℕ). made_by n history) c.beside.ticked.number) ∙ sym first_is.made ∙ c.beside.ticked.made
+
+  on : GoesOn first.seen history
+  on = goes_on_by_ticks first.seen history first_is.seen made_ticks
+
+  same_ticks : ticks history ≡ ticks first.seen
+  same_ticks = ticks-quiet first.seen history on
+
+  abbrev served : DoorsServed (door_words words tells) floor history 1 (given.doors.items, others, c.desks, finished.doors.items)
+  served =
+      doors_served (door_words words tells) floor history (length c.after) 1 (worker_passes floor.stage.now (length given.doors.items)) given.doors.items others c.desks finished.doors.items
+      (new_workers floor.stage.now 1 (length given.doors.items)) c.beside.worked
+      (λ j pass at. c.closes.each (suc j) pass (other_at j pass at))
+
+  a_stop : (at : ℕ) × (stop_at history ≡ Some at)
+  a_stop =
+      let seen = seen_stop ticker (new_pass floor.stage.now 0) first c.beside.ticked.end in
+      (seen.0, stop_stays first.seen history seen.0 first_is.seen seen.1)
+
+  abbrev stopped : EndsWithStop history
+  stopped = ends_with_stop history a_stop.0 c.is_journal.history a_stop.1
+
+  -- an event that is not the server's own stop stands in what one pass made
+  made_pass : (k : ℕ) (event : Event) → get_elem? history k ≡ some event → (j : ℕ) (pass : PassView) → get_elem? c.after j ≡ some pass
+      → (place : ℕ) → get_elem? pass.made place ≡ some k → is_own pass.number event ≡ true
+  made_pass k event at j pass is place made =
+      let of = c.closes.each j pass is in
+      let found = positions-are (is_own pass.number) 0 history place k (ap (λ (ks : List ℕ). get_elem? ks place) (sym of.made) ∙ made) in
+      let same : k ≡ found.0 = omega (arith, found.2) in
+      let event_is : found.1 ≡ event = some-injective found.1 event (sym found.3 ∙ ap (get_elem? history) (sym same) ∙ at) in
+      ap (is_own pass.number) (sym event_is) ∙ found.4
+
+  tick_of_first : (k : ℕ) (event : Event) → get_elem? history k ≡ some event → (place : ℕ) → get_elem? first.made place ≡ some k → is_tick event ≡ true
+  tick_of_first k event at place made =
+      let found = positions-are is_tick 0 first.seen place k (ap (λ (ks : List ℕ). get_elem? ks place) (sym c.beside.ticked.made) ∙ made) in
+      let same : k ≡ found.0 = omega (arith, found.2) in
+      let there : get_elem? history found.0 ≡ some found.1 = at_index_of first.seen history found.0 found.1 first_is.seen found.3 in
+      let event_is : found.1 ≡ event = some-injective found.1 event (sym there ∙ ap (get_elem? history) (sym same) ∙ at) in
+      ap is_tick (sym event_is) ∙ found.4
+
+  made_by_tick : (event : Event) → is_tick event ≡ true → IsMadeBy served.runs event
+  made_by_tick (Do tag cmd) is = absurd cc
+  made_by_tick (Batch tag cmds) is = absurd cc
+  made_by_tick Tick is = tt
+  made_by_tick (Stop tag) is = absurd cc
+
+  made_by_link : (event : Event) → IsOfLinks 1 served.runs event → IsMadeBy served.runs event
+  made_by_link (Do tag cmd) is = is
+  made_by_link (Batch tag cmds) is = is
+  made_by_link Tick is = absurd is
+  made_by_link (Stop tag) is = inr is
+
+  made_final : (event : Event) → is_final event ≡ true → IsMadeBy served.runs event
+  made_final (Do tag cmd) is = absurd cc
+  made_final (Batch tag cmds) is = absurd cc
+  made_final Tick is = absurd cc
+  made_final (Stop tag) is = inl (same_server tag is)
+
+  made_here : (k : ℕ) (event : Event) → get_elem? history k ≡ some event → IsMadeBy served.runs event
+  made_here k event at = go (is_final event) refl
+    where
+      by_pass : (j : ℕ) (pass : PassView) → get_elem? c.after j ≡ some pass → (place : ℕ) → get_elem? pass.made place ≡ some k → IsMadeBy served.runs event
+      by_pass zero pass is place made =
+          let pass_is : first ≡ pass = some-injective first pass (sym first_at ∙ is) in
+          made_by_tick event (tick_of_first k event at place (ap (λ (p : PassView). get_elem? p.made place) pass_is ∙ made))
+      by_pass (suc j) pass is place made =
+          let there : get_elem? others j ≡ some pass = sym (ap (λ (ps : List PassView). get_elem? ps (suc j)) c.passes) ∙ is in
+          made_by_link event (served.own j pass there k event at (made_pass k event at (suc j) pass is place made))
+
+      go : (b : Bool) → is_final event ≡ b → IsMadeBy served.runs event
+      go true is = made_final event is
+      go false is =
+          let once = c.closes.once k event at is in
+          by_pass once.k once.stands.pass once.stands.at once.stands.place once.stands.made
+
+  all_made : All (IsMadeBy served.runs) history
+  all_made k d less = made_here k (slice_index_or history k d) (at_index history k d less)
+
+  stopped_by : IsStoppedBy ticker served.runs stopped.tag
+  stopped_by is = go ticker refl
+    where
+      final : has_final history ≡ true
+      final = ap has_final stopped.whole ∙ ap (λ (t : Tag). has_final (stopped.events ++ Stop t ∷ [])) is ∙ has_final_last stopped.events
+
+      not_first : (t : TickEnd) → ticker ≡ t → is_found t ≡ true → first.ends ≡ false
+      not_first ClockClosed same found = absurd cc
+      not_first (Ended at) same found = (subst (λ (t : TickEnd). EndsPass t (new_pass floor.stage.now 0) first) same c.beside.ticked.end).1
+      not_first TicksOver same found = absurd cc
+      not_first ClockFault same found = absurd cc
+      not_first (OutFault channel) same found = absurd cc
+
+      by_pass : (t : TickEnd) → ticker ≡ t → is_found t ≡ true → (j : ℕ) (pass : PassView) → get_elem? c.after j ≡ some pass → pass.ends ≡ true → list_any is_faulty served.runs ≡ true
+      by_pass t same found zero pass is ends =
+          let pass_is : first ≡ pass = some-injective first pass (sym first_at ∙ is) in
+          absurd (true≢false (sym ends ∙ ap (λ (p : PassView). p.ends) (sym pass_is) ∙ not_first t same found))
+      by_pass t same found (suc j) pass is ends =
+          let there : get_elem? others j ≡ some pass = sym (ap (λ (ps : List PassView). get_elem? ps (suc j)) c.passes) ∙ is in
+          served.ends j pass there ends
+
+      go : (t : TickEnd) → ticker ≡ t → (is_found ticker ≡ false) ⊎ (list_any is_faulty served.runs ≡ true)
+      go t same = by_case (is_found t) refl
+        where
+          by_case : (b : Bool) → is_found t ≡ b → (is_found ticker ≡ false) ⊎ (list_any is_faulty served.runs ≡ true)
+          by_case true found =
+              let some_ends = c.closes.ends final in
+              inr (by_pass t same found some_ends.k some_ends.pass some_ends.at some_ends.ends)
+          by_case false found = inl (ap is_found same ∙ found)
+
+  setting_is : (worker : ℕ) → setting_at (door_words words tells) floor worker ≡ setting_of program tells worker
+  setting_is worker = λ i. record { config = c.config i; names = c.names i; worker = worker; tells = tells }
+
+  pub has_run : HasRun words tells program (ends_so (is_tick_fault ticker || (list_any (λ (desk : Desk). is_door_fault desk.end) c.desks || is_cut written))) (given, finished)
+  has_run = record {
+    history = history;
+    ticker = ticker;
+    runs = served.runs;
+    written = written;
+    whole = c.is_journal.history;
+    within = subst (λ (n : ℕ). held history ≤ n) c.limit c.is_journal.commands;
+    stopped = stopped;
+    stopped_by = stopped_by;
+    made = all_made;
+    doors = each_door
+        (λ worker run before after. HasServed (setting_at (door_words words tells) floor worker) history run (words.door before) (words.door after))
+        (λ worker run before after. HasServed (setting_of program tells worker) history run (words.door before) (words.door after))
+        1 served.runs given.doors.items finished.doors.items
+        (λ worker run before after h. subst (λ (s : Setting L). HasServed s history run (words.door before) (words.door after)) (setting_is worker) h)
+        served.each;
+    outs = each_output
+        (λ channel before after. IsWritten ticker (record { setup = c.setup; history = first.seen }) channel (words.out before) (words.out after))
+        (λ channel before after. IsWritten ticker (record { setup = setup_of program; history = history }) channel (words.out before) (words.out after))
+        1 given.outs.items finished.outs.items
+        (λ channel before after h. subst (λ (s : Setup). IsWritten ticker (record { setup = s; history = history }) channel (words.out before) (words.out after)) c.setup_is
+        (written_later c.setup first.seen history on ticker channel (words.out before) (words.out after) h))
+        c.beside.ticked.outs;
+    clock = c.beside.ticked.clock ∙ ap (λ (n : ℕ). clock_at_end ticker n (words.clock given.clock)) (sym same_ticks);
+    pulses = ticks_end (length program.config.channels) ticker (new_pass floor.stage.now 0) first history c.beside.ticked.end first_is.seen same_ticks
+        (ap (λ (s : SharedView). s.sizes.channels) c.beside.ticked.of ∙ c.channels);
+    text = subst (λ names. Sends written (history_text names history) (words.out given.history) (words.out finished.history)) c.names c.text;
+    ending = ap (λ (b : Bool). ends_so (is_tick_fault ticker || (b || is_cut written))) (sym served.faults);
+  }
+
+-- a run that ended so
+pub serves : {C D O L : Type 0} (words : DeviceWords C D O L) (tells : L → SinkState) (program : Program) (failed : Bool) (devices : Devices C D O × Devices C D O)
+    → HasRun words tells program (ends_so failed) devices → Serves words tells program (ends_so failed) devices
+serves words tells program true devices run = run
+serves words tells program false devices run = run
+
+-- the formats of frames that were just made are those of the channels
+pub sizes_of_zero : (channels : List ChannelView) → sizes (map zero_frame channels) ≡ map channel_size channels
+sizes_of_zero [] = refl
+sizes_of_zero (channel ∷ channels) = ap (λ l. channel_size channel ∷ l) (sizes_of_zero channels)
+
+pub blank : (frames : List FrameView) (channels : List ChannelView) → frames ≡ map zero_frame channels → AreBlank frames
+blank frames channels same = record { channels = channels; blank = same }
+
+-- what is known of the stage that was closed and of the text that was written
+pub record Ending {C D O L : Type 0} (words : DeviceWords C D O L) (program : Program) (floor : Floor) (new : Hall C D O) (end : TickEnd × Sent × ServeEnd × Devices C D O × Devices C D O) : Type 0 where
+  pub after : List PassView
+  pub passes : after ≡ new.passes
+  pub journal : JournalView
+  pub closes : Closes after journal.events
+  pub is_journal : IsJournal journal
+  pub limit : journal.limit ≡ program.config.journal_limit
+  pub text : Sends end.1 (history_text floor.names.now journal.events) (words.out end.3.history) (words.out end.4.history)
+  pub desks : List Desk
+  pub desks_are : desks ≡ new.desks
+  pub end_is : end.2 ≡ ends_so (is_tick_fault end.0 || (list_any (λ (desk : Desk). is_door_fault desk.end) desks || is_cut end.1))
+
+-- the devices of a run at a moment are these
+pub record HoldsDevices {C D O : Type 0} (moment : Hall C D O) (devices : Devices C D O) : Type 0 where
+  pub clock : moment.clock ≡ devices.clock
+  pub doors : moment.doors ≡ devices.doors.items
+  pub outs : moment.outs ≡ devices.outs.items
+
+-- what a run is played on is what its threads share
+pub record IsPlayedOn (program : Program) (floor : Floor) (setup : Setup) : Type 0 where
+  pub config : floor.config.now ≡ program.config
+  pub names : floor.names.now ≡ media_names program.media
+  pub channels : floor.stage.now.sizes.channels ≡ length program.config.channels
+  pub setup_is : setup ≡ setup_of program
+
+pub finish : {C D O L : Type 0} (words : DeviceWords C D O L) (tells : L → SinkState) (program : Program) (floor : Floor) (setup : Setup)
+    (ticker : TickEnd) (written : Sent) (end : ServeEnd) (given finished : Devices C D O) (old new : Hall C D O)
+    → IsPlayedOn program floor setup → RanWith words (door_words words tells) setup floor (ticker, old, new)
+    → HoldsDevices old given → HoldsDevices new finished
+    → Ending words program floor new (ticker, written, end, given, finished)
+    → Serves words tells program end (given, finished)
+finish {C} {D} {O} words tells program floor setup ticker written end given finished old new on ran holds held ending =
+    let moved : RanWith words (door_words words tells) setup floor (
+      ticker,
+      record { passes = old.passes; desks = old.desks; clock = given.clock; doors = given.doors.items; outs = given.outs.items },
+      record { passes = new.passes; desks = new.desks; clock = finished.clock; doors = finished.doors.items; outs = finished.outs.items },
+    ) =
+    subst (λ (h : Hall C D O). RanWith words (door_words words tells) setup floor (ticker, record { passes = old.passes; desks = old.desks; clock = given.clock; doors = given.doors.items; outs = given.outs.items }, h))
+    (λ i. record { passes = new.passes; desks = new.desks; clock = held.clock i; doors = held.doors i; outs = held.outs i })
+    (subst (λ (h : Hall C D O). RanWith words (door_words words tells) setup floor (ticker, h, new))
+    (λ i. record { passes = old.passes; desks = old.desks; clock = holds.clock i; doors = holds.doors i; outs = holds.outs i }) ran) in
+    let closed : Closed words tells program floor (ticker, written, given, finished) = record {
+      after = ending.after;
+      first = moved.first;
+      others = moved.others;
+      passes = ending.passes ∙ moved.passes;
+      before_desks = old.desks;
+      desks = new.desks;
+      journal = ending.journal;
+      config = on.config;
+      names = on.names;
+      channels = on.channels;
+      setup = setup;
+      setup_is = on.setup_is;
+      beside = moved.ran;
+      closes = ending.closes;
+      is_journal = ending.is_journal;
+      limit = ending.limit;
+      text = ending.text;
+    } in
+    let failed : Bool = is_tick_fault ticker || (list_any (λ (desk : Desk). is_door_fault desk.end) new.desks || is_cut written) in
+    let end_is : end ≡ ends_so failed =
+    ending.end_is ∙ ap (λ (ds : List Desk). ends_so (is_tick_fault ticker || (list_any (λ (desk : Desk). is_door_fault desk.end) ds || is_cut written))) ending.desks_are in
+    subst (λ (e : ServeEnd). Serves words tells program e (given, finished)) (sym end_is)
+    (serves words tells program failed (given, finished) (has_run words tells program floor ticker written given finished closed))

@@ -1,0 +1,98 @@
+-- What the doors of a run were given back, by the one history of the run.
+use Rattle.std.specs.Prelude.{◌≡◌, ◌⊎◌, ℕ, suc, ◌<◌, ◌≤◌, ◌||◌, Bool, true, false, Some, List, [], ◌∷◌, ◌++◌, length, map, option_map}
+use Rattle.play_types.specs.History.{stop_at}
+use Rattle.play_types.specs.declared.event.Event.{Event}
+use Rattle.play_types.specs.declared.event.Tag.{Tag}
+use Rattle.play_outside.specs.Faults.{Rose, one_more}
+use Rattle.play_outside.specs.ListenerState.{ListenerState, ListenerTold}
+use Rattle.conn_worker.specs.Work.{Setting, Visit}
+use Rattle.conn_worker.specs.declared.link_end.LinkEnd as link
+use Rattle.conn_worker.specs.declared.link_end.LinkEnd.TheVariants as ends
+use Rattle.conn_worker.specs.declared.work_end.TheConstants.{MAX_SESSIONS}
+use Rattle.conn_worker.specs.declared.work_end.WorkEnd.{WorkEnd}
+use Rattle.conn_worker.specs.declared.work_end.WorkEnd.TheVariants.{Closed, Ended, DoorFault, SessionsOver}
+use Rattle.play_server.specs.Links.{EachFrom, IsExplainedLink}
+
+-- whether the serving of a link was ended by a stop of another call
+abbrev pub is_stopped : link.LinkEnd → Bool
+is_stopped ends.Over = false
+is_stopped ends.Killed = false
+is_stopped ends.LinkFault = false
+is_stopped (ends.Ended at) = true
+
+-- whether the work at a door ended since the door answered Closed
+abbrev pub is_closed : WorkEnd → Bool
+is_closed Closed = true
+is_closed (Ended at) = false
+is_closed DoorFault = false
+is_closed SessionsOver = false
+
+-- whether it ended since the door failed
+abbrev pub is_door_fault : WorkEnd → Bool
+is_door_fault Closed = false
+is_door_fault (Ended at) = false
+is_door_fault DoorFault = true
+is_door_fault SessionsOver = false
+
+-- the count of faults of a door after the work at it
+abbrev pub faults_after : WorkEnd → ℕ → ℕ
+faults_after Closed faults = faults
+faults_after (Ended at) faults = faults
+faults_after DoorFault faults = one_more faults
+faults_after SessionsOver faults = faults
+
+module _ (L : Type 0) where
+  -- the work at a door: the links that were served and given back, in order, and how it ended
+  pub record DoorRun : Type 0 where
+    pub links : List (Visit L)
+    pub end : WorkEnd
+
+module _ {L : Type 0} where
+  -- of these links none was ended by a stop of another call, but for the last one
+  abbrev pub OnlyLastIsStopped : List (Visit L) → Type 0
+  OnlyLastIsStopped [] = Unit {0}
+  OnlyLastIsStopped (visit ∷ []) = Unit {0}
+  OnlyLastIsStopped (visit ∷ next ∷ visits) = (is_stopped visit.end ≡ false) × OnlyLastIsStopped (next ∷ visits)
+
+  -- what a door tells after it was given these links back, and had answered Closed or not
+  abbrev pub given_back : DoorRun L → ListenerTold L → ListenerTold L
+  given_back run told = record {
+    returned = told.returned ++ map (λ (visit : Visit L). visit.line) run.links;
+    closed = told.closed || is_closed run.end;
+  }
+
+  -- a door was asked: a link came, it answered Closed, it had none yet, or it failed
+  abbrev pub WasAsked : DoorRun L → ListenerState L → ListenerState L → Type 0
+  WasAsked run before after =
+      (0 < length run.links) ⊎ ((is_closed run.end ≡ true) ⊎ ((is_door_fault run.end ≡ true) ⊎ Rose before.idle after.idle))
+
+  -- how the work at a door ended, by the history of the run
+  abbrev pub EndsByHistory : List Event → List (Visit L) → WorkEnd → Type 0
+  EndsByHistory history links Closed = Unit {0}
+  EndsByHistory history links (Ended at) = stop_at history ≡ Some at
+  EndsByHistory history links DoorFault = Unit {0}
+  EndsByHistory history links SessionsOver = length links ≡ MAX_SESSIONS
+
+  -- the work at a door, from the door before it to the door after it. Each link that came was served as the session of its place,
+  -- from 1 on, and was given back
+  pub record HasServed (setting : Setting L) (history : List Event) (run : DoorRun L) (before after : ListenerState L) : Type 0 where
+    pub links : EachFrom (IsExplainedLink setting history) 1 run.links
+    pub last : OnlyLastIsStopped run.links
+    pub told : after.told ≡ option_map (given_back run) before.told
+    pub away : after.away ≡ before.away
+    pub faults : after.faults ≡ faults_after run.end before.faults
+    pub mark : after.mark ≡ before.mark
+    pub asked : WasAsked run before after
+    pub ending : EndsByHistory history run.links run.end
+
+  -- the tag is that of a link that one of these doors was given back. The first door is that of the worker of this number
+  abbrev pub IsTagOfLink : ℕ → List (DoorRun L) → Tag → Type 0
+  IsTagOfLink worker [] tag = ⊥
+  IsTagOfLink worker (run ∷ runs) tag =
+      ((tag.worker ≡ worker) × (0 < tag.session) × (tag.session ≤ length run.links)) ⊎ IsTagOfLink (suc worker) runs tag
+
+  -- this holds of each door before and after the work at it. The first is that of the worker of this number
+  abbrev pub EachDoor : {D : Type 0} → (ℕ → DoorRun L → D → D → Type 0) → ℕ → List (DoorRun L) → List D → List D → Type 0
+  EachDoor Holds worker [] [] [] = Unit {0}
+  EachDoor Holds worker (run ∷ runs) (old ∷ olds) (new ∷ news) = Holds worker run old new × EachDoor Holds (suc worker) runs olds news
+  EachDoor Holds worker runs olds news = ⊥

@@ -1,0 +1,55 @@
+-- Links that a door was given back, by the one history of the run.
+use Rattle.std.specs.Prelude.{◌≡◌, ℕ, suc, ◌<◌, Bool, false, List, [], ◌∷◌, filter, flat_map, length, take}
+use mathlib.Core.List.{IsPrefix}
+use Rattle.play_types.specs.declared.event.Event.{Event}
+use Rattle.play_types.specs.declared.event.Event.TheVariants.{Do, Batch, Tick, Stop}
+use Rattle.play_types.specs.declared.event.Tag.{Tag}
+use Rattle.history_model.specs.scripts.History.{same_tag}
+use Rattle.play_outside.specs.SinkState.{SinkState}
+use Rattle.play_outside.specs.Fresh.{IsNewSink}
+use Rattle.conn_worker.specs.Followed.{Service, events_of, steps_in, steps_of}
+use Rattle.conn_worker.specs.Rounds.{IsAfterFailure, after_rounds, bytes_in}
+use Rattle.conn_worker.specs.Explained.{AreInOrder, EndsBy, IsCaughtUp, Talk, covered}
+use Rattle.conn_worker.specs.Work.{Setting, Visit, service_of}
+use Rattle.conn_worker.specs.declared.link_end.LinkEnd.{LinkEnd}
+
+-- whether an event has this tag: it is of this connection
+abbrev pub has_tag : Tag → Event → Bool
+has_tag tag (Do other cmd) = same_tag other tag
+has_tag tag (Batch other cmds) = same_tag other tag
+has_tag tag Tick = false
+has_tag tag (Stop other) = same_tag other tag
+
+-- the events of a history that are of this connection, in order
+abbrev pub tagged : Tag → List Event → List Event
+tagged tag history = filter (has_tag tag) history
+
+-- a connection is explained by a history
+pub record IsExplainedBy (service : Service) (history : List Event) (end : LinkEnd) (came left : SinkState) : Type 0 where
+  -- its looks at the link with the steps that were followed after each, how the link failed, if it did, and the pass after them
+  pub talk : Talk
+  -- the steps that were followed are the first ones of the bytes that were read, in order
+  pub steps : IsPrefix (steps_in (covered talk)) (steps_of service (covered talk) (bytes_in talk.rounds))
+  -- each step found a part of the history, which goes on with the step's event, where it has one
+  pub order : AreInOrder service [] (covered talk) history
+  -- the events of the history that are of this connection are just those of the steps, in order
+  pub events : tagged service.tag history ≡ flat_map (events_of service) (covered talk)
+  -- before each look all steps of the bytes read until then were followed, and none of them was an end
+  pub looks : (k : ℕ) → k < length talk.rounds → IsCaughtUp service (take k talk.rounds)
+  -- the link was called just so: look by look, and after each look the replies to its steps were written, in order; a failure comes
+  -- after that
+  pub link : IsAfterFailure service talk.failure (after_rounds service talk.rounds came) left
+  -- what the end tells, where the pass had seen a part of the history
+  pub ending : EndsBy service talk end
+  pub seen : IsPrefix talk.pass.seen history
+
+-- this holds of each element and its number, the first of which is given
+abbrev pub EachFrom : {X : Type 0} → (ℕ → X → Type 0) → ℕ → List X → Type 0
+EachFrom Holds number [] = Unit {0}
+EachFrom Holds number (x ∷ xs) = Holds number x × EachFrom Holds (suc number) xs
+
+module _ {L : Type 0} where
+  -- a link was new when it came, and is explained as the session of this number
+  pub record IsExplainedLink (setting : Setting L) (history : List Event) (number : ℕ) (visit : Visit L) : Type 0 where
+    pub new : IsNewSink visit.came
+    pub explained : IsExplainedBy (service_of setting number) history visit.end visit.came (setting.tells visit.line)

@@ -1,0 +1,112 @@
+-- The whole program: the words, the configuration and the clips, the devices, the run, and what is said of a fault.
+use Rattle.std.specs.Prelude.{◌≡◌, ◌⊎◌, ℕ, true, false, Option, List, [], ◌∷◌, ◌++◌, Result, Ok, Err, option_map, string_bytes}
+use Rattle.play_outside.specs.FolderState.{FolderState}
+use Rattle.play_outside.specs.SinkState.{SinkState}
+use Rattle.play_outside.specs.declared.devices.Devices.{Devices}
+use Rattle.play_outside.specs.declared.folder.FileFault.TheVariants as file
+use Rattle.play_outside.specs.declared.sink.WriteStep.{WriteStep}
+use Rattle.server_setup.specs.Fault.{HasDetail, fault_line, status_of}
+use Rattle.server_setup.specs.Setup.{SetsUp}
+use Rattle.server_setup.specs.declared.fault.RunFault.{RunFault}
+use Rattle.server_setup.specs.declared.fault.RunFault.TheVariants.{Usage, ConfigText, ConfigKey, BadLine, InputTooLong, MediaTwice, MediaTotal, Device, OutOfMemory}
+use Rattle.server_setup.specs.declared.setup.ServerSetup.{ServerSetup}
+use Rattle.play_server.specs.Run.{Program, Serves}
+use Rattle.play_server.specs.ServerWords.{ReadsWords}
+use Rattle.play_server.specs.Site.{AreReady, DeviceWords, IsNotReady, Says, ready_call}
+use Rattle.play_server.specs.SiteState.{SiteState, after_call, after_finish}
+use Rattle.play_server.specs.declared.served.ServeEnd.{ServeEnd}
+use Rattle.play_server.specs.declared.served.ServeEnd.TheVariants as serve
+use Rattle.play_server.specs.declared.words.ServerWords.{ServerWords}
+use Rattle.play_server.specs.declared.words.WordsFault.{WordsFault}
+use Rattle.play_server.specs.declared.words.WordsFault.TheVariants as words
+
+-- the exit status
+abbrev pub status_in : Result (Unit {0}) RunFault → ℕ
+status_in (Ok done) = 0
+status_in (Err fault) = status_of fault
+
+-- what is played on a configuration and clips
+abbrev pub program_of : ServerSetup → Program
+program_of setup = record { config = setup.config; media = setup.media }
+
+-- the fault of a run whose words name nothing
+abbrev pub fault_of_words : WordsFault → RunFault
+fault_of_words words.Usage = Usage
+fault_of_words words.OutOfMemory = OutOfMemory
+
+module _ (C D O : Type 0) where
+  -- a site at one moment: its folder, and what it tells of its own calls
+  pub record AtSite : Type 0 where
+    pub folder : FolderState
+    pub site : SiteState C D O
+
+module _ {C D O : Type 0} where
+  -- the line of a fault was said; or not at all, where it has a name or a number and memory ran out for it
+  pub record SaysLine (fault : RunFault) (before after : SiteState C D O) : Type 0 where
+    pub line : List ℕ
+    pub line_is : line ++ 10 ∷ [] ≡ fault_line fault
+    pub said : ((step : WriteStep) × Says step line before after) ⊎ (HasDetail fault × (after ≡ before))
+
+  -- what is said at the end
+  abbrev pub SaysEnd : Result (Unit {0}) RunFault → SiteState C D O → SiteState C D O → Type 0
+  SaysEnd (Ok done) before after = after ≡ before
+  SaysEnd (Err fault) before after = SaysLine fault before after
+
+module _ {C D O L : Type 0} where
+  -- devices were taken for a run with this configuration and this file of the history, served, and finished
+  pub record ServesOn (device : DeviceWords C D O L) (tells : L → SinkState) (program : Program) (end : ServeEnd) (call : Option (List ℕ)) (before after : SiteState C D O) : Type 0 where
+    pub given : Devices C D O
+    pub finished : Devices C D O
+    pub ready : AreReady device program.config given
+    pub serves : Serves device tells program end (given, finished)
+    pub after_is : after ≡ after_finish finished (after_call (ready_call program.config call true) before)
+
+  -- what a run on a configuration and clips came to: no device failed; or a device failed in the run, or the site gave no devices; or
+  -- memory ran out, before the run or for the devices
+  abbrev pub RunsOn : DeviceWords C D O L → (L → SinkState) → Program → Option (List ℕ) → Result (Unit {0}) RunFault → SiteState C D O → SiteState C D O → Type 0
+  RunsOn device tells program path (Ok done) before after = ServesOn device tells program serve.Ended path before after
+  RunsOn device tells program path (Err Device) before after =
+      ServesOn device tells program serve.DeviceFault path before after
+      ⊎ IsNotReady file.Failed (ready_call program.config path false) before after
+  RunsOn device tells program path (Err OutOfMemory) before after =
+      ServesOn device tells program serve.OutOfMemory path before after
+      ⊎ IsNotReady file.OutOfMemory (ready_call program.config path false) before after
+  RunsOn device tells program path (Err Usage) before after = ⊥
+  RunsOn device tells program path (Err ConfigText) before after = ⊥
+  RunsOn device tells program path (Err (ConfigKey key)) before after = ⊥
+  RunsOn device tells program path (Err (BadLine number)) before after = ⊥
+  RunsOn device tells program path (Err InputTooLong) before after = ⊥
+  RunsOn device tells program path (Err (MediaTwice name)) before after = ⊥
+  RunsOn device tells program path (Err (MediaTotal total)) before after = ⊥
+
+  -- after setting up: the run, or the fault of the configuration or the clips, and no call of the site
+  abbrev pub RunsSetUp : DeviceWords C D O L → (L → SinkState) → Option (List ℕ) → Result ServerSetup RunFault → Result (Unit {0}) RunFault → SiteState C D O → SiteState C D O → Type 0
+  RunsSetUp device tells path (Ok setup) result before after = RunsOn device tells (program_of setup) path result before after
+  RunsSetUp device tells path (Err fault) result before after = (result ≡ Err fault) × (after ≡ before)
+
+  -- with words that were accepted the configuration and the clips are read, and then the server runs
+  pub record RunsAccepted (device : DeviceWords C D O L) (tells : L → SinkState) (named : ServerWords) (result : Result (Unit {0}) RunFault) (moments : AtSite C D O × AtSite C D O) : Type 0 where
+    pub setup : Result ServerSetup RunFault
+    pub sets_up : SetsUp (string_bytes named.config) setup moments.0.folder moments.1.folder
+    pub runs : RunsSetUp device tells (option_map string_bytes named.journal) setup result moments.0.site moments.1.site
+
+  -- after the words were read: they are refused, or memory ran out, and nothing else was called; or they name a run
+  abbrev pub RunsWords : DeviceWords C D O L → (L → SinkState) → Result ServerWords WordsFault → Result (Unit {0}) RunFault → AtSite C D O × AtSite C D O → Type 0
+  RunsWords device tells (Ok named) result moments = RunsAccepted device tells named result moments
+  RunsWords device tells (Err fault) result moments = (result ≡ Err (fault_of_words fault)) × (moments.1 ≡ moments.0)
+
+  -- the words are read, and then the server runs as they say. The first word of the line is the program's name
+  pub record RunsLine (device : DeviceWords C D O L) (tells : L → SinkState) (line : List (List ℕ)) (result : Result (Unit {0}) RunFault) (moments : AtSite C D O × AtSite C D O) : Type 0 where
+    pub read : Result ServerWords WordsFault
+    pub reads : ReadsWords line read
+    pub runs : RunsWords device tells read result moments
+
+  -- the whole program, from the site before it to the site after it
+  pub record RunsServer (device : DeviceWords C D O L) (tells : L → SinkState) (line : List (List ℕ)) (status : ℕ) (moments : AtSite C D O × AtSite C D O) : Type 0 where
+    -- what the run came to, and the site after it
+    pub result : Result (Unit {0}) RunFault
+    pub between : AtSite C D O
+    pub runs : RunsLine device tells line result (moments.0, between)
+    pub says : SaysEnd result between.site moments.1.site
+    pub folder : moments.1.folder ≡ between.folder
+    pub status_is : status ≡ status_in result

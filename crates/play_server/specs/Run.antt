@@ -1,0 +1,134 @@
+-- A run: one history, of which all replies, frames and the text that is written are.
+use Rattle.std.specs.Prelude.{◌≡◌, ◌⊎◌, ℕ, ◌<◌, ◌≤◌, ◌||◌, Bool, true, false, Some, List, [], ◌∷◌, ◌++◌, All, length, map}
+use Rattle.std.specs.List.{list_any}
+use Rattle.play_types.specs.Config.{ConfigView}
+use Rattle.play_types.specs.History.{IsHistory, held, stop_at, ticks}
+use Rattle.play_types.specs.declared.event.Event.{Event}
+use Rattle.play_types.specs.declared.event.Event.TheVariants.{Do, Batch, Tick, Stop}
+use Rattle.play_types.specs.declared.event.Tag.{Tag}
+use Rattle.play_types.specs.declared.event.TheConstants.{MAX_TICKS}
+use Rattle.play_types.specs.Scene.{IsConfigured}
+use Rattle.play_outside.specs.SinkState.{SinkState}
+use Rattle.play_outside.specs.Sink.{Sends}
+use Rattle.play_outside.specs.declared.devices.Devices.{Devices}
+use Rattle.play_outside.specs.declared.sink.Sent.{Sent}
+use Rattle.play_outside.specs.declared.sink.Sent.TheVariants as sent
+use Rattle.clip_format.specs.Table.{Entry, media_names}
+use Rattle.history_model.specs.pictures.Media.{Setup}
+use Rattle.play_scene.specs.Picture.{clips_of}
+use Rattle.history_model.specs.scripts.History.{channel_size, server}
+use Rattle.history_model.specs.text.History.{history_text}
+use Rattle.conn_worker.specs.Work.{Setting}
+use Rattle.play_ticker.specs.Ends.{clock_at_end}
+use Rattle.play_ticker.specs.Outputs.{EachOutput, IsWritten}
+use Rattle.play_ticker.specs.declared.ending.TickEnd.{TickEnd}
+use Rattle.play_ticker.specs.declared.ending.TickEnd.TheVariants.{ClockClosed, Ended, TicksOver, ClockFault, OutFault}
+use Rattle.play_server.specs.Site.{DeviceWords}
+use Rattle.play_server.specs.Doors.{DoorRun, EachDoor, HasServed, IsTagOfLink, is_door_fault}
+use Rattle.play_server.specs.declared.served.ServeEnd.{ServeEnd}
+use Rattle.play_server.specs.declared.served.ServeEnd.TheVariants as serve
+
+-- what a run is played on: the configuration, and the table of the clips
+pub record Program : Type 0 where
+  pub config : ConfigView
+  pub media : List Entry
+
+-- the formats of the channels, and the clips
+abbrev pub setup_of : Program → Setup
+setup_of program = record { channels = map channel_size program.config.channels; clips = clips_of program.media }
+
+-- what the links of the worker of this number are served with
+abbrev pub setting_of : {L : Type 0} → Program → (L → SinkState) → ℕ → Setting L
+setting_of program tells worker =
+    record { config = program.config; names = media_names program.media; worker = worker; tells = tells }
+
+-- an event is a tick, the server's own stop, or of a link that a door was given back
+abbrev pub IsMadeBy : {L : Type 0} → List (DoorRun L) → Event → Type 0
+IsMadeBy runs (Do tag cmd) = IsTagOfLink 1 runs tag
+IsMadeBy runs (Batch tag cmds) = IsTagOfLink 1 runs tag
+IsMadeBy runs Tick = Unit {0}
+IsMadeBy runs (Stop tag) = (tag ≡ server) ⊎ IsTagOfLink 1 runs tag
+
+-- a history that ends with a stop
+pub record EndsWithStop (history : List Event) : Type 0 where
+  pub events : List Event
+  pub tag : Tag
+  pub whole : history ≡ events ++ Stop tag ∷ []
+
+-- whether the pulses ended since the clock or an output failed
+abbrev pub is_tick_fault : TickEnd → Bool
+is_tick_fault ClockClosed = false
+is_tick_fault (Ended at) = false
+is_tick_fault TicksOver = false
+is_tick_fault ClockFault = true
+is_tick_fault (OutFault channel) = true
+
+-- whether the text of the history was not wholly written
+abbrev pub is_cut : Sent → Bool
+is_cut sent.All = false
+is_cut sent.Failed = true
+
+-- how the pulses ended, by the history of the run
+abbrev pub TicksEndBy : ℕ → List Event → TickEnd → Type 0
+TicksEndBy channels history ClockClosed = Unit {0}
+TicksEndBy channels history (Ended at) = stop_at history ≡ Some at
+TicksEndBy channels history TicksOver = ticks history ≡ MAX_TICKS
+TicksEndBy channels history ClockFault = Unit {0}
+TicksEndBy channels history (OutFault channel) = (0 < ticks history) × IsConfigured channels channel
+
+-- whether the pulses ended since a stop was found
+abbrev pub is_found : TickEnd → Bool
+is_found ClockClosed = false
+is_found (Ended at) = true
+is_found TicksOver = false
+is_found ClockFault = false
+is_found (OutFault channel) = false
+
+-- who made the stop: a connection, or the server itself, where the pulses ended for another cause or a door failed
+abbrev pub IsStoppedBy : {L : Type 0} → TickEnd → List (DoorRun L) → Tag → Type 0
+IsStoppedBy {L} ticker runs tag =
+    (tag ≡ server → (is_found ticker ≡ false) ⊎ (list_any (λ (run : DoorRun L). is_door_fault run.end) runs ≡ true))
+
+-- whether a device failed
+abbrev pub has_device_fault : {L : Type 0} → TickEnd → List (DoorRun L) → Sent → Bool
+has_device_fault {L} ticker runs written =
+    is_tick_fault ticker || (list_any (λ (run : DoorRun L). is_door_fault run.end) runs || is_cut written)
+
+-- a run ends so where a device failed, or none
+abbrev pub ends_so : Bool → ServeEnd
+ends_so true = serve.DeviceFault
+ends_so false = serve.Ended
+
+module _ {C D O L : Type 0} where
+  -- a run, from the devices that it was given to those that it gives back
+  pub record HasRun (words : DeviceWords C D O L) (tells : L → SinkState) (program : Program) (end : ServeEnd) (devices : Devices C D O × Devices C D O) : Type 0 where
+    -- the history, how the pulses ended, the work at each door, and whether the text was written
+    pub history : List Event
+    pub ticker : TickEnd
+    pub runs : List (DoorRun L)
+    pub written : Sent
+    -- no batch of the history is empty, and it has one stop, as its last event; the journal may hold its commands
+    pub whole : IsHistory history
+    pub within : held history ≤ program.config.journal_limit
+    pub stopped : EndsWithStop history
+    pub stopped_by : IsStoppedBy ticker runs stopped.tag
+    -- each event is a tick, the server's own stop, or of a link that a door was given back
+    pub made : All (IsMadeBy runs) history
+    -- each link that a door was given back is explained by the history
+    pub doors : EachDoor (λ worker run before after. HasServed (setting_of program tells worker) history run (words.door before) (words.door after))
+        1 runs devices.0.doors.items devices.1.doors.items
+    -- each output took the frames of its channel at all ticks of the history
+    pub outs : EachOutput (λ channel before after. IsWritten ticker (record { setup = setup_of program; history = history }) channel (words.out before) (words.out after))
+        1 devices.0.outs.items devices.1.outs.items
+    -- a pulse was taken for each tick, and one more where a tick was refused
+    pub clock : words.clock devices.1.clock ≡ clock_at_end ticker (ticks history) (words.clock devices.0.clock)
+    pub pulses : TicksEndBy (length program.config.channels) history ticker
+    -- the text of the history was written, or a prefix of it
+    pub text : Sends written (history_text (media_names program.media) history) (words.out devices.0.history) (words.out devices.1.history)
+    pub ending : end ≡ ends_so (has_device_fault ticker runs written)
+
+  -- what serving did: it took no device for a run, out of memory, or there was a run
+  abbrev pub Serves : DeviceWords C D O L → (L → SinkState) → Program → ServeEnd → Devices C D O × Devices C D O → Type 0
+  Serves words tells program serve.Ended devices = HasRun words tells program serve.Ended devices
+  Serves words tells program serve.DeviceFault devices = HasRun words tells program serve.DeviceFault devices
+  Serves words tells program serve.OutOfMemory devices = devices.1 ≡ devices.0

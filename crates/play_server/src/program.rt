@@ -1,0 +1,160 @@
+//! The program: the words, the folder, the devices and the exit status.
+ghost use Rattle.std.specs.Prelude.{◌≡◌, ◌≤◌, ◌∷◌, Err, codes, map, option_map, string_bytes};
+ghost use Rattle.play_server.specs.Program.{RunsLine, RunsOn, RunsServer, SaysLine, fault_of_words, program_of};
+ghost use Rattle.play_server.specs.Statuses.{HasItsCause};
+
+use crate::served::{ServeEnd, Served};
+use crate::serving::serve;
+use crate::site::Site;
+use crate::words::{ServerWords, WordsFault};
+use server_setup::laws::first_fault_decides;
+use server_setup::{RunFault, ServerSetup, set_up};
+use std::alloc::Global;
+use std::sync::Wait;
+use std::thread::Threads;
+
+/// Serves clients: reads the words, the configuration and the clips, takes the devices of a run from the site, and serves until the
+/// stage was stopped.
+///
+/// The words are those of [`ServerWords::read`](crate::ServerWords::read). They are tested first, then the configuration is read and
+/// tested, then the clips are read, then the site is asked for devices, once, and then the run begins. The first cause that is met
+/// gives the exit status, which is returned.
+///
+/// | Status | Cause | The line that the site says |
+/// |---|---|---|
+/// | 0 | a client, the clock or the limit of ticks ended the run, and no device failed | |
+/// | 1 | the words are no command line | `E usage` |
+/// | 2 | the configuration is not TOML, or a key of it is refused | `E config text`, `E config key KEY` |
+/// | 3 | two clip files have one name, or the clip files are too large | `E media twice NAME`, `E media total n` |
+/// | 4 | a read of the folder, the site, or a device of the run failed | `E device` |
+/// | 5 | memory ran out before a call was made on a device | `E memory` |
+///
+/// The devices are finished whatever the end of the run was. A line with a
+/// name or a number is not said where memory runs out for it, and a line that could not be said changes no status.
+pub fn serve_main<R: Threads + Wait + Sync, E: Site>(
+    rt: &R,
+    alloc: Global,
+    words: &[String],
+    site: &mut E,
+) -> u8
+    ensures runs { RunsServer (record { clock = E.Clock.state; door = E.Door.state; out = E.Out.state }) E.Door.Line.state
+        (codes "playd" ∷ map string_bytes words.now) result (
+          record { folder = E.Media.state (E.folder site.old); site = E.state site.old },
+          record { folder = E.Media.state (E.folder site.new); site = E.state site.new },
+        ) }
+    ensures causes { HasItsCause (record { clock = E.Clock.state; door = E.Door.state; out = E.Out.state }) E.Door.Line.state
+        (codes "playd" ∷ map string_bytes words.now) result (
+          record { folder = E.Media.state (E.folder site.old); site = E.state site.old },
+          record { folder = E.Media.state (E.folder site.new); site = E.state site.new },
+        ) }
+{
+    first_fault_decides();
+    serve_and_say(rt, alloc, words, site)
+}
+
+/// Serves as the words say, and says what went wrong. Returns the exit status.
+fn serve_and_say<R: Threads + Wait + Sync, E: Site>(
+    rt: &R,
+    alloc: Global,
+    words: &[String],
+    site: &mut E,
+) -> u8
+    ensures { RunsServer (record { clock = E.Clock.state; door = E.Door.state; out = E.Out.state }) E.Door.Line.state
+        (codes "playd" ∷ map string_bytes words.now) result (
+          record { folder = E.Media.state (E.folder site.old); site = E.state site.old },
+          record { folder = E.Media.state (E.folder site.new); site = E.state site.new },
+        ) }
+{
+    match serve_words(rt, alloc, words, site) {
+        Ok(()) => 0,
+        Err(fault) => {
+            say_fault(alloc, &fault, site);
+            fault.status()
+        }
+    }
+}
+
+/// Serves as the words say.
+fn serve_words<R: Threads + Wait + Sync, E: Site>(
+    rt: &R,
+    alloc: Global,
+    words: &[String],
+    site: &mut E,
+) -> Result<(), RunFault>
+    ensures { RunsLine (record { clock = E.Clock.state; door = E.Door.state; out = E.Out.state }) E.Door.Line.state
+        (codes "playd" ∷ map string_bytes words.now) result (
+          record { folder = E.Media.state (E.folder site.old); site = E.state site.old },
+          record { folder = E.Media.state (E.folder site.new); site = E.state site.new },
+        ) }
+{
+    let words = ServerWords::read(alloc, words)?;
+    let setup = set_up(rt, alloc, words.config.as_str(), site.media())?;
+    serve_setup(rt, alloc, &words, &setup, site)
+}
+
+/// Serves with a configuration and clips.
+fn serve_setup<R: Threads + Wait + Sync, E: Site>(
+    rt: &R,
+    alloc: Global,
+    words: &ServerWords,
+    setup: &ServerSetup,
+    site: &mut E,
+) -> Result<(), RunFault>
+    requires workers { 1 ≤ words.now.workers }
+    requires few { words.now.workers ≤ 64 }
+    ensures run { RunsOn (record { clock = E.Clock.state; door = E.Door.state; out = E.Out.state }) E.Door.Line.state
+        (program_of setup.now) (option_map string_bytes words.now.journal) result (E.state site.old) (E.state site.new) }
+    ensures folder { E.folder site.new ≡ E.folder site.old }
+{
+    let devices = site.ready(alloc, &setup.config, journal_path(words))?;
+    let served = serve(
+        rt,
+        alloc,
+        &setup.config,
+        &setup.media,
+        words.workers,
+        devices,
+    );
+    let Served { devices, end } = served;
+    site.finish(devices);
+    match end {
+        ServeEnd::Ended => Ok(()),
+        ServeEnd::DeviceFault => Err(RunFault::Device),
+        ServeEnd::OutOfMemory => Err(RunFault::OutOfMemory),
+    }
+}
+
+/// Returns the path of the history's file, where there is one.
+fn journal_path(words: &ServerWords) -> Option<&str>
+    ensures { option_map (λ path. path.now) result ≡ option_map string_bytes words.now.journal }
+{
+    words.journal.as_ref().map(|path| path.as_str())
+}
+
+/// Says the line of a fault, where it takes no memory or there is memory for it.
+fn say_fault<E: Site>(alloc: Global, fault: &RunFault, site: &mut E)
+    ensures said { SaysLine fault.now (E.state site.old) (E.state site.new) }
+    ensures folder { E.folder site.new ≡ E.folder site.old }
+{
+    match fault.short_line() {
+        Some(line) => {
+            let _ = site.say(line);
+        }
+        None => {
+            if let Ok(line) = fault.line(alloc) {
+                let _ = site.say(line.as_str());
+            }
+        }
+    }
+}
+
+impl From<WordsFault> for RunFault {
+    ghost from_gives = { λ error fault. fault ≡ fault_of_words error };
+
+    fn from(fault: WordsFault) -> RunFault {
+        match fault {
+            WordsFault::Usage => RunFault::Usage,
+            WordsFault::OutOfMemory => RunFault::OutOfMemory,
+        }
+    }
+}

@@ -1,0 +1,61 @@
+//! A site over files and a socket of the system.
+use super::*;
+use play_outside::{FileFault, MediaDir, WriteStep};
+use play_server::Site;
+use play_types::{Channel, ChannelList, Config, Text};
+use std::alloc::Global;
+use std::fs;
+use std::net::TcpListener;
+use std::test::Fail;
+
+/// Where the frames and the history go.
+const FILES: [&str; 3] = ["playd_test/a", "playd_test/b", "playd_test/history"];
+
+/// Returns a configuration of two channels that listens on an address.
+fn config_of(alloc: Global, address: &str) -> Result<Config, Fail> {
+    let mut channels = ChannelList::new(alloc);
+    for output in [FILES[0], FILES[1]] {
+        let channel = Channel::new(1, 1, 0, Text::copy(alloc, output)?);
+        channels.push(channel.ok_or("no channel")?)?;
+    }
+    let (address, media) = (Text::copy(alloc, address)?, Text::copy(alloc, "m")?);
+    Ok(Config::new(address, media, 25, 3, 9, channels).ok_or("no configuration")?)
+}
+
+/// No clause says that devices are made, that the socket is closed where they are finished, nor what a file holds.
+#[test]
+fn gives_devices_again(rt: HostRuntime) -> Result<(), Fail> {
+    let alloc = rt.alloc();
+    fs::create_dir_all(&rt, "playd_test")?;
+    for path in FILES {
+        fs::write(&rt, path, "what an earlier run wrote")?;
+    }
+    let port = TcpListener::bind(&rt, "127.0.0.1:0")?.local_addr()?.port();
+    let address = format!(in alloc; "127.0.0.1:{port}")?;
+    let config = config_of(alloc, address.as_str())?;
+    let mut site = RealSite::new(rt);
+    let devices = site.ready(alloc, &config, Some(FILES[2]))?;
+    // The address is taken.
+    assert_eq!(rt;
+        site.ready(alloc, &config, None).err(),
+        Some(FileFault::Failed)
+    );
+    site.finish(devices);
+    let devices = site.ready(alloc, &config, None)?;
+    site.finish(devices);
+    for name in ["a", "b", "history"] {
+        assert!(rt; site.media().bytes(alloc, "playd_test", name)?.is_empty());
+    }
+    fs::remove_dir_all(&rt, "playd_test")?;
+    Ok(())
+}
+
+/// No clause says that a line can be said.
+#[test]
+fn says_lines(rt: HostRuntime) -> Result<(), Fail> {
+    let mut site = RealSite::new(rt);
+    for line in ["E device", "E usage"] {
+        assert_eq!(rt; site.say(line), WriteStep::Took(line.len()));
+    }
+    Ok(())
+}

@@ -1,0 +1,9 @@
+//! The whole server over devices in memory, with ample memory.
+//!
+//! Calls of devices wait for one another by flags, so that each run has just the order that its test is about. The bytes
+//! were worked out by hand.
+mod devices;
+mod ends;
+mod plan;
+mod replay;
+mod shows;

@@ -1,0 +1,206 @@
+//! Devices in memory, made by a plan.
+ghost use Rattle.std.specs.Prelude.{◌≡◌, All, IfOk};
+ghost use Rattle.play_outside.specs.Fresh.{IsNewSink};
+ghost use Rattle.play_server.specs.Site.{AreNew, AreNumbered, IsNewClock, IsNewDoor};
+
+use super::plan::{Calls, Client, Moment, Plan};
+use play_outside::{
+    Clock, Devices, DoorAnswer, Flag, FlaggedCall, HeldClock, HeldLink, HeldSink, LinkPlan,
+    Listener, MemClock, MemConfig, MemDoor, MemFile, MemLink, MemMedia, MemSink, Sink,
+};
+use play_server::MemSite;
+use std::alloc::Global;
+use std::sync::Arc;
+use std::sync::atomic::AtomicBool;
+use std::test::Fail;
+
+/// A site whose doors give links of which a call may wait.
+pub type HeldSite = MemSite<HeldClock, MemDoor<HeldLink>, HeldSink>;
+
+/// The devices of such a site.
+pub type HeldDevices = Devices<HeldClock, MemDoor<HeldLink>, HeldSink>;
+
+/// The room of an output, in bytes: more than any run writes.
+const ROOM: usize = 20_000_000;
+
+/// The configurations, each after its path: one channel without sound, with one door and with two, and one that is refused.
+const CONFIGS: [(&str, &str); 3] = [
+    (
+        "one",
+        "listen='l'\nmedia='m'\nrate=25\nconnections=1\nchannel=[{width=1,height=1,output='o'}]",
+    ),
+    (
+        "two",
+        "listen='l'\nmedia='m'\nrate=25\nconnections=2\nchannel=[{width=1,height=1,output='o'}]",
+    ),
+    (
+        "zero",
+        "listen='l'\nmedia='m'\nrate=0\nchannel=[{width=1,height=1,output='o'}]",
+    ),
+];
+
+/// Returns a folder with the configurations and with empty clip files of these names.
+pub fn folder_of(alloc: Global, clips: &[&str]) -> Result<MemMedia, Fail> {
+    let mut configs = Vec::new(alloc);
+    for (path, text) in CONFIGS {
+        configs.push(MemConfig {
+            path: String::from_str(alloc, path)?,
+            bytes: Vec::from_slice(alloc, text.as_bytes())?,
+        })?;
+    }
+    let mut files = Vec::new(alloc);
+    for name in clips {
+        files.push(MemFile {
+            folder: String::from_str(alloc, "m")?,
+            name: String::from_str(alloc, name)?,
+            bytes: Vec::new(alloc),
+        })?;
+    }
+    Ok(MemMedia::new(configs, files, Vec::new(alloc)))
+}
+
+/// Returns copies of words.
+pub fn words_of(alloc: Global, words: &[&str]) -> Result<Vec<String>, Fail> {
+    let mut copies = Vec::new(alloc);
+    for word in words {
+        copies.push(String::from_str(alloc, word)?)?;
+    }
+    Ok(copies)
+}
+
+/// Returns a site with the planned devices and with clip files of these names. The calls of `ready` and `say` of these
+/// numbers fail.
+pub fn site_of(
+    alloc: Global,
+    plan: &Plan,
+    clips: &[&str],
+    fails: &[u64],
+) -> Result<HeldSite, Fail> {
+    let media = folder_of(alloc, clips)?;
+    let devices = devices_of(alloc, plan)?;
+    let fails = Vec::from_slice(alloc, fails)?;
+    Ok(MemSite::new(alloc, media, devices, 100, fails)?)
+}
+
+/// A flag for each moment.
+#[derive(Drop)]
+struct Flags {
+    answered: Flag,
+    written: Flag,
+    released: Flag,
+}
+
+impl Flags {
+    /// Returns flags that are not set.
+    fn new(alloc: Global) -> Result<Flags, Fail> {
+        Ok(Flags {
+            answered: Arc::new(alloc, AtomicBool::new(false))?,
+            written: Arc::new(alloc, AtomicBool::new(false))?,
+            released: Arc::new(alloc, AtomicBool::new(false))?,
+        })
+    }
+
+    /// Returns the planned call with the flag of its moment.
+    fn at(&self, planned: Option<(u64, Moment)>) -> Result<Option<FlaggedCall>, Fail> {
+        let Some((call, moment)) = planned else {
+            return Ok(None);
+        };
+        let flag = match moment {
+            Moment::Answered => &self.answered,
+            Moment::Written => &self.written,
+            Moment::Released => &self.released,
+        };
+        let flag = Arc::try_clone(flag)?;
+        Ok(Some(FlaggedCall { call, flag }))
+    }
+}
+
+/// Returns the planned devices.
+fn devices_of(alloc: Global, plan: &Plan) -> Result<HeldDevices, Fail>
+    ensures { IfOk result (AreNew (record { clock = ⟦<HeldClock as Clock>⟧.state; door = ⟦<MemDoor<HeldLink> as Listener>⟧.state; out = ⟦<HeldSink as Sink>⟧.state })) }
+{
+    let flags = Flags::new(alloc)?;
+    let clock = clock_of(alloc, &flags, plan.pulses, &plan.clock)?;
+    let doors = doors_of(alloc, &flags, plan.clients)?;
+    let out = output_of(alloc, &flags, 1, &plan.output)?;
+    let history = output_of(alloc, &flags, 0, &Calls::FREE)?;
+    let mut outs = Vec::new(alloc);
+    outs.push(out)?;
+    Ok(Devices {
+        clock,
+        doors,
+        outs,
+        history,
+    })
+}
+
+/// Returns a clock.
+fn clock_of(alloc: Global, flags: &Flags, pulses: u64, calls: &Calls) -> Result<HeldClock, Fail>
+    ensures { IfOk result (λ clock. IsNewClock (⟦<HeldClock as Clock>⟧.state clock)) }
+{
+    let clock = MemClock::new(pulses, Vec::from_slice(alloc, calls.fails)?);
+    Ok(HeldClock::new(clock, flags.at(calls.waits)?, flags.at(calls.sets)?))
+}
+
+/// Returns an output with this mark.
+fn output_of(alloc: Global, flags: &Flags, mark: u64, calls: &Calls) -> Result<HeldSink, Fail>
+    ensures new { IfOk result (λ output. IsNewSink (⟦<HeldSink as Sink>⟧.state output)) }
+    ensures mark { IfOk result (λ output. (⟦<HeldSink as Sink>⟧.state output).mark ≡ mark) }
+{
+    let fails = Vec::from_slice(alloc, calls.fails)?;
+    let sink = MemSink::new(alloc, mark, ROOM, ROOM, fails)?;
+    Ok(HeldSink::new(sink, flags.at(calls.waits)?, flags.at(calls.sets)?))
+}
+
+/// Returns a door for each client, marked by their places from 1 on.
+fn doors_of(
+    alloc: Global,
+    flags: &Flags,
+    clients: &[Client],
+) -> Result<Vec<MemDoor<HeldLink>>, Fail>
+    ensures new { IfOk result (λ doors. All (λ door. IsNewDoor (⟦<MemDoor<HeldLink> as Listener>⟧.state door)) doors.items) }
+    ensures marks { IfOk result (λ doors. AreNumbered (λ door. (⟦<MemDoor<HeldLink> as Listener>⟧.state door).mark) doors.items) }
+{
+    let mut doors = Vec::new(alloc);
+    for place in 0..clients.len() {
+        let mark = place as u64 + 1;
+        doors.push(door_of(alloc, flags, mark, &clients[place])?)?;
+    }
+    Ok(doors)
+}
+
+/// Returns a door that has no link at first, and then the one of the client.
+fn door_of(
+    alloc: Global,
+    flags: &Flags,
+    mark: u64,
+    client: &Client,
+) -> Result<MemDoor<HeldLink>, Fail>
+    ensures new { IfOk result (λ door. IsNewDoor (⟦<MemDoor<HeldLink> as Listener>⟧.state door)) }
+    ensures mark { IfOk result (λ door. (⟦<MemDoor<HeldLink> as Listener>⟧.state door).mark ≡ mark) }
+{
+    let mut answers = Vec::new(alloc);
+    answers.push(DoorAnswer::Again)?;
+    answers.push(DoorAnswer::Line(link_of(alloc, flags, client)?))?;
+    Ok(MemDoor::new(alloc, mark, answers, Vec::new(alloc))?)
+}
+
+/// Returns the link of a client.
+fn link_of(alloc: Global, flags: &Flags, client: &Client) -> Result<HeldLink, Fail>
+    ensures { IfOk result (λ link. IsNewSink (⟦<HeldLink as Sink>⟧.state link)) }
+{
+    let plan = LinkPlan {
+        input: Vec::from_slice(alloc, client.lines.as_bytes())?,
+        piece: client.piece.max(1),
+        room: 1000,
+        looks: 100,
+        fails: Vec::from_slice(alloc, client.calls.fails)?,
+        waits: Vec::from_slice(alloc, client.idle)?,
+    };
+    let link = MemLink::new(alloc, 0, plan)?;
+    Ok(HeldLink::new(
+        link,
+        flags.at(client.calls.waits)?,
+        flags.at(client.calls.sets)?,
+    ))
+}

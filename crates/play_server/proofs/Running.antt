@@ -18,7 +18,7 @@ use Rattle.play_server.specs.Links.{EachFrom}
 use Rattle.play_server.specs.inner.Places.{DoorWords, EachPlace, setting_at}
 use Rattle.play_server.specs.declared.desk.Desk.{Desk}
 use Rattle.play_server.specs.declared.floor.Floor.{Floor}
-use Rattle.play_server.proofs.Tags.{IsTagged, steps_tagged}
+use Rattle.play_server.proofs.Tags.{IsTagged, all_append, steps_tagged}
 use Rattle.play_server.proofs.Working.{Link, events_from, link_events, visits_in}
 use Rattle.play_server.proofs.Explaining.{IsNewPass, ServedBy, length_visits, served_by}
 
@@ -38,10 +38,6 @@ session_of worker session most (Stop tag) above less is = (ap (λ (t : Tag). t.w
 all_then : {X : Type 0} (P Q : X → Type 0) (xs : List X) → ((x : X) → P x → Q x) → AllByRecursion P xs → AllByRecursion Q xs
 all_then P Q [] f all = tt
 all_then P Q (x ∷ xs) f all = (f x all.0, all_then P Q xs f all.1)
-
-all_both : {X : Type 0} (P : X → Type 0) (xs ys : List X) → AllByRecursion P xs → AllByRecursion P ys → AllByRecursion P (xs ++ ys)
-all_both P [] ys one other = other
-all_both P (x ∷ xs) ys one other = (one.0, all_both P xs ys one.1 other)
 
 -- what holds of all own events of a worker holds of each event that is its own
 own_at : (P : Event → Type 0) (worker : ℕ) (history : List Event) (k : ℕ) (event : Event) → get_elem? history k ≡ some event → is_own worker event ≡ true
@@ -78,7 +74,7 @@ module _ {L : Type 0} where
       → AllByRecursion (IsOfSession setting.worker most) (events_from setting number xs)
   sessions setting number most [] above few = tt
   sessions setting number most (x ∷ xs) above few =
-      all_both (IsOfSession setting.worker most) (link_events setting number x) (events_from setting (suc number) xs)
+      all_append (IsOfSession setting.worker most) (link_events setting number x) (events_from setting (suc number) xs)
       (all_then (IsTagged (tag_of setting.worker number)) (IsOfSession setting.worker most) (link_events setting number x)
       (λ (event : Event) is. session_of setting.worker number most event above (omega (arith, few)) is)
       (steps_tagged (service_of setting number) (covered x.talk)))

@@ -18,6 +18,3 @@ pub use line_reader::{LineEvent, LineReader, MAX_LINE_BYTES, without_carriage_re
 pub use number::{is_whole_number, number_within, plain_number_within, word_within};
 pub use token::{TokenFault, tokens};
 pub use word_list::WordList;
-
-#[cfg(test)]
-mod tests;

@@ -9,8 +9,6 @@ mod gate;
 pub mod laws;
 mod renderer;
 mod rendering;
-#[cfg(test)]
-mod tests;
 
 pub use gate::{Gate, OpenGate};
 pub use renderer::Renderer;

@@ -19,6 +19,3 @@ mod table;
 pub use decoding::decode;
 pub use encoding::encode;
 pub use table::MediaTable;
-
-#[cfg(test)]
-mod tests;

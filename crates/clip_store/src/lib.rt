@@ -15,6 +15,3 @@ mod scanning;
 pub use fault::ScanFault;
 pub use reading::MAX_MEDIA_BYTES;
 pub use scanning::scan;
-
-#[cfg(test)]
-mod tests;

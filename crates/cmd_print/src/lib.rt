@@ -14,6 +14,3 @@ mod word;
 
 pub use command::print;
 pub use event::print_event;
-
-#[cfg(test)]
-mod tests;

@@ -16,6 +16,3 @@ mod section;
 pub use config::read_config;
 pub use defaults::{DEFAULT_CONNECTIONS, DEFAULT_JOURNAL_LIMIT, DEFAULT_PAIRS};
 pub use fault::ConfigFault;
-
-#[cfg(test)]
-mod tests;

@@ -11,8 +11,6 @@ mod door;
 pub mod laws;
 mod link_end;
 mod serve;
-#[cfg(test)]
-mod tests;
 mod work_end;
 
 pub use door::work;

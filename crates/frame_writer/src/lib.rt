@@ -12,6 +12,3 @@ mod raw;
 pub use digest_line::write_digest;
 pub use hex_lines::write_hex;
 pub use raw::write_raw;
-
-#[cfg(test)]
-mod tests;

@@ -8,8 +8,6 @@
 mod complaint;
 mod folder_media;
 mod read_fault;
-#[cfg(test)]
-mod tests;
 mod words;
 
 pub use complaint::complain;

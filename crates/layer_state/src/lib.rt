@@ -12,8 +12,6 @@ pub mod laws;
 mod layer;
 mod playhead;
 mod shown;
-#[cfg(test)]
-mod tests;
 
 pub use front::Front;
 pub use layer::Layer;

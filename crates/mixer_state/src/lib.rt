@@ -10,8 +10,6 @@ mod course;
 mod kept;
 pub mod laws;
 mod mixer;
-#[cfg(test)]
-mod tests;
 mod waiting;
 
 pub use mixer::Mixer;

@@ -11,8 +11,6 @@ pub mod examples;
 mod fault;
 mod journal;
 pub mod laws;
-#[cfg(test)]
-mod tests;
 
 pub use events::{EventRun, Events};
 pub use fault::PushFault;

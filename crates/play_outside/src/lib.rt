@@ -23,8 +23,6 @@ mod plain;
 mod planned_faults;
 mod sink;
 mod source;
-#[cfg(test)]
-mod tests;
 mod unread;
 
 pub use clock::{Beat, Clock};

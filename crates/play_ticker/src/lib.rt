@@ -10,8 +10,6 @@ mod ending;
 pub mod laws;
 mod outputs;
 mod pulse;
-#[cfg(test)]
-mod tests;
 mod ticks;
 
 pub use ending::TickEnd;

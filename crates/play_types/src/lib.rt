@@ -48,6 +48,3 @@ pub use take::{Spec, Take};
 pub use text::Text;
 pub use transition::{Curve, Kind, MAX_DURATION, Trans};
 pub use word::{is_same_name, is_word};
-
-#[cfg(test)]
-mod tests;

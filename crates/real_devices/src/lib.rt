@@ -13,8 +13,6 @@ mod rate_clock;
 mod schedule;
 mod tcp_door;
 mod tcp_link;
-#[cfg(test)]
-mod tests;
 
 pub use devices::{RealDevices, ready};
 pub use file_sink::FileSink;

@@ -9,8 +9,6 @@ pub mod examples;
 pub mod laws;
 mod layers;
 mod routes;
-#[cfg(test)]
-mod tests;
 mod tick;
 
 pub use routes::Routes;

@@ -18,7 +18,5 @@ mod program;
 mod reply;
 mod run;
 mod script;
-#[cfg(test)]
-mod tests;
 
 pub use program::run_main;

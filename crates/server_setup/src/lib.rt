@@ -8,8 +8,6 @@
 mod fault;
 pub mod laws;
 mod setup;
-#[cfg(test)]
-mod tests;
 
 pub use fault::RunFault;
 pub use setup::{ServerSetup, set_up};

@@ -11,8 +11,6 @@ mod pass;
 mod rule;
 mod shared;
 mod slot;
-#[cfg(test)]
-mod tests;
 mod view;
 
 pub use note::Note;

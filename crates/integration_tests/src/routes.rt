@@ -1,0 +1,20 @@
+//! Calls that take memory, with ample memory.
+
+use play_types::{Place, Spec, Still};
+use route_graph::Routes;
+use std::test::Fail;
+
+#[test]
+fn tables_take_memory(rt: HostRuntime) -> Result<(), Fail> {
+    let place = Place::new(2, 9_999).ok_or("a place")?;
+    let mut routes = Routes::new(rt.alloc(), 2)?;
+    routes.begin_tick();
+    routes.show(place, Spec::Clip(3), 4);
+    assert_eq!(rt; routes.still(Spec::RouteLayer(place), 0), Still::Nothing);
+    routes.begin_tick();
+    assert_eq!(rt;
+        routes.still(Spec::RouteLayer(place), 0),
+        Still::Frame(3, 4)
+    );
+    Ok(())
+}

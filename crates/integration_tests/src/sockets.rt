@@ -1,0 +1,131 @@
+//! What the devices do over the system: a connection over loopback, the time of pulses, and files.
+ghost use Rattle.std.specs.Prelude.{◌≡◌, ◌<◌, IfSome};
+
+use play_outside::{Arrival, Beat, Clock, FileFault, Link, LinkStep, Listener, Sent, send};
+use play_types::{Channel, ChannelList, Config, Text};
+use real_devices::{RateClock, RealDevices, TcpDoor, ready};
+use std::alloc::Global;
+use std::io::Write;
+use std::net::{TcpListener, TcpStream};
+use std::test::Fail;
+use std::time::{Duration, Instant};
+use std::{fs, io};
+
+/// How often a door is asked for a connection that has been made.
+const LOOKS: u32 = 200;
+
+/// Returns a connection that comes to a door.
+fn arrived<D: Listener>(door: &mut D) -> Option<D::Line>
+    requires { (D.state door.old).away ≡ 0 }
+    ensures { IfSome result (λ line. 0 < (D.state door.new).away) }
+{
+    for _ in 0..LOOKS {
+        match door.next() {
+            Arrival::Came(line) => return Some(line),
+            Arrival::Again | Arrival::Closed | Arrival::Failed => {}
+        }
+    }
+    None
+}
+
+/// Takes a connection that comes to a door, reads nine bytes of it, answers, and gives it back.
+fn serve<D: Listener>(door: &mut D) -> Option<(LinkStep, Sent)>
+    requires { (D.state door.old).away ≡ 0 }
+{
+    let mut line = arrived(door)?;
+    let mut buf = [0; 9];
+    let step = line.read(&mut buf);
+    let sent = send(b"201 VERSION OK\r\n", &mut line);
+    door.give_back(line);
+    Some((step, sent))
+}
+
+/// No clause says which bytes a client receives. What it sends besides does not cost it the reply.
+#[test]
+fn answers_a_client(rt: HostRuntime) -> Result<(), Fail> {
+    let listener = TcpListener::bind(&rt, "127.0.0.1:0")?;
+    let port = listener.local_addr()?.port();
+    let mut door = TcpDoor::new(listener, rt, 1)?;
+    let mut client = TcpStream::connect(&rt, ("127.0.0.1", port))?;
+    client.write_all(b"VERSION\r\nINFO\r\n")?;
+    let served = serve(&mut door);
+    assert_eq!(rt; served, Some((LinkStep::Got(9), Sent::All)));
+    let reply = io::read_to_string(rt.alloc(), client)?;
+    assert_eq!(rt; reply.as_str(), "201 VERSION OK\r\n");
+    Ok(())
+}
+
+/// No clause speaks of time.
+#[test]
+fn gives_pulses_in_time(rt: HostRuntime) -> Result<(), Fail> {
+    let start = Instant::now(&rt)?;
+    let mut clock = RateClock::new(rt, 240);
+    for _ in 0..24 {
+        assert_eq!(rt; clock.next(), Beat::Pulse);
+    }
+    assert!(rt; start.elapsed(&rt)? >= Duration::from_millis(90));
+    Ok(())
+}
+
+/// Returns a configuration with an address, and an output for each of two channels.
+fn config_of(alloc: Global, address: &str, outputs: [&str; 2]) -> Result<Config, Fail> {
+    let mut channels = ChannelList::new(alloc);
+    for output in outputs {
+        let channel = Channel::new(1, 1, 0, Text::copy(alloc, output)?);
+        channels.push(channel.ok_or("no channel")?)?;
+    }
+    let (address, media) = (Text::copy(alloc, address)?, Text::copy(alloc, "m")?);
+    Ok(Config::new(address, media, 25, 3, 9, channels).ok_or("no configuration")?)
+}
+
+/// Where the outputs go.
+const OUTPUTS: [&str; 2] = ["real_devices_test/a", "real_devices_test/b"];
+
+/// Writes to each output and to the history, and returns whether all was taken.
+fn write_to_all(devices: RealDevices<HostRuntime>) -> bool {
+    let mut devices = devices;
+    let mut all = matches!(send(b"history", &mut devices.history), Sent::All);
+    for out in devices.outs.iter_mut() {
+        all = all && matches!(send(b"frame", out), Sent::All);
+    }
+    all
+}
+
+/// No clause says what a file holds, and none that devices are made.
+#[test]
+fn makes_devices(rt: HostRuntime) -> Result<(), Fail> {
+    let alloc = rt.alloc();
+    fs::create_dir_all(&rt, "real_devices_test")?;
+    for path in OUTPUTS {
+        fs::write(&rt, path, "what an earlier run wrote")?;
+    }
+    let config = config_of(alloc, "127.0.0.1:0", OUTPUTS)?;
+    let devices = ready(rt, alloc, &config, None)?;
+    assert!(rt; write_to_all(devices));
+    for path in OUTPUTS {
+        assert_eq!(rt; fs::read_to_string(&rt, path)?.as_str(), "frame");
+    }
+    fs::remove_dir_all(&rt, "real_devices_test")?;
+    Ok(())
+}
+
+/// Addresses, outputs and a path of the history of which no devices are made. There is no folder `none`.
+const NOT_READY: [(&str, [&str; 2], &str); 5] = [
+    ("127.0.0.1:0", ["none/a", "none/a"], "none/h"),
+    ("127.0.0.1:0", ["none/a", "none/b"], "none/b"),
+    ("127.0.0.1:0", [".", "none/b"], "none/h"),
+    ("127.0.0.1:0", ["none/a", "none/b"], "none/h"),
+    ("127.0.0.1", ["none/a", "none/b"], "none/h"),
+];
+
+/// No clause says when no devices are made.
+#[test]
+fn makes_no_devices(rt: HostRuntime) -> Result<(), Fail> {
+    let alloc = rt.alloc();
+    for (address, outputs, history) in NOT_READY {
+        let config = config_of(alloc, address, outputs)?;
+        let fault = ready(rt, alloc, &config, Some(history)).err();
+        assert_eq!(rt; fault, Some(FileFault::Failed));
+    }
+    Ok(())
+}

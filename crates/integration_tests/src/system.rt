@@ -1,0 +1,42 @@
+//! Files of the system, of which no clause says what they hold, and words with ample memory.
+use host_system::{FolderMedia, words_of};
+use play_outside::{FileFault, MediaDir};
+use std::test::Fail;
+use std::{env, fs};
+
+#[test]
+fn reads_files(rt: HostRuntime) -> Result<(), Fail> {
+    let alloc = rt.alloc();
+    fs::create_dir_all(&rt, "host_system_test/inner")?;
+    fs::write(&rt, "host_system_test/one", "abc")?;
+    let large = vec![in alloc; 7; 1_048_577]?;
+    fs::write(&rt, "host_system_test/.large", large.as_slice())?;
+    let mut media = FolderMedia::new(rt.clone()?, "host_system");
+    let read = media.config(alloc, "host_system_test/one")?;
+    assert_eq!(rt; read.as_slice(), b"abc".as_slice());
+    let read = media.bytes(alloc, "host_system_test", "one")?;
+    assert_eq!(rt; read.as_slice(), b"abc".as_slice());
+    let read = media.bytes(alloc, "host_system_test", ".large")?;
+    assert_eq!(rt; read.len(), large.len());
+    // A file that is missing, and a folder, cannot be read.
+    for name in ["two", "inner"] {
+        let fault = media.bytes(alloc, "host_system_test", name).err();
+        assert_eq!(rt; fault, Some(FileFault::Failed));
+    }
+    let mut names = media.names(alloc, "host_system_test")?;
+    names.as_mut_slice().sort_unstable();
+    assert_eq!(rt; names.len(), 3);
+    assert_eq!(rt; names[0].as_str(), ".large");
+    assert_eq!(rt; names[1].as_str(), "inner");
+    assert_eq!(rt; names[2].as_str(), "one");
+    let fault = media.names(alloc, "host_system_test/none").err();
+    assert_eq!(rt; fault, Some(FileFault::Failed));
+    fs::remove_dir_all(&rt, "host_system_test")?;
+    Ok(())
+}
+
+#[test]
+fn takes_words(rt: HostRuntime) -> Result<(), Fail> {
+    assert!(rt; words_of(rt.alloc(), env::args(&rt)).is_ok());
+    Ok(())
+}

@@ -1,0 +1,153 @@
+//! Two channels over two pulses, with ample memory. The bytes were worked out by hand.
+ghost use Rattle.std.specs.Prelude.{◌≡◌, [], IfOk, IfSome, length, vec_len};
+ghost use Rattle.stage_core.specs.Served.{IsServed};
+ghost use Rattle.play_ticker.specs.Frames.{AreBlank};
+
+use band_render::Renderer;
+use clip_format::MediaTable;
+use play_outside::{MemClock, MemSink};
+use play_ticker::{TickEnd, tick_all};
+use play_types::{Channel, ChannelList, Cmd, Config, Place, Scenes, Spec, Take, Text, Trans};
+use stage_core::Stage;
+use stage_lock::{Pass, SharedStage};
+use std::alloc::Global;
+use std::sync::Wait;
+use std::test::Fail;
+
+/// Red that is not transparent.
+const RED: Spec = Spec::Colour(0xFFFF_0000);
+
+/// Returns a channel of one pixel and one stereo pair.
+fn channel(alloc: Global) -> Result<Channel, Fail> {
+    let output = Text::copy(alloc, "o")?;
+    Ok(Channel::new(1, 1, 1, output).ok_or("a channel")?)
+}
+
+/// Returns a configuration of two such channels.
+fn two_channels(alloc: Global) -> Result<Config, Fail>
+    ensures { IfOk result (λ config. length config.channels ≡ 2) }
+{
+    let mut channels = ChannelList::new(alloc);
+    channels.push(channel(alloc)?)?;
+    channels.push(channel(alloc)?)?;
+    let listen = Text::copy(alloc, "l")?;
+    let media = Text::copy(alloc, "m")?;
+    Ok(Config::new(listen, media, 25, 1, 10, channels).ok_or("a configuration")?)
+}
+
+/// Returns a LOAD of red at channel 2.
+fn red() -> Option<Cmd>
+    ensures { IfSome result (λ cmd. IsServed 2 cmd) }
+{
+    let take = Take::new(RED, false, 0, 0, Trans::cut(), false)?;
+    Some(Cmd::load(Place::new(2, 0)?, take))
+}
+
+/// Returns a LOAD of a route to channel 2 at channel 1.
+fn route() -> Option<Cmd>
+    ensures { IfSome result (λ cmd. IsServed 2 cmd) }
+{
+    let take = Take::new(Spec::RouteChannel(2), false, 0, 0, Trans::cut(), false)?;
+    Some(Cmd::load(Place::new(1, 0)?, take))
+}
+
+/// Returns a renderer of the two channels of a configuration.
+fn two_frames(alloc: Global, config: &Config) -> Result<Renderer, Fail>
+    requires { length config.now.channels ≡ 2 }
+    ensures blank { IfOk result (λ renderer. AreBlank renderer) }
+    ensures many { IfOk result (λ renderer. length renderer ≡ 2) }
+{
+    Ok(Renderer::new(alloc, config, 1)?)
+}
+
+/// Returns two outputs, each with room for 16 bytes.
+fn two_outputs(alloc: Global) -> Result<Vec<MemSink>, Fail>
+    ensures { IfOk result (λ outs. vec_len outs ≡ 2) }
+{
+    let mut outs = Vec::new(alloc);
+    outs.push(MemSink::new(alloc, 0, 16, 5, Vec::new(alloc))?)?;
+    outs.push(MemSink::new(alloc, 0, 16, 5, Vec::new(alloc))?)?;
+    Ok(outs)
+}
+
+/// Asks for red at channel 2, and for what channel 2 shows at channel 1.
+fn ask_both<R: Wait>(
+    rt: &R,
+    alloc: Global,
+    stage: &SharedStage,
+    pass: &mut Pass,
+) -> Result<(), Fail>
+    requires of { pass.old.stage ≡ stage.now }
+    requires channels { stage.now.sizes.channels ≡ 2 }
+{
+    let red = red().ok_or("red")?;
+    let route = route().ok_or("a route")?;
+    stage.ask(rt, alloc, pass, 1, red)?;
+    stage.ask(rt, alloc, pass, 1, route)?;
+    Ok(())
+}
+
+/// Takes two pulses, and returns how they ended and what the outputs then are.
+fn take_two<R: Wait>(
+    rt: &R,
+    alloc: Global,
+    config: &Config,
+    stage: &SharedStage,
+    pass: &mut Pass,
+) -> Result<(TickEnd, Vec<MemSink>), Fail>
+    requires of { pass.old.stage ≡ stage.now }
+    requires first { pass.old.number ≡ 0 }
+    requires made { pass.old.made ≡ [] }
+    requires config { length config.now.channels ≡ 2 }
+    requires channels { stage.now.sizes.channels ≡ 2 }
+{
+    let media = MediaTable::empty(alloc)?;
+    let mut renderer = two_frames(alloc, config)?;
+    let mut scenes = Scenes::new(alloc, config)?;
+    let mut outs = two_outputs(alloc)?;
+    let mut clock = MemClock::new(2, Vec::new(alloc));
+    let end = tick_all(
+        rt,
+        stage,
+        pass,
+        &mut renderer,
+        &mut scenes,
+        &media,
+        &mut clock,
+        &mut outs,
+    );
+    Ok((end, outs))
+}
+
+/// Returns whether the output at a place took these bytes.
+fn took(outs: &[MemSink], at: usize, bytes: &[u8]) -> bool {
+    match outs.get(at) {
+        Some(out) => out.taken() == bytes,
+        None => false,
+    }
+}
+
+/// Channel 1 shows what channel 2 showed at the tick before, and channel 2 is red.
+#[test]
+fn pulses_become_frames(rt: HostRuntime) -> Result<(), Fail> {
+    let alloc = rt.alloc();
+    let config = two_channels(alloc)?;
+    let stage = Stage::new(alloc, &config)?;
+    let Ok((shared, mut passes)) = SharedStage::share(alloc, stage, 2) else {
+        return Err("memory for a shared stage")?;
+    };
+    let Some(mut second) = passes.pop() else {
+        return Err("two passes")?;
+    };
+    let Some(mut first) = passes.pop() else {
+        return Err("two passes")?;
+    };
+    ask_both(&rt, alloc, &shared, &mut second)?;
+    let (end, outs) = take_two(&rt, alloc, &config, &shared, &mut first)?;
+    assert_eq!(rt; end, TickEnd::ClockClosed);
+    let first_frames = [0, 0, 0, 0, 0, 0, 0, 0, 0, 0, 255, 255, 0, 0, 0, 0];
+    let second_frames = [0, 0, 255, 255, 0, 0, 0, 0, 0, 0, 255, 255, 0, 0, 0, 0];
+    assert!(rt; took(&outs, 0, &first_frames));
+    assert!(rt; took(&outs, 1, &second_frames));
+    Ok(())
+}

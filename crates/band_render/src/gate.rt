@@ -1,6 +1,6 @@
 //! The gate that bands of rows pass.
 
-/// What a band of rows enters before its first row is made, on whichever thread makes it.
+/// What a renderer that makes bands of rows on several threads enters before the first row of a band. This one has no bands.
 pub trait Gate: Sync {
     /// Lets the band of this number in. It always returns.
     fn enter(&self, band: u32);

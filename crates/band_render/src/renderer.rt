@@ -38,8 +38,8 @@ impl Model for Renderer {
 }
 
 impl Renderer {
-    /// Creates the renderer of a configuration before the first tick, and takes all memory. `workers`, the threads that make
-    /// the frames, is 1 to 64 and changes no frame.
+    /// Creates the renderer of a configuration before the first tick, and takes all memory. `workers` is 1 to 64 and changes
+    /// nothing: the frames are made on the caller's thread.
     pub fn new(alloc: Global, config: &Config, workers: u32) -> Result<Renderer, AllocError>
         requires some_workers { 1 ≤ workers }
         requires few_workers { workers ≤ 64 }
@@ -53,7 +53,8 @@ impl Renderer {
     }
 
     /// Makes the frame and the sound of each channel from its scene, the clips, and the frames of the tick before, also where
-    /// a scene shows the frame of another channel. There are as many scenes as channels. It takes no memory.
+    /// a scene shows the frame of another channel. There are as many scenes as channels. It takes no memory, and does not enter
+    /// the gate.
     pub fn render<G: Gate>(&mut self, scenes: &Scenes, media: &MediaTable, gate: &G)
         requires { length scenes.now ≡ length self.old }
         ensures rendered { AreRendered self.old media.now scenes.now self.new }

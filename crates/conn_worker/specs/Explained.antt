@@ -122,7 +122,7 @@ pub record IsExplained (service : Service) (end : LinkEnd) (before after : Stand
   -- the link was called just so: look by look, and after each look the replies to the steps were written, in order; a failure
   -- comes after that
   pub link : IsAfterFailure service failure (after_rounds service rounds before.link) after.link
-  -- the pass won the turn once for each ask and each kill, once for each look that found nothing yet, and at most once more
+  -- the pass won the turn at most once for each ask and each kill, once for each look that found nothing yet, and once more
   pub turns : after.pass.turns ≤ before.pass.turns + number_asked (followed_in rounds ++ unsent failure) + number_idle rounds + 1
   -- what the end tells
   pub ending : EndsBy service (record { rounds = rounds; failure = failure; pass = after.pass }) end

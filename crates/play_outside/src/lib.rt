@@ -1,4 +1,5 @@
-//! The outside of the server as traits: what it reads, what it writes, and the folder of configuration and media.
+//! The outside of the server as traits: what it reads, what it writes, the folder of configuration and media, and a clock,
+//! links and doors.
 //!
 //! Each object counts its faults. The count never falls, a call returns `Failed` only where the count rose in that
 //! call, and any other call leaves the count as it was. An object may tell what it has left, took or holds, so that a

@@ -30,9 +30,9 @@ use std::thread::{Threads, join_mut};
 /// the text of the history.
 ///
 /// There are as many doors as the configuration has connections, and as many outputs as it has channels. `workers`, 1 to 64,
-/// is the number of threads that make frames, and changes no frame. The memory of the run is taken first: `OutOfMemory`
-/// comes before any call on a device, and the devices are as they were given. A command's memory is taken when the command
-/// is asked for, and where it runs out the client is told.
+/// changes nothing: the ticker makes the frames. The memory of the run is taken first: `OutOfMemory` comes before any call on
+/// a device, and the devices are as they were given. A command's memory is taken when the command is asked for, and where it
+/// runs out the client is told.
 ///
 /// The run has one history. Each link that a door was given back is explained by it, each output has the frames of its ticks,
 /// and its text is written to the output for the history. `DeviceFault` comes only where a device failed.

@@ -7,4 +7,5 @@ pub mod Roles
 pub mod Reading
 pub mod ReadingText
 pub mod TextLaws
+pub mod Escapes
 pub mod Digits

@@ -1,7 +1,8 @@
 //! Laws of the definitions in `specs/`. Each is the contract of a function that does nothing.
-ghost use Rattle.std.specs.Prelude.{◌≡◌, ℕ, ◌<◌, ◌≤◌, List, [], ◌∷◌, ◌++◌, Some, None, false, length};
+ghost use Rattle.std.specs.Prelude.{◌≡◌, ℕ, ◌<◌, ◌≤◌, List, [], ◌∷◌, ◌++◌, Some, None, false, length, flat_map, encode_utf8_all};
 ghost use Rattle.std.specs.List.{list_any};
 ghost use Rattle.std.specs.Str.{IsUtf8, chars};
+ghost use Rattle.amcp_text.specs.Escapes.{escaped, quoted};
 ghost use Rattle.amcp_text.specs.Lines.{IsEnded, Line, Text, TooLong, is_line_end, line_of_text, lines_of};
 ghost use Rattle.amcp_text.specs.Reader.{HasTold, IsLineOf, line_view};
 ghost use Rattle.amcp_text.specs.declared.line_reader.LineEvent.{LineEvent};
@@ -34,4 +35,11 @@ pub fn first_line()
 pub fn longest_line()
     ensures line { (text : List ℕ) → length text ≤ 4096 → IsUtf8 text → line_of_text text ≡ Text (chars text) }
     ensures too_long { (text : List ℕ) → 4096 < length text → line_of_text text ≡ TooLong }
+{}
+
+/// The bytes of a text with its escapes are its bytes, each with its escape: no byte of a longer character has one. In quotation
+/// marks such bytes stand between two of them.
+pub fn escapes_of_bytes()
+    ensures text { (text : List ℕ) → encode_utf8_all (flat_map escaped text) ≡ flat_map escaped (encode_utf8_all text) }
+    ensures in_marks { (bytes : List ℕ) → IsUtf8 bytes → encode_utf8_all (quoted (chars bytes)) ≡ ((34 ∷ []) ++ flat_map escaped bytes) ++ 34 ∷ [] }
 {}

@@ -3,10 +3,11 @@
 //! A line ends at LF, and one CR directly before that LF belongs to the end. A `LineReader` takes a stream in pieces
 //! of any size and gives its lines one by one. Which lines it gives does not depend on the sizes of the pieces.
 //!
-//! The definitions of lines, words, whole numbers and decimals stand in `specs/`. The modules `examples` and `laws` show
-//! what they say.
+//! The definitions of lines, words, escapes, whole numbers and decimals stand in `specs/`. The modules `examples` and `laws`
+//! show what they say.
 #![tactic(auto)]
 
+mod escape;
 pub mod examples;
 pub mod laws;
 mod line_reader;
@@ -14,6 +15,7 @@ mod number;
 mod token;
 mod word_list;
 
+pub use escape::escape_of;
 pub use line_reader::{LineEvent, LineReader, MAX_LINE_BYTES, without_carriage_return};
 pub use number::{is_whole_number, number_within, plain_number_within, word_within};
 pub use token::{TokenFault, tokens};

@@ -1,4 +1,3 @@
-pub mod Escapes
 pub mod Spaced
 pub mod Texts
 pub mod Ticks

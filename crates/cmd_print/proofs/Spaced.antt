@@ -1,9 +1,12 @@
 -- Words that are sent one after another, each after a space.
 use Rattle.std.proofs.Common.{◌≡◌, ℕ, List, [], ◌∷◌, ◌++◌, map, ℤ, to_z, of_z, w64, sym, ap, ◌∙◌, append_assoc, append-nil, subst, arith}
 use Rattle.std.specs.List.{flat_map}
+use Rattle.std.specs.Str.{IsUtf8, chars}
 use Rattle.std.proofs.lemmas.Int.{ints}
 use Rattle.std.proofs.lemmas.List.Folds.{flat_map-map}
+use Rattle.amcp_text.specs.Escapes.{escaped}
 use Rattle.amcp_text.specs.Micros.{printed_micro}
+use Rattle.amcp_text.proofs.Escapes.{quoted-bytes}
 use Rattle.play_types.specs.Setting.{IsWide}
 use Rattle.std.specs.Prelude.{decimal, codes}
 use Rattle.std.proofs.lemmas.Grind.{flat_map-append}
@@ -13,7 +16,7 @@ use Rattle.play_outside.specs.Sink.{Fails, Sends}
 use Rattle.play_outside.specs.declared.sink.Sent.{Sent}
 use Rattle.play_outside.proofs.Sending.{Fails-before}
 use Rattle.play_outside.proofs.Taking.{after_taking-nil}
-use Rattle.history_model.specs.text.Commands.{Word, Plain, micro_word, place_text, place_word}
+use Rattle.history_model.specs.text.Commands.{Word, Plain, Quoted, micro_word, place_text, place_word}
 use Rattle.cmd_print.specs.inner.Bytes.{word_bytes, spaced}
 
 pub spaced-append : (xs ys : List Word) → spaced (xs ++ ys) ≡ spaced xs ++ spaced ys
@@ -24,6 +27,10 @@ spaced-append xs ys = flat_map-append (λ word. 32 ∷ word_bytes word) xs ys
 pub spaced_one : (word : Word) → spaced (word ∷ []) ≡ 32 ∷ word_bytes word
 unfolding spaced
 spaced_one word = append-nil (32 ∷ word_bytes word)
+
+-- a name in quotation marks
+pub spaced-quoted : (name : List ℕ) → IsUtf8 name → spaced (Quoted (chars name) ∷ []) ≡ ((32 ∷ 34 ∷ []) ++ flat_map escaped name) ++ 34 ∷ []
+spaced-quoted name utf8 = spaced_one (Quoted (chars name)) ∙ ap (λ (text : List ℕ). 32 ∷ text) (quoted-bytes name utf8)
 
 -- a channel, a dash and a layer
 pub place-parts : (place : PlaceView)

@@ -8,8 +8,8 @@ use Rattle.std.proofs.lemmas.List.Splits.{slice_split-cons_yes, slice_split-cons
 use Rattle.amcp_text.specs.Words.{Part, Role, Gap, Mark, Letter, Escape, parts_of, is_bad, is_mark, is_blank, is_unclosed, role_of, roles_of, is_gap, letter_of, words_between}
 use Rattle.amcp_text.specs.Words as part
 use Rattle.amcp_text.specs.Tokens.{words_of, words_of_parts}
+use Rattle.amcp_text.specs.Escapes.{escaped, quoted}
 use Rattle.amcp_text.proofs.Roles.{roles_from, roles_of_is, is_unclosed-cons}
-use Rattle.history_model.specs.text.Replies.{escaped, quoted}
 use Rattle.history_model.specs.text.Commands.{Word, Plain, Quoted, word_text, word_meant}
 use Rattle.cmd_print.proofs.Texts.{is_plain, is_fit, are_fit, plain_of_fit}
 

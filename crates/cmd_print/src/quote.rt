@@ -1,11 +1,12 @@
 //! Names in quotation marks.
-ghost use Rattle.std.specs.Prelude.{◌≡◌, ◌∷◌, ◌++◌, [], codes, chars, IfNone, IfSome};
+ghost use Rattle.std.specs.Prelude.{◌∷◌, [], chars};
 ghost use Rattle.std.specs.List.{flat_map};
-ghost use Rattle.history_model.specs.text.Replies.{escaped};
+ghost use Rattle.amcp_text.specs.Escapes.{escaped};
 ghost use Rattle.play_outside.specs.Sink.{Sends};
 ghost use Rattle.history_model.specs.text.Commands.{Quoted};
 ghost use Rattle.cmd_print.specs.inner.Bytes.{spaced};
 
+use amcp_text::escape_of;
 use play_outside::{Sent, Sink, send, send_parts};
 
 /// Writes a name in quotation marks, with its escapes, after a space.
@@ -36,17 +37,4 @@ fn send_escaped<K: Sink>(name: &[u8], to: &mut K) -> Sent
         }
     }
     send(&name[sent..], to)
-}
-
-/// Returns the second byte of the escape of a quotation mark, a backslash or a new line, whose first byte is a backslash.
-/// Another byte has no escape.
-fn escape_of(byte: u8) -> Option<u8>
-    ensures none { IfNone result (escaped byte ≡ byte ∷ []) }
-    ensures some { IfSome result (λ letter. escaped byte ≡ codes "\\" ++ letter ∷ []) }
-{
-    match byte {
-        b'"' | b'\\' => Some(byte),
-        b'\n' => Some(b'n'),
-        _ => None,
-    }
 }

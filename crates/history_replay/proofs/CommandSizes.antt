@@ -6,6 +6,7 @@ use Rattle.std.specs.Str.{all_scalars}
 use Rattle.std.proofs.lemmas.Fmt.{length-decimal-le}
 use Rattle.std.proofs.lemmas.List.{length-take}
 use Rattle.std.proofs.lemmas.Option.{get_or_from_slice_get, slice_get_within}
+use Rattle.amcp_text.specs.Escapes.{quoted}
 use Rattle.play_types.specs.Config.{ConfigView}
 use Rattle.play_types.specs.Media.{MediaNameView}
 use Rattle.play_types.specs.Place.{PlaceView}
@@ -28,7 +29,6 @@ use Rattle.play_types.specs.declared.reply.Name.TheVariants as name
 use Rattle.play_types.specs.declared.command.Cmd.{Cmd}
 use Rattle.play_types.specs.declared.command.Cmd.TheVariants as cmd
 use Rattle.history_model.specs.stage.Answer.{number_count}
-use Rattle.history_model.specs.text.Replies.{quoted}
 use Rattle.history_model.specs.text.Commands.{Word, Plain, arguments, capital_digits, clip_name_at, curve_text, direction_text, flag_words, micro_word, number_word, part_words, place_text, place_word, producer_word, setting_words, take_words, timed_words, timing_words, transition_words}
 use Rattle.cmd_print.specs.inner.Bytes.{word_bytes}
 use Rattle.cmd_print.proofs.Known.{IsChannelOf, IsPlaceOf, IsKnownTrans, IsKnownClip, IsKnownSpec, IsKnownTake, IsKnown}

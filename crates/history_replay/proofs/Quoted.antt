@@ -9,7 +9,8 @@ use Rattle.std.proofs.lemmas.Grind.{get_or_default_zero}
 use Rattle.std.proofs.lemmas.List.Folds.{list_any-append, list_any_none}
 use Rattle.std.proofs.lemmas.Str.{IsUtf8-append, IsUtf8-encode, IsUtf8-nil, encodes-append, inside_one}
 use Rattle.amcp_text.specs.Lines.{is_line_end}
-use Rattle.history_model.specs.text.Replies.{escaped, quoted}
+use Rattle.amcp_text.specs.Escapes.{escaped, quoted}
+use Rattle.amcp_text.proofs.Escapes.{quoted-parts}
 use Rattle.history_replay.proofs.Tagged.{HasBareEnd, HasBareEnd-append}
 
 -- bytes that are a text and have no line end
@@ -61,22 +62,9 @@ name_in_line (c ∷ name) scalars =
     rw (encodes-append (escaped c) (flat_map escaped name))
     (IsInLine-append (encode_utf8_all (escaped c)) (encode_utf8_all (flat_map escaped name)) (escaped_in_line c parts.0) (name_in_line name parts.1))
 
-mark : encode_utf8_all (34 ∷ []) ≡ 34 ∷ []
-unfolding encode_utf8
-mark = refl
-
 mark_in_line : IsInLine (34 ∷ [])
 unfolding encode_utf8
 mark_in_line = record { utf8 = (34 ∷ [], (refl, refl)); one = refl }
-
--- the bytes of the name between its marks
-quoted-parts : (name : List ℕ)
-    → encode_utf8_all (quoted name) ≡ (34 ∷ encode_utf8_all (flat_map escaped name)) ++ 34 ∷ []
-unfolding quoted
-quoted-parts name =
-    encodes-append (34 ∷ flat_map escaped name) (34 ∷ [])
-    ∙ ap (λ (bytes : List ℕ). bytes ++ encode_utf8_all (34 ∷ [])) (encodes-append (34 ∷ []) (flat_map escaped name))
-    ∙ (λ i. (mark i ++ encode_utf8_all (flat_map escaped name)) ++ mark i)
 
 pub quoted_in_line : (name : List ℕ) → all_scalars name ≡ true → IsInLine (encode_utf8_all (quoted name))
 quoted_in_line name scalars =

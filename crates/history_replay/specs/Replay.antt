@@ -2,6 +2,7 @@
 use Rattle.std.specs.Prelude.{◌≡◌, ℕ, ◌≤◌, ◌⊎◌, true, false, Ok, List, length, map, flat_map, encode_utf8_all, All}
 use Rattle.std.specs.Str.{all_scalars}
 use Rattle.std.specs.Str.Lines.{lines}
+use Rattle.amcp_text.specs.Escapes.{escaped}
 use Rattle.play_types.specs.Commands.{is_query}
 use Rattle.play_types.specs.Config.{IsConfig}
 use Rattle.play_types.specs.History.{IsHistory, held}
@@ -18,7 +19,6 @@ use Rattle.history_model.specs.scripts.History.{PlayedLine, Playout, server}
 use Rattle.history_model.specs.scripts.Line.{ScriptLine, Comment, Ticks, Said, Rejected, meaning}
 use Rattle.history_model.specs.scripts.Line as line
 use Rattle.history_model.specs.sessions.Session.{Step, Local, Ask, AskBatch, KillServer, EndConnection, Skip}
-use Rattle.history_model.specs.text.Replies.{escaped}
 use Rattle.history_replay.specs.declared.limits.TheConstants.{MAX_PRINTED_NAME_BYTES}
 
 -- a connection that a line of a script can name

@@ -1,4 +1,3 @@
-mod Escapes
 mod Lines
 pub mod OnLiterals
 mod Values

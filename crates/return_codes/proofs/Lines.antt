@@ -4,12 +4,13 @@ use Rattle.std.specs.Prelude.{codes, decimal, encode_utf8_all}
 use Rattle.std.specs.List.{flat_map, zip, enumerate_from}
 use Rattle.std.proofs.lemmas.Grind.{flat_map-append}
 use Rattle.std.proofs.lemmas.List.Folds.{flat_map-map}
+use Rattle.amcp_text.specs.Escapes.{quoted}
 use Rattle.play_types.specs.Words.{name_text, status_text}
 use Rattle.play_types.specs.Config.{ChannelView}
 use Rattle.play_types.specs.Media.{MediaNameView}
 use Rattle.play_types.specs.declared.answer.Status.{Status}
 use Rattle.play_types.specs.declared.reply.Name.{Name}
-use Rattle.history_model.specs.text.Replies.{code_line, size_text, channel_line, channel_lines, quoted, numbers_text, clip_text, media_line}
+use Rattle.history_model.specs.text.Replies.{code_line, size_text, channel_line, channel_lines, numbers_text, clip_text, media_line}
 use Rattle.return_codes.specs.declared.line.LineStyle.{LineStyle}
 use Rattle.return_codes.specs.inner.Style.{head_of, styled}
 

@@ -1,10 +1,11 @@
 //! Names in quotation marks.
-ghost use Rattle.std.specs.Prelude.{◌≡◌, ◌∷◌, ◌++◌, [], codes, encode_utf8_all, chars, IfNone, IfSome};
+ghost use Rattle.std.specs.Prelude.{◌++◌, encode_utf8_all, chars};
 ghost use Rattle.std.specs.List.{flat_map};
-ghost use Rattle.history_model.specs.text.Replies.{escaped, quoted};
+ghost use Rattle.amcp_text.specs.Escapes.{escaped, quoted};
 ghost use Rattle.play_outside.specs.Gathered.{Adds};
 
 use crate::line::Line;
+use amcp_text::escape_of;
 use play_outside::{Sent, Sink};
 
 /// Adds a name in quotation marks, with its escapes, to a line.
@@ -35,17 +36,4 @@ fn add_escaped<K: Sink>(name: &[u8], line: &mut Line, to: &mut K) -> Sent
         }
     }
     line.add(&name[added..], to)
-}
-
-/// Returns the second byte of the escape of a quotation mark, a backslash or a new line, whose first byte is a backslash.
-/// Another byte has no escape.
-fn escape_of(byte: u8) -> Option<u8>
-    ensures none { IfNone result (escaped byte ≡ byte ∷ []) }
-    ensures some { IfSome result (λ letter. escaped byte ≡ codes "\\" ++ letter ∷ []) }
-{
-    match byte {
-        b'"' | b'\\' => Some(byte),
-        b'\n' => Some(b'n'),
-        _ => None,
-    }
 }

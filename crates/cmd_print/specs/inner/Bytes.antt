@@ -1,6 +1,6 @@
 -- The bytes of printed words.
 use Rattle.std.specs.Prelude.{List, ℕ, ◌∷◌, flat_map, encode_utf8_all}
-use Rattle.history_model.specs.text.Replies.{quoted}
+use Rattle.amcp_text.specs.Escapes.{quoted}
 use Rattle.history_model.specs.text.Commands.{Word, Plain, Quoted}
 
 -- the bytes of a word: one that stands as it is has ASCII characters alone

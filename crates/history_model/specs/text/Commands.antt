@@ -4,6 +4,7 @@ use Rattle.std.specs.Prelude.{ℕ, zero, suc, ◌/◌, ◌%◌, ◌^◌, ℤ, Bo
 use Rattle.std.specs.Option.{option_map_or}
 use Rattle.std.specs.Fmt.{digit_glyph}
 use Rattle.amcp_text.specs.Micros.{printed_micro}
+use Rattle.amcp_text.specs.Escapes.{quoted}
 use Rattle.play_types.specs.Place.{PlaceView}
 use Rattle.play_types.specs.Media.{MediaNameView}
 use Rattle.play_types.specs.Take.{TakeView}
@@ -22,7 +23,6 @@ use Rattle.play_types.specs.declared.setting.Prop.TheVariants as prop
 use Rattle.play_types.specs.declared.command.Cmd.{Cmd}
 use Rattle.play_types.specs.declared.command.Cmd.TheVariants as cmd
 use Rattle.history_model.specs.stage.Answer.{number_count}
-use Rattle.history_model.specs.text.Replies.{quoted}
 
 -- a word of a printed command: a word that stands as it is, or the name of a clip
 pub data Word : Type 0 where

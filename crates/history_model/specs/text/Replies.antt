@@ -1,5 +1,5 @@
 -- Replies as lines, and as the bytes that are sent.
-use Rattle.std.specs.Prelude.{◌≡◌, length, ◌⊎◌, ℕ, ◌≤◌, ◌==◌, nat_lt, if◌then◌else◌, List, [], ◌∷◌, ◌++◌, map, take, flat_map, codes, decimal, encode_utf8_all}
+use Rattle.std.specs.Prelude.{◌≡◌, length, ◌⊎◌, ℕ, ◌≤◌, nat_lt, if◌then◌else◌, List, [], ◌∷◌, ◌++◌, map, take, flat_map, codes, decimal, encode_utf8_all}
 use Rattle.std.specs.List.{join_by, zip, enumerate_from}
 use Rattle.play_types.specs.Answer.{MicrosView}
 use Rattle.play_types.specs.Words.{name_text, status_text}
@@ -9,6 +9,7 @@ use Rattle.play_types.specs.declared.answer.Status.{Status}
 use Rattle.play_types.specs.declared.reply.Name.{Name}
 use Rattle.play_types.specs.declared.reply.Reply.{Reply}
 use Rattle.play_types.specs.declared.reply.Reply.TheVariants as reply
+use Rattle.amcp_text.specs.Escapes.{quoted}
 use Rattle.amcp_text.specs.Micros.{printed_micro}
 
 -- a code, the name of a command, and a word that says what became of it
@@ -39,18 +40,6 @@ channel_line number channel state =
 -- a line for each channel with its status, numbered from 1
 abbrev pub channel_lines : List ChannelView → List Status → List (List ℕ)
 channel_lines channels states = map (λ at. channel_line at.0 at.1.0 at.1.1) (enumerate_from 1 (zip channels states))
-
--- a character of a name: a quotation mark, a backslash and a new line are escaped by a backslash
-abbrev pub escaped : ℕ → List ℕ
-escaped c =
-    if c == 34 then codes "\\\""
-    else if c == 92 then codes "\\\\"
-    else if c == 10 then codes "\\n"
-    else c ∷ []
-
--- the characters of a name in quotation marks, with its escapes
-unfoldable pub quoted : List ℕ → List ℕ
-quoted name = 34 ∷ flat_map escaped name ++ 34 ∷ []
 
 -- the size, the frames and the stereo pairs of a clip
 unfoldable pub numbers_text : MediaNameView → List ℕ

@@ -1,8 +1,8 @@
 use Rattle.std.proofs.Common.{[], ◌∷◌}
 use Rattle.std.specs.List.{flat_map}
+use Rattle.amcp_text.specs.Escapes.{escaped}
 use Rattle.play_outside.proofs.Sending.{taken_more, Fails-before, Fails-within, Sends-last}
-use Rattle.history_model.specs.text.Replies.{escaped}
-use Rattle.cmd_print.proofs.Escapes.{spaced-quoted}
+use Rattle.cmd_print.proofs.Spaced.{spaced-quoted}
 use Rattle.cmd_print.proofs.quote.print_quoted.Goals as goal
 
 pub returns-in-Failed : goal.returns-in-Failed

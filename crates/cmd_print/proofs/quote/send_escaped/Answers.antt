@@ -1,7 +1,7 @@
 use Rattle.std.proofs.Common.{◌≡◌, ◌+◌, sym, length, arith}
 use Rattle.play_outside.proofs.Taking.{after_taking-nil}
 use Rattle.play_outside.proofs.Sending.{taken_more, Fails-within, Sends-last}
-use Rattle.cmd_print.proofs.Escapes.{plain_none, plain_more, escape-more, escape-parts, plain-whole}
+use Rattle.amcp_text.proofs.Escapes.{plain_none, plain_more, escape-more, escape-parts, plain-whole}
 use Rattle.cmd_print.proofs.quote.send_escaped.Goals as goal
 use Rattle.cmd_print.proofs.quote.send_escaped.Goals.{in-Some+in-All, in_default}
 

@@ -1,8 +1,8 @@
 use Rattle.std.proofs.Common.{◌≡◌, ◌≤◌, take}
 use Rattle.std.specs.List.{flat_map}
-use Rattle.history_model.specs.text.Replies.{escaped}
+use Rattle.amcp_text.specs.Escapes.{escaped}
 use Rattle.play_outside.specs.SinkState.{after_taking}
-use Rattle.cmd_print.proofs.Escapes.{IsPlain}
+use Rattle.amcp_text.proofs.Escapes.{IsPlain}
 use Rattle.cmd_print.proofs.quote.send_escaped.Given as goal
 
 -- the bytes before the last escape's end were written, and those after it have no escape

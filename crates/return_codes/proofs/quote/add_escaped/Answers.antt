@@ -1,6 +1,6 @@
 use Rattle.std.proofs.Common.{◌≡◌, ◌+◌, length, append-nil, arith}
 use Rattle.play_outside.proofs.Gathering.{Gathered-none, Gathered-next, Adds-next, Adds-end}
-use Rattle.return_codes.proofs.Escapes.{plain_none, plain_more, escape-more, escape-parts, plain-whole}
+use Rattle.amcp_text.proofs.Escapes.{plain_none, plain_more, escape-more, escape-parts, plain-whole}
 use Rattle.return_codes.proofs.quote.add_escaped.Goals as goal
 use Rattle.return_codes.proofs.quote.add_escaped.Goals.{in-Some+in-All, in_default}
 

@@ -1,8 +1,8 @@
 use Rattle.std.proofs.Common.{◌≤◌, ◌++◌, take}
 use Rattle.std.specs.List.{flat_map}
-use Rattle.history_model.specs.text.Replies.{escaped}
+use Rattle.amcp_text.specs.Escapes.{escaped}
 use Rattle.play_outside.specs.Gathered.{Gathered}
-use Rattle.return_codes.proofs.Escapes.{IsPlain}
+use Rattle.amcp_text.proofs.Escapes.{IsPlain}
 use Rattle.return_codes.proofs.quote.add_escaped.Given as goal
 
 -- the bytes before the last escape's end were added, and those after it have no escape

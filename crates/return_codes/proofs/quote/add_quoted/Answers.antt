@@ -1,8 +1,8 @@
 use Rattle.std.proofs.Common.{refl, [], ◌∷◌, ◌++◌}
 use Rattle.std.specs.List.{flat_map}
+use Rattle.amcp_text.specs.Escapes.{escaped}
 use Rattle.play_outside.proofs.Gathering.{Gathered-next, Adds-first, Adds-next, Adds-end}
-use Rattle.history_model.specs.text.Replies.{escaped}
-use Rattle.return_codes.proofs.Escapes.{quoted-bytes}
+use Rattle.amcp_text.proofs.Escapes.{quoted-bytes}
 use Rattle.return_codes.proofs.quote.add_quoted.Goals as goal
 
 pub returns-in-Failed : goal.returns-in-Failed

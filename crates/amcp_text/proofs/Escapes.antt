@@ -1,4 +1,4 @@
--- Escapes of names, character by character and byte by byte.
+-- Escapes of a text, character by character and byte by byte.
 use Rattle.std.proofs.Common.{◌≡◌, ℕ, ◌+◌, ◌-◌, ◌/◌, ◌%◌, get_or, length-drop, ◌<◌, ◌≤◌, ◌==◌, nat_lt, false, List, [], ◌∷◌, ◌++◌, take, drop, length, refl, sym, ap, ◌∙◌, arith, inl, inr, append_assoc, append-nil}
 use Rattle.std.specs.Prelude.{encode_utf8_all}
 use Rattle.std.specs.Char.{encode_utf8}
@@ -8,9 +8,7 @@ use Rattle.std.proofs.lemmas.Bool.{cases_Bool, eqb-true, ne_eqb}
 use Rattle.std.proofs.lemmas.Grind.{flat_map-append}
 use Rattle.std.proofs.lemmas.Str.{encodes-chars, encodes-append}
 use Rattle.std.proofs.lemmas.List.{take_more, take_all, get_or-drop, take-append-drop}
-use Rattle.history_model.specs.text.Replies.{escaped, quoted}
-use Rattle.history_model.specs.text.Commands.{Quoted}
-use Rattle.cmd_print.specs.inner.Bytes.{spaced}
+use Rattle.amcp_text.specs.Escapes.{escaped, quoted}
 
 -- beyond ASCII nothing is escaped
 plain-high : (c : ℕ) → 128 ≤ c → escaped c ≡ c ∷ []
@@ -55,24 +53,22 @@ escaped-bytes c = elim (cases_Bool (c == 34)) [
 ]
 
 -- the bytes of a text with its escapes are its bytes with their escapes
-escaped_text-bytes : (cs : List ℕ) → encode_utf8_all (flat_map escaped cs) ≡ flat_map escaped (encode_utf8_all cs)
+pub escaped_text-bytes : (cs : List ℕ) → encode_utf8_all (flat_map escaped cs) ≡ flat_map escaped (encode_utf8_all cs)
 escaped_text-bytes [] = refl
 escaped_text-bytes (c ∷ cs) =
     rw (encodes-append (escaped c) (flat_map escaped cs), escaped-bytes c, escaped_text-bytes cs)
     (sym (flat_map-append escaped (encode_utf8 c) (encode_utf8_all cs)))
 
--- the bytes of a text in quotation marks
-pub quoted-bytes : (bytes : List ℕ) → IsUtf8 bytes → encode_utf8_all (quoted (chars bytes)) ≡ ((34 ∷ []) ++ flat_map escaped bytes) ++ 34 ∷ []
+-- a text in quotation marks, in bytes: the text with its escapes stands between the two marks
+pub quoted-parts : (text : List ℕ) → encode_utf8_all (quoted text) ≡ ((34 ∷ []) ++ encode_utf8_all (flat_map escaped text)) ++ 34 ∷ []
 unfolding quoted encode_utf8
-quoted-bytes bytes utf8 =
-    ap (λ (text : List ℕ). 34 ∷ text)
-    (encodes-append (flat_map escaped (chars bytes)) (34 ∷ [])
-    ∙ ap (λ (text : List ℕ). text ++ 34 ∷ []) (escaped_text-bytes (chars bytes) ∙ ap (flat_map escaped) (encodes-chars bytes utf8)))
+quoted-parts text = ap (λ (bytes : List ℕ). 34 ∷ bytes) (encodes-append (flat_map escaped text) (34 ∷ []))
 
--- the bytes of a name that is printed
-pub spaced-quoted : (bytes : List ℕ) → IsUtf8 bytes → spaced (Quoted (chars bytes) ∷ []) ≡ ((32 ∷ 34 ∷ []) ++ flat_map escaped bytes) ++ 34 ∷ []
-unfolding spaced
-spaced-quoted bytes utf8 = append-nil (32 ∷ encode_utf8_all (quoted (chars bytes))) ∙ ap (λ (text : List ℕ). 32 ∷ text) (quoted-bytes bytes utf8)
+-- the same by the bytes of the text
+pub quoted-bytes : (bytes : List ℕ) → IsUtf8 bytes → encode_utf8_all (quoted (chars bytes)) ≡ ((34 ∷ []) ++ flat_map escaped bytes) ++ 34 ∷ []
+quoted-bytes bytes utf8 =
+    quoted-parts (chars bytes)
+    ∙ ap (λ (inside : List ℕ). ((34 ∷ []) ++ inside) ++ 34 ∷ []) (escaped_text-bytes (chars bytes) ∙ ap (flat_map escaped) (encodes-chars bytes utf8))
 
 -- the bytes from one place up to another
 abbrev pub between : ℕ → ℕ → List ℕ → List ℕ

@@ -1,24 +1,21 @@
 -- What the steps of a session can be.
-use Rattle.std.proofs.Common.{◌≡◌, inl, inr, ℕ, ◌≤◌, Bool, true, false, List, [], ◌∷◌, length, refl, arith}
-use Rattle.std.specs.Prelude.{Result, Ok, Err, nat_lt}
-use Rattle.std.specs.Prelude.{if◌then◌else◌}
+use Rattle.std.proofs.Common.{◌≡◌, inl, inr, ℕ, ◌≤◌, Bool, List, [], ◌∷◌, refl, subst, arith}
+use Rattle.std.specs.Prelude.{Result, Ok, Err, if◌then◌else◌}
 use Rattle.amcp_text.specs.Lines.{Line, Text, TooLong, NotUtf8}
 use Rattle.amcp_text.specs.declared.token.TokenFault.{TokenFault}
 use Rattle.amcp_text.specs.Tokens.{words_of}
 use Rattle.play_types.specs.Config.{ConfigView}
 use Rattle.play_types.specs.Media.{MediaNameView}
 use Rattle.play_types.specs.declared.command.Cmd.{Cmd}
-use Rattle.play_types.specs.declared.command.TheConstants.{MAX_BATCH_COMMANDS}
-use Rattle.play_types.specs.declared.reply.Reply.TheVariants as reply
 use Rattle.play_types.specs.declared.parsed.Parsed.{Parsed}
-use Rattle.play_types.specs.declared.parsed.Parsed.TheVariants.{Stage, Begin, Commit, Discard, Cls, Version, Bye, Kill}
+use Rattle.play_types.specs.declared.parsed.Parsed.TheVariants.{Stage}
 use Rattle.play_types.specs.declared.parsed.Refusal.{Refusal}
 use Rattle.play_types.specs.declared.parsed.Refusal.TheVariants as refusal
 use Rattle.history_model.specs.text.Replies.{IsReplyTo, IsRefusalCode}
 use Rattle.history_model.specs.commands.Command.{parsed}
 use Rattle.history_model.specs.sessions.Line.{LineMeaning, Blank, Wrong, Asks, line_meaning, meaning_of_words, meaning_of_parsed, refusal_reply}
-use Rattle.history_model.specs.sessions.Session.{Step, Local, Ask, AskBatch, KillServer, EndConnection, Skip, step_outside, step_waiting, step_commit, step_inside}
-use Rattle.play_types.specs.Commands.{command_name, is_query}
+use Rattle.history_model.specs.sessions.Session.{Step, Local, Ask, AskBatch, KillServer, EndConnection, Skip, step_outside, step_commit, step_inside}
+use Rattle.history_model.proofs.EachAsk.{asked-holds}
 
 -- a reply that fits, an ask of a command that words ask for, or another step
 abbrev pub IsGiven : ConfigView → List MediaNameView → Step → Type 0
@@ -44,46 +41,18 @@ refusal_fits config line (refusal.Unreadable name) = inr (omega arith, omega ari
 refused : IsRefusalCode 403
 refused = code (omega arith) (omega arith)
 
-waiting_given : (config : ConfigView) (media : List MediaNameView) (commands : List Cmd) (command : Cmd) → IsGiven config media (step_waiting commands command)
-waiting_given config media commands command = by_query (is_query command) (nat_lt (length commands) MAX_BATCH_COMMANDS)
-  where
-    by_query : (query room : Bool) → IsGiven config media
-        (if query then Local (reply.Refused 403 (command_name command))
-        else if room then Local (reply.Done (command_name command))
-        else Local (reply.Refused 403 (command_name command)))
-    by_query true room = refused
-    by_query false true = tt
-    by_query false false = refused
-
 commit_given : (config : ConfigView) (media : List MediaNameView) (commands : List Cmd) → IsGiven config media (step_commit commands)
 commit_given config media [] = tt
 commit_given config media (command ∷ commands) = tt
 
-inside_given : (config : ConfigView) (media : List MediaNameView) (commands : List Cmd) (asked : Parsed) → IsGiven config media (step_inside commands asked)
-inside_given config media commands (Stage command) = waiting_given config media commands command
-inside_given config media commands Begin = refused
-inside_given config media commands Commit = commit_given config media commands
-inside_given config media commands Discard = tt
-inside_given config media commands Cls = refused
-inside_given config media commands Version = refused
-inside_given config media commands Bye = refused
-inside_given config media commands Kill = refused
-
-outside_given : (config : ConfigView) (media : List MediaNameView) (words : List (List ℕ)) (asked : Parsed) → parsed config media words ≡ Ok asked → IsGiven config media (step_outside asked)
-outside_given config media words (Stage command) is = (words, is)
-outside_given config media words Begin is = tt
-outside_given config media words Commit is = refused
-outside_given config media words Discard is = refused
-outside_given config media words Cls is = tt
-outside_given config media words Version is = tt
-outside_given config media words Bye is = tt
-outside_given config media words Kill is = tt
-
 -- what is done for an ask, where this batch is open or none is
 pub asked_given : (config : ConfigView) (media : List MediaNameView) (open_now : Bool) (commands : List Cmd) (words : List (List ℕ)) (asked : Parsed) → parsed config media words ≡ Ok asked
     → IsGiven config media (if open_now then step_inside commands asked else step_outside asked)
-asked_given config media true commands words asked is = inside_given config media commands asked
-asked_given config media false commands words asked is = outside_given config media words asked is
+asked_given config media open_now commands words asked is =
+    asked-holds (IsGiven config media)
+    (record { done = λ command. tt; refused = λ command. refused; cls = tt; version = tt; kill = tt; ended = tt })
+    open_now commands asked (commit_given config media commands)
+    (λ command same. (words, subst (λ (a : Parsed). parsed config media words ≡ Ok a) same is))
 
 -- a refusal whose reply fits, or what words ask for
 abbrev pub IsMeant : ConfigView → List MediaNameView → LineMeaning → Type 0

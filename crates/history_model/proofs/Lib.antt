@@ -11,8 +11,10 @@ pub mod Outputs
 pub mod Filled
 pub mod Scripts
 pub mod Streams
+pub mod EachAsk
 pub mod Asking
 pub mod Aiming
+pub mod EachStep
 pub mod AimedSteps
 pub mod Sessions
 pub mod places

@@ -79,7 +79,8 @@ batch-other asked ask other opened =
     ∙ ap (λ (since : List Parsed). take MAX_BATCH_COMMANDS (filter_map batched since)) (after_first-append is_begin (since_closing asked) (ask ∷ []) opened)
     ∙ ap (take MAX_BATCH_COMMANDS) (filter_map-append batched (after_first is_begin (since_closing asked)) (ask ∷ []))
 
-batch-same : (asked : List Parsed) (ask : Parsed) → is_closing ask ≡ false → is_open asked ≡ true → batched ask ≡ None
+-- an ask that is no command for the batch leaves it
+pub batch-same : (asked : List Parsed) (ask : Parsed) → is_closing ask ≡ false → is_open asked ≡ true → batched ask ≡ None
     → batch (asked ++ ask ∷ []) ≡ batch asked
 batch-same asked ask other opened none =
     let all = filter_map batched (after_first is_begin (since_closing asked)) in
@@ -87,13 +88,13 @@ batch-same asked ask other opened none =
     ∙ ap (λ (o : Option Cmd). take MAX_BATCH_COMMANDS (all ++ cons_option o [])) none
     ∙ ap (take MAX_BATCH_COMMANDS) (append-nil all)
 
-added : List Cmd → Cmd → List Cmd
+-- the commands of an open batch after one more: a query is never added, nor is any where there is no room
+abbrev pub added : List Cmd → Cmd → List Cmd
 added commands command =
     cond (is_query command) commands (cond (nat_lt (length commands) MAX_BATCH_COMMANDS) (commands ++ command ∷ []) commands)
 
-batch-command : (asked : List Parsed) (command : Cmd) → is_open asked ≡ true
+pub batch-command : (asked : List Parsed) (command : Cmd) → is_open asked ≡ true
     → batch (asked ++ Stage command ∷ []) ≡ added (batch asked) command
-unfolding added
 batch-command asked command opened = elim (cases_Bool (is_query command)) [
   | inl query ↦ rw query (batch-same asked (Stage command) refl opened (rw query refl))
   | inr other ↦
@@ -106,7 +107,6 @@ batch-command asked command opened = elim (cases_Bool (is_query command)) [
 -- a command that is no query waits where there is room
 pub batch-waits : (asked : List Parsed) (command : Cmd) → is_open asked ≡ true → is_query command ≡ false → length (batch asked) < MAX_BATCH_COMMANDS
     → batch (asked ++ Stage command ∷ []) ≡ batch asked ++ command ∷ []
-unfolding added
 batch-waits asked command opened acts room =
     batch-command asked command opened ∙ rw (acts, lt-ltb (length (batch asked)) MAX_BATCH_COMMANDS room) refl
 
@@ -226,7 +226,6 @@ refused_commit [] refused = refused
 refused_commit (command ∷ commands) refused = refused
 
 inside_left : (a : List Parsed) (ask : Parsed) → is_open a ≡ true → IsRefusal (step_inside (batch a) ask) → IsSameBatch (a ++ ask ∷ []) a
-unfolding added
 inside_left a (Stage command) was refused =
     open_still a (Stage command) was refl
     (batch-command a command was ∙ refused_waiting (batch a) command (is_query command) (nat_lt (length (batch a)) MAX_BATCH_COMMANDS) refused)

@@ -33,15 +33,19 @@ pub record IsKnownTrans (trans : TransView) : Type 0 where
   pub short : trans.duration ≤ MAX_DURATION
   pub kept : trans_of trans.kind trans.duration trans.curve trans.leftward ≡ trans
 
--- a clip's name names it, and the part of it that is played has frames
-pub record IsKnownClip (media : List MediaNameView) (id : ℕ) (take : TakeView) : Type 0 where
-  pub clip : MediaNameView
+-- a clip of the media table that can be read, and that its name names
+pub record IsNamedClip (media : List MediaNameView) (id : ℕ) (clip : MediaNameView) : Type 0 where
   pub at : slice_get media id ≡ Some clip
   pub found : clip_named media clip.name ≡ Some (id, clip)
   pub readable : clip.readable ≡ true
   pub colour : is_colour_word clip.name ≡ false
   pub route : is_route_word clip.name ≡ false
   pub named : named_colour clip.name ≡ None
+
+-- such a clip, and the part of it that is played has frames
+pub record IsKnownClip (media : List MediaNameView) (id : ℕ) (take : TakeView) : Type 0 where
+  pub clip : MediaNameView
+  pub is : IsNamedClip media id clip
   pub some : 1 ≤ take.length
   pub part : take.seek + take.length ≤ clip.frames
   pub few : clip.frames ≤ MAX_FRAMES

@@ -21,7 +21,7 @@ use Rattle.history_model.specs.commands.Line.{Line, ◌>>=◌, legal}
 use Rattle.history_model.specs.commands.Places.{Area, area_of}
 use Rattle.history_model.specs.commands.Producer.{Producer, clip_named, clip_producer, colour_of_digits, is_colour_word, is_route_word, named_colour, named_producer, plain, producer_of, route_to}
 use Rattle.cmd_print.proofs.Numbers.{hexadecimal_below}
-use Rattle.cmd_print.proofs.Known.{IsChannelOf, IsPlaceOf}
+use Rattle.cmd_print.proofs.Known.{IsChannelOf, IsPlaceOf, IsNamedClip}
 use Rattle.cmd_print.proofs.Asked.{bound, given_of, ok_injective, some_injective, IsLayer, area_known}
 
 same_hash : (c d : ℕ) → to_ascii_uppercase c ≡ to_ascii_uppercase d → (c == 35) ≡ (d == 35)
@@ -76,37 +76,25 @@ found_at [] start p entry h = cc
 found_at (clip ∷ media) start p entry h = found_by media start p clip entry (λ e later. found_at media (start + 1) p e later) (p (start, clip)) refl h
 
 -- what is known of a producer, with its number of frames
-pub record IsNamedClip (media : List MediaNameView) (id frames : ℕ) : Type 0 where
-  pub clip : MediaNameView
-  pub at : slice_get media id ≡ Some clip
-  pub found : clip_named media clip.name ≡ Some (id, clip)
-  pub readable : clip.readable ≡ true
-  pub colour : is_colour_word clip.name ≡ false
-  pub route : is_route_word clip.name ≡ false
-  pub named : named_colour clip.name ≡ None
-  pub all : frames ≡ clip.frames
-
 abbrev pub IsKnownProducer : ConfigView → List MediaNameView → Spec → ℕ → Type 0
-IsKnownProducer config media (Clip id) frames = IsNamedClip media id frames
+IsKnownProducer config media (Clip id) frames = (clip : MediaNameView) × IsNamedClip media id clip × (frames ≡ clip.frames)
 IsKnownProducer config media (Colour value) frames = value < 2 ^ 32
 IsKnownProducer config media (RouteChannel channel) frames = IsChannelOf config channel
 IsKnownProducer config media (RouteLayer place) frames = IsPlaceOf config place
 
 clip_known : (media : List MediaNameView) (word : List ℕ) (entry : ℕ × MediaNameView) → is_colour_word word ≡ false → is_route_word word ≡ false → named_colour word ≡ None
-    → clip_named media word ≡ Some entry → entry.1.readable ≡ true → IsNamedClip media entry.0 entry.1.frames
+    → clip_named media word ≡ Some entry → entry.1.readable ≡ true → IsNamedClip media entry.0 entry.1
 clip_known media word entry colour route named found readable =
     let place = found_at media 0 (λ e. is_same_name e.1.name word) entry found in
     let same = same_capitals entry.1.name word place.passes in
     let id : entry.0 ≡ place.place = omega (arith, place.sum) in
     record {
-      clip = entry.1;
       at = ap (slice_get media) id ∙ place.at;
       found = clip_by_capitals media entry.1.name word same ∙ found;
       readable = readable;
       colour = colour_by_capitals entry.1.name word same ∙ colour;
       route = route_by_capitals entry.1.name word same ∙ route;
       named = named_by_capitals entry.1.name word same ∙ named;
-      all = refl;
     }
 
 readable_by : (line : Line) (entry : ℕ × MediaNameView) (readable : Bool) (producer : Producer)
@@ -123,7 +111,7 @@ clip_producer_known : (line : Line) (word : List ℕ) (found : Option (ℕ × Me
 clip_producer_known line word None producer colour route named is h = cc
 clip_producer_known line word (Some entry) producer colour route named is h =
     let one = readable_by line entry entry.1.readable producer h in
-    subst (KnownOf line) one.1 (clip_known line.media word entry colour route named is one.0)
+    subst (KnownOf line) one.1 (entry.1, clip_known line.media word entry colour route named is one.0, refl)
 
 named_below : (empty black white red green blue : Bool) (value : ℕ)
     → cond empty (Some 0x00000000) (cond black (Some 0xFF000000) (cond white (Some 0xFFFFFFFF) (cond red (Some 0xFFFF0000) (cond green (Some 0xFF00FF00) (cond blue (Some 0xFF0000FF) None))))) ≡ Some value

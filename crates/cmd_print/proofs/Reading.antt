@@ -302,7 +302,7 @@ module _ (config : ConfigView) (media : List MediaNameView) (few : length config
       → take_at (line_of config media command (place ∷ said_words media (view spec looped seek len trans auto))) 2 ≡ Ok (view spec looped seek len trans auto)
   unfolding producer_of
   take_read (Clip id) looped seek len trans auto known moves =
-      let name : clip_name_at media id ≡ known.clip.name = rw known.at refl in
+      let name : clip_name_at media id ≡ known.clip.name = rw known.is.at refl in
       let shape = shape_of trans.kind trans.duration trans.curve trans.leftward moves.short moves.kept in
       let hs = number_within-decimal 0 MAX_FRAMES seek (omega arith) (omega (arith, known.part, known.few)) (omega (arith, known.part, known.few)) in
       let hl = number_within-decimal 1 MAX_FRAMES len known.some (omega (arith, known.part, known.few)) (omega (arith, known.part, known.few)) in
@@ -311,7 +311,7 @@ module _ (config : ConfigView) (media : List MediaNameView) (few : length config
       rw (clip_words looped (decimal seek) (decimal len) (transition_words trans.kind trans ++ flag_words auto (codes "AUTO")), other_words trans auto, name)
       (take_said config media command place known.clip.name _ (said_options looped trans seek (Some len) auto) (record { spec = Clip id; frames = known.clip.frames }) _
       (say_clip command (decimal seek) (decimal len) seek len hs hl (meant (transition_words trans.kind trans)) trans looped auto shape)
-      (rw (known.colour, known.route, known.named, known.found, known.readable) refl)
+      (rw (known.is.colour, known.is.route, known.is.named, known.is.found, known.is.readable) refl)
       (rw (inside, whole) refl))
   take_read (Colour value) looped seek len trans auto known moves =
       let shape = shape_of trans.kind trans.duration trans.curve trans.leftward moves.short moves.kept in

@@ -29,9 +29,9 @@ use Rattle.history_model.specs.commands.Options.{Options, OptionName, Loop, Tran
 use Rattle.history_model.specs.commands.Command.{play, load, load_bg}
 use Rattle.history_model.specs.commands.Producer.{played_length, producer_of, take_at, take_for, take_with}
 use Rattle.cmd_print.proofs.Numbers.{IsBetween, number_within-between}
-use Rattle.cmd_print.proofs.Known.{HasNoPart, IsKnownSpec, IsKnownTake, IsKnownTrans, IsKnown}
+use Rattle.cmd_print.proofs.Known.{HasNoPart, IsNamedClip, IsKnownSpec, IsKnownTake, IsKnownTrans, IsKnown}
 use Rattle.cmd_print.proofs.Asked.{bound, given_of, ok_injective, some_injective, IsKnownArea, area_at_known, place_known}
-use Rattle.cmd_print.proofs.Producers.{IsNamedClip, IsKnownProducer, producer_known}
+use Rattle.cmd_print.proofs.Producers.{IsKnownProducer, producer_known}
 
 -- a transition that is kept of its parts
 trans_known : (kind : Kind) (duration : ℕ) (leftward : Bool) → duration ≤ MAX_DURATION → IsKnownTrans (trans_of kind duration Linear leftward)
@@ -155,24 +155,19 @@ played_most None rest known some = record { low = some; high = omega arith }
 played_most (Some len) rest known some = record { low = omega (arith, known); high = omega arith }
 
 clip_by : (config : ConfigView) (media : List MediaNameView) (options : Options) (id frames : ℕ) (take : TakeView) (inside : Bool) → nat_lt options.seek frames ≡ inside → All IsMediaName media
-    → AreKnownOptions options → IsNamedClip media id frames
+    → AreKnownOptions options → (clip : MediaNameView) × IsNamedClip media id clip × (frames ≡ clip.frames)
     → cond inside (Some (take_for (Clip id) options (played_length options.length (frames - options.seek)))) None ≡ Some take → IsKnownTake config media take
 clip_by config media options id frames take true inside names known clip h =
     let below : options.seek < frames = ltb-true options.seek frames inside in
     let part = played_most options.length (frames - options.seek) known.len (omega arith) in
-    let few : clip.clip.frames ≤ MAX_FRAMES = frames_below media id clip.clip names clip.at in
+    let few : clip.0.frames ≤ MAX_FRAMES = frames_below media id clip.0 names clip.1.at in
     subst (IsKnownTake config media) (some_injective (take_for (Clip id) options (played_length options.length (frames - options.seek))) take h)
     (record {
       spec = record {
-        clip = clip.clip;
-        at = clip.at;
-        found = clip.found;
-        readable = clip.readable;
-        colour = clip.colour;
-        route = clip.route;
-        named = clip.named;
+        clip = clip.0;
+        is = clip.1;
         some = part.low;
-        part = omega (arith, part.high, clip.all, below);
+        part = omega (arith, part.high, clip.2, below);
         few = few;
       };
       trans = known.trans;
@@ -211,12 +206,7 @@ spec_kept : (config : ConfigView) (media : List MediaNameView) (spec : Spec) (ta
     → IsKnownSpec config media take spec → IsKnownSpec config media (record take { trans = trans; auto = auto }) spec
 spec_kept config media (Clip id) take trans auto known = record {
   clip = known.clip;
-  at = known.at;
-  found = known.found;
-  readable = known.readable;
-  colour = known.colour;
-  route = known.route;
-  named = known.named;
+  is = known.is;
   some = known.some;
   part = known.part;
   few = known.few;

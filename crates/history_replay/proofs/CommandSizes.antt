@@ -155,11 +155,11 @@ module _ (config : ConfigView) (few : length config.channels ≤ MAX_CHANNELS) w
     -- the clip that is played, by its name
     printed_clip : (id : ℕ) (take : TakeView) (known : IsKnownClip media id take) → IsPrintedName known.clip
     printed_clip id take known =
-        subst IsPrintedName (get_or_from_slice_get media id known.clip known.clip known.at)
-        (printed id known.clip (slice_get_within media id known.clip known.at))
+        subst IsPrintedName (get_or_from_slice_get media id known.clip known.clip known.is.at)
+        (printed id known.clip (slice_get_within media id known.clip known.is.at))
 
     name_of_clip : (id : ℕ) (take : TakeView) (known : IsKnownClip media id take) → clip_name_at media id ≡ known.clip.name
-    name_of_clip id take known = ap (λ (found : Option MediaNameView). option_map_or (λ (clip : MediaNameView). clip.name) found []) known.at
+    name_of_clip id take known = ap (λ (found : Option MediaNameView). option_map_or (λ (clip : MediaNameView). clip.name) found []) known.is.at
 
     length-clip : (id : ℕ) (take : TakeView) → IsKnownClip media id take → length (word_bytes (producer_word media (Clip id))) ≤ 3902
     length-clip id take known =

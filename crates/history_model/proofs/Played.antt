@@ -61,7 +61,8 @@ progress_said turn so_far meaning = record {
   output = so_far.output ++ reply_output turn.playout turn.tag (step_reply turn (Some (step_then so_far meaning)));
 }
 
-no_kill : (step : Step) → is_end step ≡ false → is_kill (Some step) ≡ false
+-- a step that ends nothing is no KILL
+pub no_kill : (step : Step) → is_end step ≡ false → is_kill (Some step) ≡ false
 no_kill (Local answer) goes = refl
 no_kill (Ask command) goes = refl
 no_kill (AskBatch commands) goes = refl

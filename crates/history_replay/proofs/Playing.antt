@@ -9,10 +9,11 @@ use Rattle.play_types.specs.declared.event.Event.TheVariants as event
 use Rattle.play_types.specs.declared.event.Tag.{Tag}
 use Rattle.play_types.specs.declared.parsed.Parsed.{Parsed}
 use Rattle.history_model.specs.sessions.Line.{Asks, line_meaning, asked_by}
-use Rattle.history_model.specs.sessions.Session.{Step, Local, Ask, AskBatch, KillServer, EndConnection, Skip, asks, is_end, line_steps, step_after, step_of_meaning}
+use Rattle.history_model.specs.sessions.Session.{Step, asks, is_end, line_steps, step_after, step_of_meaning}
 use Rattle.history_model.specs.scripts.Line.{Ticks, Said}
 use Rattle.history_model.specs.scripts.History.{Playout, PlayedLine, goes_on, is_kill, said_step, same_tag, script_events, step_events, stream_of, text_by, texts_of, turn_of}
 use Rattle.history_model.specs.scripts.Output.{reply_output, script_output, step_reply, tick_output, ticks_output}
+use Rattle.history_model.proofs.Played.{no_kill}
 use Rattle.history_model.proofs.Outputs.{goes_on-none, goes_on-snoc, script_events-none, script_events-snoc, script_output-none, script_output-snoc}
 use Rattle.history_model.proofs.Sides.{Side, Side-none, Side-other, Side-said, asked_of, asked_of-said, has_ended, has_ended-said, own_step, said_step-own}
 use Rattle.history_model.proofs.Streams.{stream_of-other}
@@ -74,14 +75,6 @@ each_tag P tag other true is own else_ = subst P (sym (same_tag-equal other tag 
 each_tag P tag other false is own else_ = else_ is
 
 -- a connection's line
-no_kill : (step : Step) → is_end step ≡ false → is_kill (Some step) ≡ false
-no_kill (Local answer) goes = refl
-no_kill (Ask command) goes = refl
-no_kill (AskBatch commands) goes = refl
-no_kill KillServer goes = goes
-no_kill EndConnection goes = refl
-no_kill Skip goes = refl
-
 module _ (playout : Playout) (before : List PlayedLine) (events : List Event) (output : List ℕ) (h : At playout before events output) where
   -- its step, where it is one
   pub step_said : (tag : Tag) (text : List ℕ) (step : Step) → list_any is_line_end text ≡ false → own_step playout tag before text ≡ step

@@ -5,11 +5,13 @@ use Rattle.std.specs.List.{list_all}
 use Rattle.std.specs.Char.{is_ascii_digit, is_ascii_hexdigit, digit_value, to_ascii_uppercase}
 use Rattle.std.specs.Fmt.{digit_glyph}
 use Rattle.std.specs.Str.Parse.{AllDigits, digits_value, digits_value_after}
+use Rattle.std.proofs.Math.Arith.{mod-mul}
+use Rattle.std.proofs.Math.Nat.{mul_comm}
 use Rattle.std.proofs.lemmas.Int.Digits.{digits_value-lt}
 use Rattle.std.proofs.lemmas.Bool.{and_parts, and_from}
 use Rattle.std.proofs.lemmas.Bool.Decides.{nat_tests}
 use Rattle.std.proofs.lemmas.Fmt.{digits_value-decimal, digits_decimal, decimal_nonempty}
-use Rattle.std.proofs.lemmas.Nat.{div-add-mod', mul-add-lt, mod-mul-add, mod_below}
+use Rattle.std.proofs.lemmas.Nat.{mod_below}
 use Rattle.std.proofs.lemmas.Grind.{pow_more}
 use Rattle.amcp_text.specs.Numbers.{are_digits, whole_number, within, number_within}
 use Rattle.amcp_text.proofs.Digits.{number_within-digits, within-both}
@@ -62,16 +64,8 @@ sixteen_pos : (k : ℕ) → 0 < 16 ^ k
 sixteen_pos zero = lit< tt
 sixteen_pos (suc k) = rw (power_next k) (omega (arith, sixteen_pos k))
 
-regroup : (a b p r : ℕ) → (a * 16 + b) * p + r ≡ a * (p * 16) + (b * p + r)
+regroup : (a b p r : ℕ) → (a * 16 + b) * p + r ≡ a * (16 * p) + (b * p + r)
 regroup a b p r = omega arith
-
--- one digit more from the last
-mod_next : (n p : ℕ) → 0 < p → n % (p * 16) ≡ (n / p) % 16 * p + n % p
-mod_next n p above =
-    let q = n / p in
-    let below = mul-add-lt (q % 16) p (n % p) 16 (mod_below q 16 (lit< tt)) (mod_below n p above) in
-    ap (λ (m : ℕ). m % (p * 16)) (sym (div-add-mod' n p) ∙ ap (λ (x : ℕ). x * p + n % p) (sym (div-add-mod' q 16)) ∙ regroup (q / 16) (q % 16) p (n % p))
-    ∙ mod-mul-add (q / 16) (p * 16) (q % 16 * p + n % p) below
 
 digit_value_glyph : (d : ℕ) → d < 16 → digit_value (digit_glyph true d) ≡ d
 digit_value_glyph d small = grind (arith, nat_tests)
@@ -84,7 +78,7 @@ value_of_capitals zero a n = omega arith
 value_of_capitals (suc k) a n =
     let d = n / 16 ^ k % 16 in
     let split : a * 16 ^ suc k + n % 16 ^ suc k ≡ (a * 16 + d) * 16 ^ k + n % 16 ^ k =
-    rw (power_next k, mod_next n (16 ^ k) (sixteen_pos k)) (sym (regroup a d (16 ^ k) (n % 16 ^ k))) in
+    rw (power_next k, mul_comm (16 ^ k) 16, mod-mul n {m = 16} {c = 16 ^ k} (lit< tt) (sixteen_pos k)) (sym (regroup a d (16 ^ k) (n % 16 ^ k))) in
     ap (λ (v : ℕ). digits_value_after 16 (a * 16 + v) (capital_digits k n)) (digit_value_glyph d (mod_below (n / 16 ^ k) 16 (lit< tt)))
     ∙ value_of_capitals k (a * 16 + d) n ∙ sym split
 

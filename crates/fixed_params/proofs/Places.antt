@@ -6,9 +6,10 @@ use Rattle.std.specs.Char.{is_ascii_digit}
 use Rattle.std.specs.Str.Parse.{digits_value}
 use Rattle.std.specs.Fmt.{decimal}
 use Rattle.std.proofs.lemmas.Fmt.{decimal_digit, decimal_step}
-use Rattle.std.proofs.Math.Nat.{mul-add-div_right, mul-add-mod_self_right, mod-eq_of_lt}
+use Rattle.std.proofs.Math.Arith.{mod-mul}
+use Rattle.std.proofs.Math.Nat.{mul_comm, mul-add-div_right, mul-add-mod_self_right, mod-eq_of_lt}
 use Rattle.std.proofs.lemmas.Bool.{and_parts, and_from, false_from_ne_true, eqb-true, le-leb}
-use Rattle.std.proofs.lemmas.Nat.{div-add-mod', mul-add-lt, mod-mul-add, div-mul-add, mod_below, div_below}
+use Rattle.std.proofs.lemmas.Nat.{div-add-mod', div-mul-add, mod_below, div_below}
 use Rattle.std.proofs.lemmas.Grind.{pow_more}
 use Rattle.std.proofs.lemmas.Str.Parse.{IsNumeralModel, numerals_by_weight}
 use Rattle.amcp_text.specs.Numbers.{are_digits}
@@ -44,23 +45,12 @@ are_digits-last_digits zero n = refl
 are_digits-last_digits (suc k) n =
     and_from _ _ (digit_byte ((n / 10 ^ k) % 10) (mod_below (n / 10 ^ k) 10 (lit< tt))) (are_digits-last_digits k n)
 
-regroup : (a b p r : ℕ) → (a * 10 + b) * p + r ≡ a * (p * 10) + (b * p + r)
-regroup a b p r = omega arith
-
--- one digit more from the last
-mod_next : (n p : ℕ) → 0 < p → n % (p * 10) ≡ (n / p) % 10 * p + n % p
-mod_next n p above =
-    let q = n / p in
-    let below = mul-add-lt (q % 10) p (n % p) 10 (mod_below q 10 (lit< tt)) (mod_below n p above) in
-    ap (λ (m : ℕ). m % (p * 10)) (sym (div-add-mod' n p) ∙ ap (λ (x : ℕ). x * p + n % p) (sym (div-add-mod' q 10)) ∙ regroup (q / 10) (q % 10) p (n % p))
-    ∙ mod-mul-add (q / 10) (p * 10) (q % 10 * p + n % p) below
-
 weighed-last_digits : (k n : ℕ) → weighed (last_digits k n) ≡ n % 10 ^ k
 unfolding last_digits
 weighed-last_digits zero n = omega arith
 weighed-last_digits (suc k) n =
     let digit : 48 + (n / 10 ^ k) % 10 - 48 ≡ (n / 10 ^ k) % 10 = omega arith in
-    rw (digit, length-last_digits k n, weighed-last_digits k n, power_next k, mod_next n (10 ^ k) (ten_pos k)) refl
+    rw (digit, length-last_digits k n, weighed-last_digits k n, power_next k, mul_comm (10 ^ k) 10, mod-mul n {m = 10} {c = 10 ^ k} (lit< tt) (ten_pos k)) refl
 
 pub digits_value-last_digits : (k n : ℕ) → digits_value 10 (last_digits k n) ≡ n % 10 ^ k
 digits_value-last_digits k n =

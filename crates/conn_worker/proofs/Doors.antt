@@ -1,5 +1,5 @@
 -- The work at a door, turn by turn.
-use Rattle.std.proofs.Common.{◌≡◌, ℕ, ◌+◌, ◌-◌, ◌≤◌, List, [], ◌∷◌, ◌++◌, refl, sym, ap, subst, ◌∙◌, arith, inl, inr}
+use Rattle.std.proofs.Common.{◌≡◌, ℕ, ◌+◌, ◌-◌, ◌<◌, ◌≤◌, List, [], ◌∷◌, ◌++◌, refl, sym, ap, subst, ◌∙◌, arith, inl, inr}
 use Rattle.conn_worker.specs.declared.work_end.TheConstants.{MAX_SESSIONS}
 use Rattle.std.specs.Prelude.{Some, None, Result, Ok, Err}
 use Rattle.std.proofs.lemmas.List.Sums.{sum_by-cons, sum_by_push}
@@ -104,15 +104,15 @@ module _ {L : Type 0} where
   -- a link came and was given back, and the history holds a stop
   pub turn_stopped : (setting : Setting L) (served : ℕ) (came : SinkState) (end : WorkEnd) (before middle after : AtDoor L)
       → stop_at before.pass.seen ≡ None → IsNewSink came → middle.pass ≡ before.pass → middle.door ≡ after_came before.door
-      → GivesBack setting (served + 1) came (Err end) middle after
+      → GivesBack setting (served + 1) came (Err end) middle after → served < MAX_SESSIONS
       → TakesTurn setting served (Err end) before after
-  turn_stopped setting served came Closed before middle after running new same door gives = absurd gives.pass
-  turn_stopped setting served came (Ended at) before middle after running new same door gives =
+  turn_stopped setting served came Closed before middle after running new same door gives few = absurd gives.pass
+  turn_stopped setting served came (Ended at) before middle after running new same door gives few =
       let is : IsServed setting (served + 1) gives.visit before after = served_at setting served came (Err (Ended at)) before middle after running new same door gives in
       let number : served + 1 ≡ 1 + served = omega arith in
-      inr (gives.visit, (subst (λ (n : ℕ). IsServed setting n gives.visit before after) number is, gives.pass))
-  turn_stopped setting served came DoorFault before middle after running new same door gives = absurd gives.pass
-  turn_stopped setting served came SessionsOver before middle after running new same door gives = absurd gives.pass
+      inr (omega (arith, few), (gives.visit, (subst (λ (n : ℕ). IsServed setting n gives.visit before after) number is, gives.pass)))
+  turn_stopped setting served came DoorFault before middle after running new same door gives few = absurd gives.pass
+  turn_stopped setting served came SessionsOver before middle after running new same door gives few = absurd gives.pass
 
   -- the door had no link yet
   pub turn_waited : (setting : Setting L) (served : ℕ) (done : Unit {0}) (before after : AtDoor L) → LooksAtStage (Ok done) before.pass after.pass

@@ -1,5 +1,5 @@
 -- What the work at a door did: link after link is served, each as the next session.
-use Rattle.std.specs.Prelude.{◌≡◌, ◌⊎◌, ℕ, ◌+◌, Some, None, List, [], ◌∷◌, sum_by}
+use Rattle.std.specs.Prelude.{◌≡◌, ◌⊎◌, ℕ, ◌+◌, ◌≤◌, Some, None, List, [], ◌∷◌, sum_by}
 use Rattle.play_types.specs.Config.{ConfigView}
 use Rattle.play_types.specs.History.{stop_at}
 use Rattle.play_types.specs.Media.{MediaNameView}
@@ -111,7 +111,8 @@ module _ {L : Type 0} where
   abbrev pub IsStopFound : Setting L → ℕ → ℕ → AtDoor L → AtDoor L → Type 0
   IsStopFound setting number at before after =
       (FindsEnd at before.pass after.pass × (after.door ≡ after_none_came before.door))
-      ⊎ ((visit : Visit L) × (IsServed setting number visit before after × StopsAfter at visit.end visit.pass after.pass))
+      ⊎ ((number ≤ MAX_SESSIONS)
+      × ((visit : Visit L) × (IsServed setting number visit before after × StopsAfter at visit.end visit.pass after.pass)))
 
   -- the door failed, and the worker stopped the stage with tag 0.0 unless a stop had come before
   pub record IsDoorFault (before after : AtDoor L) : Type 0 where
@@ -134,9 +135,10 @@ module _ {L : Type 0} where
   EndsWork setting number SessionsOver before after = IsSessionsOver number before after
 
   -- what the work at a door did, from the pass and the door before it to those after it: links were served as the sessions 1, 2
-  -- and so on, and then it ended
+  -- and so on, no more than there are numbers, and then it ended
   pub record HasWorked (setting : Setting L) (end : WorkEnd) (before after : AtDoor L) : Type 0 where
     pub turns : List (Turn L)
     pub between : AtDoor L
     pub takes : TakesAll setting 1 turns before between
+    pub few : number_came turns ≤ MAX_SESSIONS
     pub ending : EndsWork setting (1 + number_came turns) end between after

@@ -18,7 +18,7 @@ returns-in-Err-clause-takes g c =
     let middle : AtDoor g.row.D-Line.Denot = record { pass = c.args.pass.now; door = g.D.Listener.state c.next.new.self } in
     let after : AtDoor g.row.D-Line.Denot = record { pass = c.serve.new.pass; door = g.D.Listener.state c.serve.new.door } in
     turn_stopped (setting_in c.args.self.now c.args.pass.now.number g.D.Line.Sink.state) c.args.served (g.D.Line.Sink.state c.in-Came.line) c.in-Err.end
-    before middle after c.requires.running c.in-Came.ensures.fresh refl c.in-Came.ensures.arrives c.in-Err.ensures.gives_back
+    before middle after c.requires.running c.in-Came.ensures.fresh refl c.in-Came.ensures.arrives c.in-Err.ensures.gives_back c.requires.served
 
 pub returns-in-Failed-clause-takes : goal.returns-in-Failed-clause-takes
 returns-in-Failed-clause-takes g c =

@@ -164,6 +164,7 @@ module _ {L : Type 0} where
           faults = worked.faults;
           mark = worked.mark;
           asked = asked_of end worked.links after.pass.seen before.door after.door worked.asked worked.ending;
+          few = omega (arith, length_visits worked.links, worked.few);
           ending = ends_by end worked.links after.pass.seen history of.seen worked.ending;
         };
         own = whole;

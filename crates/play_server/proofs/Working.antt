@@ -176,6 +176,7 @@ module _ {L : Type 0} where
     pub faults : after.door.faults ≡ faults_after end before.door.faults
     pub mark : after.door.mark ≡ before.door.mark
     pub asked : UnlessOver end (WasAsked (run_of links end) before.door after.door)
+    pub few : number + length links ≤ MAX_SESSIONS + 1
     pub ending : EndsFrom number after.pass.seen links end
 
   -- the links that were given back, in two parts
@@ -247,6 +248,7 @@ module _ {L : Type 0} where
         faults = worked.faults ∙ ap (faults_after end) door.faults;
         mark = worked.mark ∙ door.mark;
         asked = unless_over end (WasAsked (run_of (x ∷ worked.links) end) before.door after.door) (inl (omega arith));
+        few = omega (arith, worked.few);
         ending = ends_more number after.pass.seen x worked.links end worked.ending;
       }
 
@@ -276,6 +278,7 @@ module _ {L : Type 0} where
         mark = worked.mark ∙ door.mark;
         asked = unless_over_then end (WasAsked (run_of worked.links end) between.door after.door) (WasAsked (run_of worked.links end) before.door after.door)
             (asked_later (run_of worked.links end) before.door between.door after.door door.idle) worked.asked;
+        few = worked.few;
         ending = worked.ending;
       }
 
@@ -295,9 +298,9 @@ module _ {L : Type 0} where
   }
 
   -- the work ended, where the next session would have had this number
-  work_ended : (setting : Setting L) (number : ℕ) (end : WorkEnd) (before after : AtDoor L) → EndsWork setting number end before after
+  work_ended : (setting : Setting L) (number : ℕ) (end : WorkEnd) (before after : AtDoor L) → number ≤ MAX_SESSIONS + 1 → EndsWork setting number end before after
       → Worked setting number end before after
-  work_ended setting number Closed before after closed = record {
+  work_ended setting number Closed before after few closed = record {
     links = [];
     pass = pass_same before.pass after.pass closed.pass;
     ends = λ _. ap (λ (p : PassView). p.ends) closed.pass;
@@ -308,9 +311,10 @@ module _ {L : Type 0} where
     faults = ap (λ (d : ListenerState L). d.faults) closed.door;
     mark = ap (λ (d : ListenerState L). d.mark) closed.door;
     asked = inr (inl refl);
+    few = omega (arith, few);
     ending = tt;
   }
-  work_ended setting number (Ended at) before after (inl (looks, door)) = record {
+  work_ended setting number (Ended at) before after few (inl (looks, door)) = record {
     links = [];
     pass = pass_looked _ before.pass after.pass looks;
     ends = λ _. looks_ends _ before.pass after.pass looks;
@@ -321,9 +325,10 @@ module _ {L : Type 0} where
     faults = ap (λ (d : ListenerState L). d.faults) door;
     mark = ap (λ (d : ListenerState L). d.mark) door;
     asked = inr (inr (inr (subst (Rose before.door.idle) (sym (ap (λ (d : ListenerState L). d.idle) door)) (omega arith))));
+    few = omega (arith, few);
     ending = looked_stop at before.pass after.pass looks;
   }
-  work_ended setting number (Ended at) before after (inr (visit, (is_served, stops))) =
+  work_ended setting number (Ended at) before after few (inr (below, (visit, (is_served, stops)))) =
       let served : ServedLink setting number visit before after = served_link setting number visit before after is_served in
       let x = served.x in
       let events = link_events setting number x in
@@ -346,9 +351,10 @@ module _ {L : Type 0} where
         faults = served.door.faults;
         mark = served.door.mark;
         asked = inl (omega arith);
+        few = omega (arith, below);
         ending = seen.stop;
       }
-  work_ended setting number DoorFault before after fault = record {
+  work_ended setting number DoorFault before after few fault = record {
     links = [];
     pass = ⊎_elim
         (λ (made : (at : ℕ) × Adds before.pass (Stop (tag_of 0 0)) (IsStopped at) after.pass). pass_stopped _ before.pass after.pass made.1)
@@ -362,9 +368,10 @@ module _ {L : Type 0} where
     faults = ap (λ (d : ListenerState L). d.faults) fault.door;
     mark = ap (λ (d : ListenerState L). d.mark) fault.door;
     asked = inr (inr (inl refl));
+    few = omega (arith, few);
     ending = tt;
   }
-  work_ended setting number SessionsOver before after over = record {
+  work_ended setting number SessionsOver before after few over = record {
     links = [];
     pass = pass_same before.pass after.pass (ap (λ (a : AtDoor L). a.pass) over.same);
     ends = λ _. ap (λ (a : AtDoor L). a.pass.ends) over.same;
@@ -375,33 +382,35 @@ module _ {L : Type 0} where
     faults = ap (λ (a : AtDoor L). a.door.faults) over.same;
     mark = ap (λ (a : AtDoor L). a.door.mark) over.same;
     asked = tt;
+    few = omega (arith, few);
     ending = omega (arith, over.all);
   }
 
   -- the turns of a door, and the end
   pub worked_from : (setting : Setting L) (number : ℕ) (turns : List (Turn L)) (end : WorkEnd) (before between after : AtDoor L)
-      → TakesAll setting number turns before between → EndsWork setting (number + number_came turns) end between after
+      → number + number_came turns ≤ MAX_SESSIONS + 1 → TakesAll setting number turns before between → EndsWork setting (number + number_came turns) end between after
       → Worked setting number end before after
-  worked_from setting number [] end before between after same ends =
+  worked_from setting number [] end before between after few same ends =
       let none : number + number_came {L = L} [] ≡ number = omega arith in
-      work_ended setting number end before after
+      work_ended setting number end before after (subst (λ (n : ℕ). n ≤ MAX_SESSIONS + 1) none few)
       (subst (λ (a : AtDoor L). EndsWork setting number end a after) same (subst (λ (n : ℕ). EndsWork setting n end between after) none ends))
-  worked_from setting number (Came visit ∷ turns) end before between after (middle, (takes, rest)) ends =
+  worked_from setting number (Came visit ∷ turns) end before between after few (middle, (takes, rest)) ends =
       let counted : number + number_came (Came visit ∷ turns) ≡ suc number + number_came turns = omega (arith, sum_by-cons links_come (Came visit) turns) in
       let next : number + 1 ≡ suc number = omega arith in
       let rest' : TakesAll setting (suc number) turns middle between = subst (λ (n : ℕ). TakesAll setting n turns middle between) next rest in
       let worked : Worked setting (suc number) end middle after =
-      worked_from setting (suc number) turns end middle between after rest' (subst (λ (n : ℕ). EndsWork setting n end between after) counted ends) in
+      worked_from setting (suc number) turns end middle between after (subst (λ (n : ℕ). n ≤ MAX_SESSIONS + 1) counted few) rest' (subst (λ (n : ℕ). EndsWork setting n end between after) counted ends) in
       served_first setting number end visit before middle after
       (served_link setting number visit before middle takes.0) (goes_on visit.end visit.pass middle.pass takes.1) worked
-  worked_from setting number (NoneYet ∷ turns) end before between after (middle, (takes, rest)) ends =
+  worked_from setting number (NoneYet ∷ turns) end before between after few (middle, (takes, rest)) ends =
       let none : Turn L = NoneYet in
       let counted : number + number_came (NoneYet ∷ turns) ≡ number + number_came turns = omega (arith, sum_by-cons links_come none turns) in
       let same : number + 0 ≡ number = omega arith in
       let rest' : TakesAll setting number turns middle between = subst (λ (n : ℕ). TakesAll setting n turns middle between) same rest in
       let worked : Worked setting number end middle after =
-      worked_from setting number turns end middle between after rest' (subst (λ (n : ℕ). EndsWork setting n end between after) counted ends) in
+      worked_from setting number turns end middle between after (subst (λ (n : ℕ). n ≤ MAX_SESSIONS + 1) counted few) rest' (subst (λ (n : ℕ). EndsWork setting n end between after) counted ends) in
       waited_first setting number end before middle after takes.0 takes.1 worked
 
   pub worked_of : (setting : Setting L) (end : WorkEnd) (before after : AtDoor L) → HasWorked setting end before after → Worked setting 1 end before after
-  worked_of setting end before after h = worked_from setting 1 h.turns end before h.between after h.takes h.ending
+  worked_of setting end before after h =
+      worked_from setting 1 h.turns end before h.between after (omega (arith, h.few)) h.takes h.ending

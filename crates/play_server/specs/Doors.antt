@@ -74,7 +74,7 @@ module _ {L : Type 0} where
   EndsByHistory history links SessionsOver = length links ≡ MAX_SESSIONS
 
   -- the work at a door, from the door before it to the door after it. Each link that came was served as the session of its place,
-  -- from 1 on, and was given back
+  -- from 1 on, and was given back. There are no more links than numbers of sessions
   pub record HasServed (setting : Setting L) (history : List Event) (run : DoorRun L) (before after : ListenerState L) : Type 0 where
     pub links : EachFrom (IsExplainedLink setting history) 1 run.links
     pub last : OnlyLastIsStopped run.links
@@ -83,6 +83,7 @@ module _ {L : Type 0} where
     pub faults : after.faults ≡ faults_after run.end before.faults
     pub mark : after.mark ≡ before.mark
     pub asked : WasAsked run before after
+    pub few : length run.links ≤ MAX_SESSIONS
     pub ending : EndsByHistory history run.links run.end
 
   -- the tag is that of a link that one of these doors was given back. The first door is that of the worker of this number

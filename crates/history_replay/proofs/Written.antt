@@ -72,7 +72,7 @@ module _ (playout : Playout) where
   verdict-written one OutOfMemory is = All-nil (IsWritten playout)
   verdict-written one Taken is = All-cons (IsWritten playout) one [] is (All-nil (IsWritten playout))
 
-  step-written : (turn : Turn) (step : Step) → IsConnection turn.tag → IsWrittenStep playout step → All (IsWritten playout) (step_events turn (Some step))
+  pub step-written : (turn : Turn) (step : Step) → IsConnection turn.tag → IsWrittenStep playout step → All (IsWritten playout) (step_events turn (Some step))
   step-written turn (Local answer) named is = All-nil (IsWritten playout)
   step-written turn (Ask command) named is = verdict-written (event.Do turn.tag command) (verdict turn 1) (named, is)
   step-written turn (AskBatch commands) named is = verdict-written (event.Batch turn.tag commands) (verdict turn (length commands)) (named, is.0, is.1)

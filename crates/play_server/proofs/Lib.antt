@@ -7,6 +7,7 @@ mod Going
 pub mod OnLiterals
 pub mod Places
 mod Programs
+mod Replayed
 mod Running
 mod Said
 mod Statuses

@@ -43,7 +43,8 @@ steps_tagged service [] = tt
 steps_tagged service (one ∷ more) =
     all_append (IsTagged service.tag) (events_of service one) (flat_map (events_of service) more) (step_tagged service one one.step) (steps_tagged service more)
 
-same_tag-refl : (tag : Tag) → same_tag tag tag ≡ true
+-- a tag is the same as itself
+pub same_tag-refl : (tag : Tag) → same_tag tag tag ≡ true
 same_tag-refl tag = rw (eq-eqb tag.worker tag.worker refl, eq-eqb tag.session tag.session refl) refl
 
 tagged_has : (tag : Tag) (event : Event) → IsTagged tag event → has_tag tag event ≡ true

@@ -5,6 +5,7 @@ pub mod MemSite
 pub mod Links
 pub mod Doors
 pub mod Run
+pub mod Replay
 pub mod Program
 pub mod Statuses
 pub mod Worked

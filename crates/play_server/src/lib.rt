@@ -11,6 +11,7 @@ pub mod examples;
 mod floor;
 mod history;
 mod kept;
+pub mod laws;
 mod mem_site;
 mod plain_site;
 mod planned_faults;

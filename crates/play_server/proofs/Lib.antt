@@ -1,3 +1,4 @@
+mod Answered
 mod Beginning
 mod Copying
 mod Explaining
@@ -10,8 +11,10 @@ mod Programs
 mod Replayed
 mod Running
 mod Said
+mod Shown
 mod Statuses
 mod Tags
 mod Unused
 mod Working
 mod Writing
+mod Written

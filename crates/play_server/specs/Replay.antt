@@ -1,11 +1,63 @@
--- What a script is played on that has the text of a run.
-use Rattle.std.specs.Prelude.{Bool}
+-- How what a run wrote is played again as a script.
+use Rattle.std.specs.Prelude.{◌≡◌, ℕ, ◌+◌, ◌*◌, Bool, Some, List, [], ◌∷◌, ◌++◌, drop, flat_map, take}
+use mathlib.Core.List.{IsPrefix}
+use Rattle.play_types.specs.History.{ticks}
+use Rattle.play_types.specs.declared.event.Event.{Event}
+use Rattle.play_types.specs.declared.event.Event.TheVariants.{Do, Batch, Tick, Stop}
+use Rattle.play_types.specs.declared.reply.Name.TheVariants as name
+use Rattle.play_types.specs.declared.reply.Reply.TheVariants as reply
 use Rattle.clip_format.specs.Table.{media_names}
 use Rattle.play_scene.specs.Picture.{clips_of}
-use Rattle.history_model.specs.scripts.History.{Playout}
+use Rattle.history_model.specs.pictures.Media.{size}
+use Rattle.history_model.specs.scripts.History.{Playout, setup_of}
+use Rattle.history_model.specs.scripts.Output.{channel_output, reply_output}
+use Rattle.history_model.specs.stage.Answer.{channel_numbers}
+use Rattle.history_replay.specs.ReplayOutput.{events_output, history_output, waiting_output}
+use Rattle.play_ticker.specs.Frames.{frames_text, raw_frame}
+use Rattle.conn_worker.specs.Followed.{Followed, Service, reply_of}
 use Rattle.play_server.specs.Run.{Program}
 
 -- a script on the configuration and the clips of a run, with its frames in hexadecimal or as digests
 abbrev pub playout_of : Program → Bool → Playout
 playout_of program digests =
     record { config = program.config; names = media_names program.media; clips = clips_of program.media; digests = digests }
+
+-- what is written for an event before the reply to it: of a batch the replies to its lines before COMMIT
+abbrev pub opening_output : Playout → Event → List ℕ
+opening_output playout (Do tag cmd) = []
+opening_output playout (Batch tag cmds) =
+    reply_output playout tag (Some (reply.Done name.Begin)) ++ flat_map (waiting_output playout tag) cmds
+opening_output playout Tick = []
+opening_output playout (Stop tag) = []
+
+-- a step of a connection made this event of a history. A replay writes for the event the reply that the step had, after what it
+-- writes for the events before
+pub record IsAnsweredAgain (playout : Playout) (service : Service) (history : List Event) (one : Followed) (event : Event) : Type 0 where
+  pub later : List Event
+  pub whole : history ≡ one.found ++ event ∷ later
+  pub output : history_output playout history
+      ≡ history_output playout one.found
+      ++ (opening_output playout event ++ reply_output playout service.tag (reply_of service one))
+      ++ events_output playout (one.found ++ event ∷ []) later
+
+-- what is written for a channel at the tick of this number, by the bytes of its frame: those of its picture, and then those of its sound
+abbrev pub frame_output : Playout → ℕ → ℕ → List ℕ → List ℕ
+frame_output playout tick channel bytes =
+    let picture = 4 * (size (setup_of playout) channel).width * (size (setup_of playout) channel).height in
+    channel_output playout tick channel (take picture bytes) (drop picture bytes)
+
+-- what is written for the tick after these events, by the bytes of the frames
+abbrev pub raw_output : Playout → List Event → List ℕ
+raw_output playout events =
+    flat_map
+    (λ channel. frame_output playout (ticks events + 1) channel (raw_frame (setup_of playout) events channel))
+    (channel_numbers (setup_of playout))
+
+-- a history has a tick between these events. A replay writes for the tick the frames that the outputs took at it, after what it
+-- writes for the events before
+pub record IsShownAgain (playout : Playout) (history before later : List Event) : Type 0 where
+  pub output : history_output playout history
+      ≡ history_output playout before ++ raw_output playout before ++ events_output playout (before ++ Tick ∷ []) later
+  pub frames : (channel : ℕ) → IsPrefix
+      (frames_text (setup_of playout) before channel ++ raw_frame (setup_of playout) before channel)
+      (frames_text (setup_of playout) history channel)

@@ -1,5 +1,7 @@
 //! Laws of runs. Each is the contract of a function that does nothing.
-ghost use Rattle.std.specs.Prelude.{◌≡◌, ℕ, Bool, Some, List, length};
+ghost use Rattle.std.specs.Prelude.{◌≡◌, ℕ, ◌≤◌, Bool, Some, List, [], ◌∷◌, ◌++◌, All, length};
+ghost use Rattle.play_types.specs.declared.event.Event.{Event};
+ghost use Rattle.play_types.specs.declared.event.Event.TheVariants.{Tick};
 ghost use Rattle.play_outside.specs.Fresh.{IsNewSink};
 ghost use Rattle.play_outside.specs.declared.devices.Devices.{Devices};
 ghost use Rattle.play_outside.specs.declared.sink.Sent.TheVariants as sent;
@@ -10,8 +12,12 @@ ghost use Rattle.history_model.specs.scripts.Output.{script_output};
 ghost use Rattle.history_model.specs.text.History.{history_text};
 ghost use Rattle.history_replay.specs.Replay.{IsPlayout, IsReplayable, script_of};
 ghost use Rattle.history_replay.specs.ReplayOutput.{history_output};
-ghost use Rattle.play_server.specs.Replay.{playout_of};
-ghost use Rattle.play_server.specs.Run.{HasRun, Program};
+ghost use Rattle.conn_worker.specs.Explained.{covered};
+ghost use Rattle.conn_worker.specs.Followed.{events_of};
+ghost use Rattle.conn_worker.specs.Work.{Visit, service_of};
+ghost use Rattle.play_server.specs.Links.{IsExplainedLink};
+ghost use Rattle.play_server.specs.Replay.{IsAnsweredAgain, IsShownAgain, playout_of};
+ghost use Rattle.play_server.specs.Run.{HasRun, Program, setting_of};
 ghost use Rattle.play_server.specs.declared.served.ServeEnd.{ServeEnd};
 
 use play_outside::{Clock, Listener, Sink};
@@ -43,4 +49,26 @@ pub fn runs_are_played_again<C: Clock, D: Listener, O: Sink>()
         (played : List PlayedLine) → lines_played played ≡ script_of (history_text (media_names program.media) run.history) →
         IsWithoutWant (script_output (playout_of program digests) played) →
         script_output (playout_of program digests) played ≡ history_output (playout_of program digests) run.history }
+{}
+
+/// The replies of a run are written again where its text is played.
+///
+/// What is written for a history has, for each step of a link that made an event, the reply that the step had, after what is
+/// written for the events before. Where the event is a batch this is the reply to COMMIT; before it stand those to BEGIN and to
+/// the commands of the batch.
+pub fn answers_are_written_again<D: Listener>()
+    ensures { (program : Program) (worker session : ℕ) (history : List Event) (visit : Visit D.Line) (digests : Bool)
+        (link : IsExplainedLink (setting_of program D.Line.state worker) history session visit) → 1 ≤ worker →
+        All (λ one. (event : Event) → events_of (service_of (setting_of program D.Line.state worker) session) one ≡ event ∷ [] →
+        IsAnsweredAgain (playout_of program digests) (service_of (setting_of program D.Line.state worker) session) history one event)
+        (covered link.explained.talk) }
+{}
+
+/// The frames of a run are written again where its text is played.
+///
+/// What is written for a history has, for each tick, the frames of all channels after what is written for the events before. Their
+/// bytes are those that the outputs take at this tick.
+pub fn frames_are_written_again()
+    ensures { (program : Program) (digests : Bool) (history before later : List Event) → history ≡ before ++ Tick ∷ later →
+        IsShownAgain (playout_of program digests) history before later }
 {}

@@ -14,3 +14,5 @@ pub mod Histories
 pub mod Marked
 pub mod Written
 pub mod Named
+pub mod Opened
+pub mod Openings

@@ -6,11 +6,13 @@ use Rattle.play_types.specs.declared.event.Event.{Event}
 use Rattle.play_types.specs.declared.event.Event.TheVariants.{Do, Batch, Tick, Stop}
 use Rattle.play_types.specs.declared.event.Tag.{Tag}
 use Rattle.play_types.specs.declared.reply.Name.TheVariants as name
+use Rattle.play_types.specs.declared.reply.Reply.{Reply}
 use Rattle.play_types.specs.declared.reply.Reply.TheVariants as reply
 use Rattle.history_model.specs.stage.Acts.{is_refused}
 use Rattle.history_model.specs.stage.Answer.{command_answer, outcome_of}
 use Rattle.history_model.specs.scripts.History.{Playout, same_tag, server, setup_of}
 use Rattle.history_model.specs.scripts.Output.{reply_output, tick_output}
+use Rattle.history_model.specs.sessions.Session.{Step, Local, Ask, AskBatch, KillServer, EndConnection, Skip}
 
 -- a command for a batch is told that it waits
 abbrev pub waiting_output : Playout → Tag → Cmd → List ℕ
@@ -37,3 +39,23 @@ events_output playout before (event ∷ events) =
 -- what is written for a history
 unfoldable pub history_output : Playout → List Event → List ℕ
 history_output playout history = events_output playout [] history
+
+-- what is written for a reply 202
+abbrev pub done_output : Playout → Tag → Reply → List ℕ
+done_output playout tag (reply.Done command) = reply_output playout tag (Some (reply.Done command))
+done_output playout tag (reply.Value micros) = []
+done_output playout tag (reply.Info statuses) = []
+done_output playout tag reply.Cls = []
+done_output playout tag reply.Version = []
+done_output playout tag (reply.Unknown line) = []
+done_output playout tag (reply.Refused code command) = []
+done_output playout tag reply.NoMemory = []
+
+-- what is written for a step that is answered 202 without the stage, as BEGIN and the commands of a batch are
+abbrev pub local_output : Playout → Tag → Step → List ℕ
+local_output playout tag (Local answer) = done_output playout tag answer
+local_output playout tag (Ask command) = []
+local_output playout tag (AskBatch commands) = []
+local_output playout tag KillServer = []
+local_output playout tag EndConnection = []
+local_output playout tag Skip = []

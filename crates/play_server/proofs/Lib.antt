@@ -6,6 +6,7 @@ mod Failing
 mod Finishing
 mod Going
 pub mod OnLiterals
+mod Openings
 pub mod Places
 mod Programs
 mod Replayed

@@ -12,7 +12,7 @@ use Rattle.history_model.specs.pictures.Media.{size}
 use Rattle.history_model.specs.scripts.History.{Playout, setup_of}
 use Rattle.history_model.specs.scripts.Output.{channel_output, reply_output}
 use Rattle.history_model.specs.stage.Answer.{channel_numbers}
-use Rattle.history_replay.specs.ReplayOutput.{events_output, history_output, waiting_output}
+use Rattle.history_replay.specs.ReplayOutput.{events_output, history_output, local_output, waiting_output}
 use Rattle.play_ticker.specs.Frames.{frames_text, raw_frame}
 use Rattle.conn_worker.specs.Followed.{Followed, Service, reply_of}
 use Rattle.play_server.specs.Run.{Program}
@@ -39,6 +39,14 @@ pub record IsAnsweredAgain (playout : Playout) (service : Service) (history : Li
       ≡ history_output playout one.found
       ++ (opening_output playout event ++ reply_output playout service.tag (reply_of service one))
       ++ events_output playout (one.found ++ event ∷ []) later
+
+-- a step of a connection made this event after these other steps. A replay writes before the reply to it what the last of these were
+-- answered with 202 without the stage
+pub record IsOpenedAgain (playout : Playout) (service : Service) (before : List Followed) (event : Event) : Type 0 where
+  pub earlier : List Followed
+  pub since : List Followed
+  pub whole : before ≡ earlier ++ since
+  pub output : opening_output playout event ≡ flat_map (λ (one : Followed). local_output playout service.tag one.step) since
 
 -- what is written for a channel at the tick of this number, by the bytes of its frame: those of its picture, and then those of its sound
 abbrev pub frame_output : Playout → ℕ → ℕ → List ℕ → List ℕ

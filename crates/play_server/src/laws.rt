@@ -13,10 +13,10 @@ ghost use Rattle.history_model.specs.text.History.{history_text};
 ghost use Rattle.history_replay.specs.Replay.{IsPlayout, IsReplayable, script_of};
 ghost use Rattle.history_replay.specs.ReplayOutput.{history_output};
 ghost use Rattle.conn_worker.specs.Explained.{covered};
-ghost use Rattle.conn_worker.specs.Followed.{events_of};
+ghost use Rattle.conn_worker.specs.Followed.{Followed, events_of};
 ghost use Rattle.conn_worker.specs.Work.{Visit, service_of};
 ghost use Rattle.play_server.specs.Links.{IsExplainedLink};
-ghost use Rattle.play_server.specs.Replay.{IsAnsweredAgain, IsShownAgain, playout_of};
+ghost use Rattle.play_server.specs.Replay.{IsAnsweredAgain, IsOpenedAgain, IsShownAgain, playout_of};
 ghost use Rattle.play_server.specs.Run.{HasRun, Program, setting_of};
 ghost use Rattle.play_server.specs.declared.served.ServeEnd.{ServeEnd};
 
@@ -54,14 +54,19 @@ pub fn runs_are_played_again<C: Clock, D: Listener, O: Sink>()
 /// The replies of a run are written again where its text is played.
 ///
 /// What is written for a history has, for each step of a link that made an event, the reply that the step had, after what is
-/// written for the events before. Where the event is a batch this is the reply to COMMIT; before it stand those to BEGIN and to
-/// the commands of the batch.
+/// written for the events before. Where the event is a batch this is the reply to COMMIT; before it stand those that the client
+/// had to BEGIN and to the commands of the batch.
 pub fn answers_are_written_again<D: Listener>()
-    ensures { (program : Program) (worker session : ℕ) (history : List Event) (visit : Visit D.Line) (digests : Bool)
+    ensures answers { (program : Program) (worker session : ℕ) (history : List Event) (visit : Visit D.Line) (digests : Bool)
         (link : IsExplainedLink (setting_of program D.Line.state worker) history session visit) → 1 ≤ worker →
         All (λ one. (event : Event) → events_of (service_of (setting_of program D.Line.state worker) session) one ≡ event ∷ [] →
         IsAnsweredAgain (playout_of program digests) (service_of (setting_of program D.Line.state worker) session) history one event)
         (covered link.explained.talk) }
+    ensures openings { (program : Program) (worker session : ℕ) (history : List Event) (visit : Visit D.Line) (digests : Bool)
+        (link : IsExplainedLink (setting_of program D.Line.state worker) history session visit) →
+        (before later : List Followed) (one : Followed) (event : Event) → covered link.explained.talk ≡ before ++ one ∷ later →
+        events_of (service_of (setting_of program D.Line.state worker) session) one ≡ event ∷ [] →
+        IsOpenedAgain (playout_of program digests) (service_of (setting_of program D.Line.state worker) session) before event }
 {}
 
 /// The frames of a run are written again where its text is played.

@@ -1,26 +1,22 @@
 -- A run by its one history, from what its threads did.
-use Rattle.std.proofs.Common.{◌≡◌, ◌⊎◌, ℕ, zero, suc, ◌+◌, ◌<◌, ◌≤◌, ◌==◌, ◌&&◌, ◌||◌, Bool, true, false, true≢false, List, [], ◌∷◌, ◌++◌, length, map, refl, sym, ap, subst, ◌∙◌, arith, inl, inr}
-use Rattle.std.specs.Prelude.{All, Option, None, Some, option_map, slice_index_or}
+use Rattle.std.proofs.Common.{◌≡◌, ◌⊎◌, ℕ, zero, suc, ◌+◌, ◌<◌, ◌≤◌, ◌||◌, Bool, true, false, true≢false, List, [], ◌∷◌, ◌++◌, length, map, refl, sym, ap, subst, ◌∙◌, arith, inl, inr}
+use Rattle.std.specs.Prelude.{All, Some, slice_index_or}
 use Rattle.std.specs.List.{list_any, range_with_len}
-use Rattle.std.proofs.Math.Bool.{or-true}
-use Rattle.std.proofs.lemmas.Bool.Decides.{nat_tests}
 use mathlib.Core.Option.{some, some-injective, some-ne-none}
 use mathlib.Core.List.{IsPrefix}
 use lib.ListN.{get_elem?}
 use Rattle.play_types.specs.Config.{ChannelView}
-use Rattle.play_types.specs.History.{IsHistory, held, stop_at, ticks}
-use Rattle.play_types.specs.Scene.{IsConfigured}
+use Rattle.play_types.specs.History.{held, stop_at, ticks}
 use Rattle.play_types.specs.declared.event.Event.{Event}
 use Rattle.play_types.specs.declared.event.Event.TheVariants.{Do, Batch, Tick, Stop}
 use Rattle.play_types.specs.declared.event.Tag.{Tag}
-use Rattle.play_types.proofs.Histories.{stop_at-other}
-use Rattle.play_outside.specs.SinkState.{SinkState, after_taking}
-use Rattle.play_outside.specs.Sink.{Fails, Sends}
+use Rattle.play_outside.specs.SinkState.{SinkState}
+use Rattle.play_outside.specs.Sink.{Sends}
 use Rattle.play_outside.specs.declared.devices.Devices.{Devices}
 use Rattle.play_outside.specs.declared.sink.Sent.{Sent}
 use Rattle.clip_format.specs.Table.{media_names}
 use Rattle.history_model.specs.pictures.Media.{Setup}
-use Rattle.history_model.specs.scripts.History.{channel_size, server}
+use Rattle.history_model.specs.scripts.History.{channel_size}
 use Rattle.band_render.specs.Rendered.{sizes}
 use Rattle.play_scene.specs.Frames.{FrameView, zero_frame}
 use Rattle.history_model.specs.text.History.{history_text}
@@ -32,101 +28,23 @@ use Rattle.stage_lock.specs.Closing.{Closes, IsOf}
 use Rattle.stage_lock.proofs.Positions.{positions-are}
 use Rattle.conn_worker.specs.Work.{Setting}
 use Rattle.play_ticker.specs.Ends.{EndsPass, clock_at_end}
-use Rattle.play_ticker.specs.Frames.{AreBlank, before_last_tick, frames_text, is_tick, raw_frame, tick_positions}
-use Rattle.play_ticker.specs.Outputs.{EachOutput, IsWritten, TakesFrames}
+use Rattle.play_ticker.specs.Frames.{AreBlank, is_tick, tick_positions}
+use Rattle.play_ticker.specs.Outputs.{EachOutput, IsWritten}
 use Rattle.play_ticker.specs.declared.ending.TickEnd.{TickEnd}
 use Rattle.play_ticker.specs.declared.ending.TickEnd.TheVariants.{ClockClosed, Ended, TicksOver, ClockFault, OutFault}
-use Rattle.play_ticker.proofs.Frames.{GoesOn, before_last_tick-quiet, frames_text-quiet, goes_on_by_ticks, ticks-quiet}
+use Rattle.play_ticker.proofs.Frames.{GoesOn, goes_on_by_ticks, ticks-quiet}
 use Rattle.play_server.specs.Site.{DeviceWords}
 use Rattle.play_server.specs.Doors.{DoorRun, EachDoor, HasServed, is_door_fault}
 use Rattle.play_server.specs.Links.{EachFrom}
-use Rattle.play_server.specs.Run.{EndsWithStop, HasRun, IsMadeBy, IsStoppedBy, Program, Serves, TicksEndBy, ends_so, is_cut, is_found, is_tick_fault, setting_of, setup_of}
+use Rattle.play_server.specs.Run.{EndsWithStop, HasRun, IsMadeBy, IsStoppedBy, Program, Serves, ends_so, is_cut, is_found, is_tick_fault, setting_of, setup_of}
 use Rattle.play_server.specs.inner.Beside.{Hall, RanBeside, RanWith, door_words, ticker_pass, worker_passes}
 use Rattle.play_server.specs.inner.Places.{setting_at}
 use Rattle.play_server.specs.declared.desk.Desk.{Desk}
 use Rattle.play_server.specs.declared.floor.Floor.{Floor}
 use Rattle.play_server.specs.declared.served.ServeEnd.{ServeEnd}
+use Rattle.play_server.proofs.Ending.{ends_with_stop, has_final_last, same_server, seen_stop, ticks_end, written_later}
 use Rattle.play_server.proofs.Explaining.{IsNewPass, stop_stays}
 use Rattle.play_server.proofs.Running.{DoorsServed, IsOfLinks, doors_served, is_faulty}
-
-one_more : (event : Event) (events : List Event) (at : ℕ) → ((k : ℕ) → stop_at events ≡ Some k → EndsWithStop events)
-    → option_map (λ n. 1 + n) (stop_at events) ≡ Some at → EndsWithStop (event ∷ events)
-one_more event events at rest is = go (stop_at events) refl is
-  where
-    more : EndsWithStop events → EndsWithStop (event ∷ events)
-    more ends = record { events = event ∷ ends.events; tag = ends.tag; whole = ap (λ (es : List Event). event ∷ es) ends.whole }
-
-    go : (o : Option ℕ) → stop_at events ≡ o → option_map (λ n. 1 + n) o ≡ Some at → EndsWithStop (event ∷ events)
-    go None found h = absurd cc
-    go (Some k) found h = more (rest k found)
-
--- a history with a stop ends with it
-ends_with_stop : (history : List Event) (at : ℕ) → IsHistory history → stop_at history ≡ Some at → EndsWithStop history
-ends_with_stop [] at whole is = absurd cc
-ends_with_stop (Do tag cmd ∷ events) at whole is = one_more (Do tag cmd) events at (λ k found. ends_with_stop events k whole found) (sym (stop_at-other (Do tag cmd) events refl) ∙ is)
-ends_with_stop (Batch tag cmds ∷ events) at whole is = one_more (Batch tag cmds) events at (λ k found. ends_with_stop events k whole.1 found) (sym (stop_at-other (Batch tag cmds) events refl) ∙ is)
-ends_with_stop (Tick ∷ events) at whole is = one_more Tick events at (λ k found. ends_with_stop events k whole found) (sym (stop_at-other Tick events refl) ∙ is)
-ends_with_stop (Stop tag ∷ events) at whole is = record { events = []; tag = tag; whole = ap (λ (es : List Event). Stop tag ∷ es) whole }
-
--- the tag of the server's own stop
-same_server : (tag : Tag) → is_final (Stop tag) ≡ true → tag ≡ server
-same_server tag is = go (tag.worker == 0) refl (tag.session == 0) refl is
-  where
-    go : (a : Bool) → (tag.worker == 0) ≡ a → (b : Bool) → (tag.session == 0) ≡ b → (a && b) ≡ true → tag ≡ server
-    go true worker true session h =
-        let w : tag.worker ≡ 0 = grind (arith, nat_tests) in
-        let s : tag.session ≡ 0 = grind (arith, nat_tests) in
-        λ i. record { worker = w i; session = s i }
-    go true worker false session h = absurd cc
-    go false worker b session h = absurd cc
-
-has_final_last : (events : List Event) → has_final (events ++ Stop server ∷ []) ≡ true
-has_final_last [] = refl
-has_final_last (event ∷ events) = ap (λ (b : Bool). is_final event || b) (has_final_last events) ∙ or-true (is_final event)
-
--- the ticker has seen a stop
-seen_stop : (ticker : TickEnd) (old new : PassView) → EndsPass ticker old new → (at : ℕ) × (stop_at new.seen ≡ Some at)
-seen_stop ClockClosed old new end = (end.at, end.stopped)
-seen_stop (Ended at) old new end = (at, end.0)
-seen_stop TicksOver old new end = (end.0.at, end.0.stopped)
-seen_stop ClockFault old new end = (end.at, end.stopped)
-seen_stop (OutFault channel) old new end = (end.0.at, end.0.stopped)
-
--- how the pulses ended, by a history that goes on from what the ticker has seen
-ticks_end : (channels : ℕ) (ticker : TickEnd) (old new : PassView) (history : List Event) → EndsPass ticker old new → IsPrefix new.seen history
-    → ticks history ≡ ticks new.seen → new.stage.sizes.channels ≡ channels → TicksEndBy channels history ticker
-ticks_end channels ClockClosed old new history end grows same sized = tt
-ticks_end channels (Ended at) old new history end grows same sized = stop_stays new.seen history at grows end.0
-ticks_end channels TicksOver old new history end grows same sized = same ∙ end.1
-ticks_end channels ClockFault old new history end grows same sized = tt
-ticks_end channels (OutFault channel) old new history end grows same sized =
-    (subst (λ (n : ℕ). 0 < n) (sym same) end.1, subst (λ (n : ℕ). IsConfigured n channel) sized end.2)
-
--- what the outputs took is of each history with the same ticks
-written_later : (setup : Setup) (seen history : List Event) → GoesOn seen history → (ticker : TickEnd) (channel : ℕ) (old new : SinkState)
-    → IsWritten ticker (record { setup = setup; history = seen }) channel old new → IsWritten ticker (record { setup = setup; history = history }) channel old new
-written_later setup seen history on = go
-  where
-    frames : (channel : ℕ) → frames_text setup seen channel ≡ frames_text setup history channel
-    frames channel = sym (frames_text-quiet setup channel seen history on)
-
-    last : before_last_tick seen ≡ before_last_tick history
-    last = sym (before_last_tick-quiet seen history on)
-
-    takes : (channel : ℕ) (old new : SinkState) → TakesFrames (record { setup = setup; history = seen }) channel old new → TakesFrames (record { setup = setup; history = history }) channel old new
-    takes channel old new h = h ∙ ap (after_taking old) (frames channel)
-
-    go : (ticker : TickEnd) (channel : ℕ) (old new : SinkState)
-        → IsWritten ticker (record { setup = setup; history = seen }) channel old new → IsWritten ticker (record { setup = setup; history = history }) channel old new
-    go ClockClosed channel old new h = takes channel old new h
-    go (Ended at) channel old new h = takes channel old new h
-    go TicksOver channel old new h = takes channel old new h
-    go ClockFault channel old new h = takes channel old new h
-    go (OutFault failed) channel old new h = record {
-      below = λ less. takes channel old new (h.below less);
-      failing = λ is. subst (λ (l : List Event). Fails (raw_frame setup l channel) (after_taking old (frames_text setup l channel)) new) last (h.failing is);
-      above = λ more. subst (λ (l : List Event). TakesFrames (record { setup = setup; history = l }) channel old new) last (h.above more);
-    }
 
 each_output : {O : Type 0} (P Q : ℕ → O → O → Type 0) (channel : ℕ) (olds news : List O) → ((channel : ℕ) (old new : O) → P channel old new → Q channel old new)
     → EachOutput P channel olds news → EachOutput Q channel olds news

@@ -1,6 +1,7 @@
 mod Answered
 mod Beginning
 mod Copying
+mod Ending
 mod Explaining
 mod Failing
 mod Finishing
@@ -16,6 +17,7 @@ mod Shown
 mod Statuses
 mod Tags
 mod Unused
+mod Visits
 mod Working
 mod Writing
 mod Written

@@ -10,7 +10,7 @@ use Rattle.server_setup.specs.declared.fault.RunFault.{RunFault}
 use Rattle.server_setup.specs.declared.fault.RunFault.TheVariants.{Usage, ConfigText, ConfigKey, BadLine, InputTooLong, MediaTwice, MediaTotal, Device, OutOfMemory}
 use Rattle.server_setup.specs.Setup.{SetsUp}
 use Rattle.server_setup.specs.declared.setup.ServerSetup.{ServerSetup}
-use Rattle.play_server.specs.Program.{RunsLine, RunsOn, SaysLine, ServesOn, program_of}
+use Rattle.play_server.specs.Program.{RunsLine, RunsOn, SaysLine, ServesOn, asked_of}
 use Rattle.play_server.specs.Run.{Program, Serves}
 use Rattle.play_server.specs.ServerWords.{Accepts}
 use Rattle.play_server.specs.Site.{AreReady, DeviceWords, ready_call}
@@ -51,7 +51,7 @@ pub served_on : {C D O L : Type 0} (device : DeviceWords C D O L) (tells : L →
     (path told_path : Option (List ℕ)) (given finished : Devices C D O) (before between after : SiteState C D O) →
     AreReady device program.config given → Serves device tells program told_end (given, finished) → told_end ≡ end →
     between ≡ after_call (ready_call program.config told_path true) before → told_path ≡ path → after ≡ after_finish finished between →
-    ServesOn device tells program end path before after
+    ServesOn device tells (record { program = program; path = path }) end (before, after)
 served_on device tells program end told_end path told_path given finished before between after ready serves ends called same_path done = record {
   given = given;
   finished = finished;
@@ -64,7 +64,7 @@ served_on device tells program end told_end path told_path given finished before
 pub ran_line : {C D O L : Type 0} (device : DeviceWords C D O L) (tells : L → SinkState) (line : List (List ℕ)) (named : ServerWords) (setup : ServerSetup)
     (path : List ℕ) (result : Result (Unit {0}) RunFault) (before lent left after : FolderState) (site between last : SiteState C D O) →
     Accepts line named → path ≡ string_bytes named.config → lent ≡ before → SetsUp path (Ok setup) lent left → after ≡ left → between ≡ site →
-    RunsOn device tells (program_of setup) (option_map string_bytes named.journal) result between last →
+    RunsOn device tells (asked_of setup (option_map string_bytes named.journal)) result (between, last) →
     RunsLine device tells line result (record { folder = before; site = site }, record { folder = after; site = last })
 ran_line device tells line named setup path result before lent left after site between last accepts path_is lent_is sets_up left_is same runs = record {
   read = Ok named;
@@ -75,6 +75,6 @@ ran_line device tells line named setup path result before lent left after site b
         subst (λ (p : List ℕ). SetsUp p (Ok setup) before after) path_is
         (subst (λ (f : FolderState). SetsUp path (Ok setup) f after) lent_is
         (subst (λ (f : FolderState). SetsUp path (Ok setup) lent f) (sym left_is) sets_up));
-    runs = subst (λ (s : SiteState _ _ _). RunsOn device tells (program_of setup) (option_map string_bytes named.journal) result s last) same runs;
+    runs = subst (λ (s : SiteState _ _ _). RunsOn device tells (asked_of setup (option_map string_bytes named.journal)) result (s, last)) same runs;
   };
 }

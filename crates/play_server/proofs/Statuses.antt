@@ -13,7 +13,7 @@ use Rattle.server_setup.specs.Setup.{SetsUp, TellsFirst, fault_of_files}
 use Rattle.server_setup.specs.declared.fault.RunFault.{RunFault}
 use Rattle.server_setup.specs.declared.fault.RunFault.TheVariants.{Usage, ConfigText, ConfigKey, BadLine, InputTooLong, MediaTwice, MediaTotal, Device, OutOfMemory}
 use Rattle.server_setup.specs.declared.setup.ServerSetup.{ServerSetup}
-use Rattle.play_server.specs.Program.{AtSite, RunsLine, RunsOn, RunsServer, RunsSetUp, RunsWords, SaysEnd, SaysLine, program_of, status_in}
+use Rattle.play_server.specs.Program.{AtSite, RunsLine, RunsOn, RunsServer, RunsSetUp, RunsWords, SaysEnd, SaysLine, asked_in, asked_of, program_of, status_in}
 use Rattle.play_server.specs.ServerWords.{Accepts, ReadsWords, playd_app}
 use Rattle.play_server.specs.Site.{DeviceWords, Says}
 use Rattle.play_server.specs.SiteState.{SiteState}
@@ -86,7 +86,7 @@ module _ {C D O L : Type 0} (device : DeviceWords C D O L) (tells : L → SinkSt
   -- what came of a run on what was set up
   came_of_run : (named : ServerWords) (setup : ServerSetup) (result : Result (Unit {0}) RunFault) (moments : AtSite C D O × AtSite C D O) → Accepts line named
       → SetsUp (string_bytes named.config) (Ok setup) moments.0.folder moments.1.folder
-      → RunsOn device tells (program_of setup) (option_map string_bytes named.journal) result moments.0.site moments.1.site → Came result moments
+      → RunsOn device tells (asked_of setup (option_map string_bytes named.journal)) result (moments.0.site, moments.1.site) → Came result moments
   came_of_run named setup (Ok done) moments accepted sets runs =
       (record { named = named; accepted = accepted; setup = setup; set_up = sets; site = moments.1.site; served = runs }, refl)
   came_of_run named setup (Err Device) moments accepted sets runs =
@@ -113,7 +113,7 @@ module _ {C D O L : Type 0} (device : DeviceWords C D O L) (tells : L → SinkSt
 
   came_of_setup : (named : ServerWords) (setup : Result ServerSetup RunFault) (result : Result (Unit {0}) RunFault) (moments : AtSite C D O × AtSite C D O) → Accepts line named
       → SetsUp (string_bytes named.config) setup moments.0.folder moments.1.folder
-      → RunsSetUp device tells (option_map string_bytes named.journal) setup result moments.0.site moments.1.site → Came result moments
+      → RunsSetUp device tells (asked_in setup (option_map string_bytes named.journal)) result (moments.0.site, moments.1.site) → Came result moments
   came_of_setup named (Ok setup) result moments accepted sets runs = came_of_run named setup result moments accepted sets runs
   came_of_setup named (Err fault) result moments accepted sets runs =
       subst (λ (r : Result (Unit {0}) RunFault). Came r moments) (sym runs.0) (came_of_fault named fault moments accepted sets runs.1)

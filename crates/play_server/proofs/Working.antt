@@ -15,7 +15,7 @@ use Rattle.stage_lock.proofs.Prefixes.{prefix_self, prefix_trans}
 use Rattle.conn_worker.specs.Followed.{Service, Followed, events_of, steps_in, steps_of}
 use Rattle.conn_worker.specs.Rounds.{IsAfterFailure, after_rounds, bytes_in}
 use Rattle.conn_worker.specs.Explained.{AreInOrder, EndsBy, IsCaughtUp, Talk, covered}
-use Rattle.conn_worker.specs.Work.{AtDoor, Came, EndsWork, FindsEnd, GoesOnAfter, HasWorked, IsServed, LooksOn, NoneYet, Setting, StopsAfter, TakesAll, Turn, Visit, links_come, number_came, service_of}
+use Rattle.conn_worker.specs.Work.{AtDoor, Came, EndsWork, HasWorked, IsServed, LooksOn, NoneYet, Setting, StopsAfter, TakesAll, Turn, Visit, links_come, number_came, service_of}
 use Rattle.std.proofs.lemmas.List.Sums.{sum_by-cons}
 use Rattle.conn_worker.specs.declared.link_end.LinkEnd as link
 use Rattle.conn_worker.specs.declared.link_end.LinkEnd.TheVariants as ends
@@ -25,6 +25,7 @@ use Rattle.conn_worker.specs.declared.work_end.WorkEnd.TheVariants.{Closed, Ende
 use Rattle.play_server.specs.Links.{EachFrom}
 use Rattle.play_server.specs.Doors.{DoorRun, OnlyLastIsStopped, WasAsked, faults_after, given_back, is_closed, is_door_fault, is_stopped}
 use Rattle.play_server.proofs.Going.{DoorOn, PassOn, door_served, door_waited, more_returned, pass_looked, pass_made, pass_quiet, pass_same, pass_stopped, pass_then}
+use Rattle.play_server.proofs.Visits.{GoesOn, StopSeen, goes_on, looked_stop, looks_ends}
 
 -- a link that was served, and the talk with its client
 pub record Link (L : Type 0) : Type 0 where
@@ -55,30 +56,6 @@ unless_over_then Closed One Other f fact = f fact
 unless_over_then (Ended at) One Other f fact = f fact
 unless_over_then DoorFault One Other f fact = f fact
 unless_over_then SessionsOver One Other f fact = tt
-
--- after a link was served the work goes on, or a stop was found
-record GoesOn (end : link.LinkEnd) (before after : PassView) : Type 0 where
-  pass : PassOn [] before after
-  ends : after.ends ≡ before.ends
-  other : is_stopped end ≡ false
-
-looks_ends : (IsTold : List Event → Type 0) (before after : PassView) → Looks before IsTold after → after.ends ≡ before.ends
-looks_ends IsTold before after looks = ap (λ (p : PassView). p.ends) looks.after
-
-goes_on : (end : link.LinkEnd) (before after : PassView) → GoesOnAfter end before after → GoesOn end before after
-goes_on ends.Over before after same = record { pass = pass_same before after same; ends = ap (λ (p : PassView). p.ends) same; other = refl }
-goes_on ends.Killed before after looks = record { pass = pass_looked _ before after looks; ends = looks_ends _ before after looks; other = refl }
-goes_on ends.LinkFault before after same = record { pass = pass_same before after same; ends = ap (λ (p : PassView). p.ends) same; other = refl }
-goes_on (ends.Ended at) before after none = absurd none
-
-looked_stop : (at : ℕ) (before after : PassView) → FindsEnd at before after → stop_at after.seen ≡ Some at
-looked_stop at before after looks = ap (λ (p : PassView). stop_at p.seen) looks.after ∙ sym looks.told
-
--- a stop was found while a link was served, or after it
-record StopSeen (at : ℕ) (end : link.LinkEnd) (before after : PassView) : Type 0 where
-  pass : PassOn [] before after
-  ends : after.ends ≡ before.ends
-  stop : stop_at after.seen ≡ Some at
 
 module _ {L : Type 0} where
   abbrev pub visits_in : List (Link L) → List (Visit L)

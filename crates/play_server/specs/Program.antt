@@ -29,6 +29,20 @@ status_in (Err fault) = status_of fault
 abbrev pub program_of : ServerSetup → Program
 program_of setup = record { config = setup.config; media = setup.media }
 
+-- what is asked for: a run on this configuration and these clips, with this file of the history, where there is one
+pub record Asked : Type 0 where
+  pub program : Program
+  pub path : Option (List ℕ)
+
+-- a run on what was set up
+abbrev pub asked_of : ServerSetup → Option (List ℕ) → Asked
+asked_of setup path = record { program = program_of setup; path = path }
+
+-- a run on what was set up, or why nothing was
+abbrev pub asked_in : Result ServerSetup RunFault → Option (List ℕ) → Result Asked RunFault
+asked_in (Ok setup) path = Ok (asked_of setup path)
+asked_in (Err fault) path = Err fault
+
 -- the fault of a run whose words name nothing
 abbrev pub fault_of_words : WordsFault → RunFault
 fault_of_words words.Usage = Usage
@@ -53,42 +67,42 @@ module _ {C D O : Type 0} where
   SaysEnd (Err fault) before after = SaysLine fault before after
 
 module _ {C D O L : Type 0} where
-  -- devices were taken for a run with this configuration and this file of the history, served, and finished
-  pub record ServesOn (device : DeviceWords C D O L) (tells : L → SinkState) (program : Program) (end : ServeEnd) (call : Option (List ℕ)) (before after : SiteState C D O) : Type 0 where
+  -- devices were taken for such a run, served, and finished
+  pub record ServesOn (device : DeviceWords C D O L) (tells : L → SinkState) (asked : Asked) (end : ServeEnd) (moments : SiteState C D O × SiteState C D O) : Type 0 where
     pub given : Devices C D O
     pub finished : Devices C D O
-    pub ready : AreReady device program.config given
-    pub serves : Serves device tells program end (given, finished)
-    pub after_is : after ≡ after_finish finished (after_call (ready_call program.config call true) before)
+    pub ready : AreReady device asked.program.config given
+    pub serves : Serves device tells asked.program end (given, finished)
+    pub after_is : moments.1 ≡ after_finish finished (after_call (ready_call asked.program.config asked.path true) moments.0)
 
   -- what a run on a configuration and clips came to: no device failed; or a device failed in the run, or the site gave no devices; or
   -- memory ran out, before the run or for the devices
-  abbrev pub RunsOn : DeviceWords C D O L → (L → SinkState) → Program → Option (List ℕ) → Result (Unit {0}) RunFault → SiteState C D O → SiteState C D O → Type 0
-  RunsOn device tells program path (Ok done) before after = ServesOn device tells program serve.Ended path before after
-  RunsOn device tells program path (Err Device) before after =
-      ServesOn device tells program serve.DeviceFault path before after
-      ⊎ IsNotReady file.Failed (ready_call program.config path false) before after
-  RunsOn device tells program path (Err OutOfMemory) before after =
-      ServesOn device tells program serve.OutOfMemory path before after
-      ⊎ IsNotReady file.OutOfMemory (ready_call program.config path false) before after
-  RunsOn device tells program path (Err Usage) before after = ⊥
-  RunsOn device tells program path (Err ConfigText) before after = ⊥
-  RunsOn device tells program path (Err (ConfigKey key)) before after = ⊥
-  RunsOn device tells program path (Err (BadLine number)) before after = ⊥
-  RunsOn device tells program path (Err InputTooLong) before after = ⊥
-  RunsOn device tells program path (Err (MediaTwice name)) before after = ⊥
-  RunsOn device tells program path (Err (MediaTotal total)) before after = ⊥
+  abbrev pub RunsOn : DeviceWords C D O L → (L → SinkState) → Asked → Result (Unit {0}) RunFault → SiteState C D O × SiteState C D O → Type 0
+  RunsOn device tells asked (Ok done) moments = ServesOn device tells asked serve.Ended moments
+  RunsOn device tells asked (Err Device) moments =
+      ServesOn device tells asked serve.DeviceFault moments
+      ⊎ IsNotReady file.Failed (ready_call asked.program.config asked.path false) moments.0 moments.1
+  RunsOn device tells asked (Err OutOfMemory) moments =
+      ServesOn device tells asked serve.OutOfMemory moments
+      ⊎ IsNotReady file.OutOfMemory (ready_call asked.program.config asked.path false) moments.0 moments.1
+  RunsOn device tells asked (Err Usage) moments = ⊥
+  RunsOn device tells asked (Err ConfigText) moments = ⊥
+  RunsOn device tells asked (Err (ConfigKey key)) moments = ⊥
+  RunsOn device tells asked (Err (BadLine number)) moments = ⊥
+  RunsOn device tells asked (Err InputTooLong) moments = ⊥
+  RunsOn device tells asked (Err (MediaTwice name)) moments = ⊥
+  RunsOn device tells asked (Err (MediaTotal total)) moments = ⊥
 
   -- after setting up: the run, or the fault of the configuration or the clips, and no call of the site
-  abbrev pub RunsSetUp : DeviceWords C D O L → (L → SinkState) → Option (List ℕ) → Result ServerSetup RunFault → Result (Unit {0}) RunFault → SiteState C D O → SiteState C D O → Type 0
-  RunsSetUp device tells path (Ok setup) result before after = RunsOn device tells (program_of setup) path result before after
-  RunsSetUp device tells path (Err fault) result before after = (result ≡ Err fault) × (after ≡ before)
+  abbrev pub RunsSetUp : DeviceWords C D O L → (L → SinkState) → Result Asked RunFault → Result (Unit {0}) RunFault → SiteState C D O × SiteState C D O → Type 0
+  RunsSetUp device tells (Ok asked) result moments = RunsOn device tells asked result moments
+  RunsSetUp device tells (Err fault) result moments = (result ≡ Err fault) × (moments.1 ≡ moments.0)
 
   -- with words that were accepted the configuration and the clips are read, and then the server runs
   pub record RunsAccepted (device : DeviceWords C D O L) (tells : L → SinkState) (named : ServerWords) (result : Result (Unit {0}) RunFault) (moments : AtSite C D O × AtSite C D O) : Type 0 where
     pub setup : Result ServerSetup RunFault
     pub sets_up : SetsUp (string_bytes named.config) setup moments.0.folder moments.1.folder
-    pub runs : RunsSetUp device tells (option_map string_bytes named.journal) setup result moments.0.site moments.1.site
+    pub runs : RunsSetUp device tells (asked_in setup (option_map string_bytes named.journal)) result (moments.0.site, moments.1.site)
 
   -- after the words were read: they are refused, or memory ran out, and nothing else was called; or they name a run
   abbrev pub RunsWords : DeviceWords C D O L → (L → SinkState) → Result ServerWords WordsFault → Result (Unit {0}) RunFault → AtSite C D O × AtSite C D O → Type 0

@@ -14,7 +14,7 @@ use Rattle.server_setup.specs.declared.fault.RunFault.{RunFault}
 use Rattle.server_setup.specs.declared.fault.RunFault.TheVariants as fault
 use Rattle.server_setup.specs.declared.setup.ServerSetup.{ServerSetup}
 use Rattle.play_server.specs.Doors.{IsTagOfLink}
-use Rattle.play_server.specs.Program.{AtSite, SaysLine, ServesOn, program_of}
+use Rattle.play_server.specs.Program.{AtSite, SaysLine, ServesOn, asked_of}
 use Rattle.play_server.specs.Run.{HasRun, Program}
 use Rattle.play_server.specs.ServerWords.{Accepts, playd_app}
 use Rattle.play_server.specs.Site.{DeviceWords}
@@ -93,7 +93,7 @@ module _ {C D O L : Type 0} where
     pub set_up : SetsUp (string_bytes named.config) (Ok setup) moments.0.folder moments.1.folder
     -- the site after the run
     pub site : SiteState C D O
-    pub served : ServesOn device tells (program_of setup) end (option_map string_bytes named.journal) moments.0.site site
+    pub served : ServesOn device tells (asked_of setup (option_map string_bytes named.journal)) end (moments.0.site, site)
 
   -- something failed: the folder, the site, or in the run a device
   abbrev pub SomethingFails : DeviceWords C D O L → (L → SinkState) → List (List ℕ) → AtSite C D O × AtSite C D O → Type 0

@@ -1,6 +1,6 @@
 //! The program: the words, the folder, the devices and the exit status.
 ghost use Rattle.std.specs.Prelude.{◌≡◌, ◌≤◌, ◌∷◌, Err, codes, map, option_map, string_bytes};
-ghost use Rattle.play_server.specs.Program.{RunsLine, RunsOn, RunsServer, SaysLine, fault_of_words, program_of};
+ghost use Rattle.play_server.specs.Program.{RunsLine, RunsOn, RunsServer, SaysLine, asked_of, fault_of_words};
 ghost use Rattle.play_server.specs.Statuses.{HasItsCause};
 
 use crate::served::{ServeEnd, Served};
@@ -103,7 +103,7 @@ fn serve_setup<R: Threads + Wait + Sync, E: Site>(
     requires workers { 1 ≤ words.now.workers }
     requires few { words.now.workers ≤ 64 }
     ensures run { RunsOn (record { clock = E.Clock.state; door = E.Door.state; out = E.Out.state }) E.Door.Line.state
-        (program_of setup.now) (option_map string_bytes words.now.journal) result (E.state site.old) (E.state site.new) }
+        (asked_of setup.now (option_map string_bytes words.now.journal)) result (E.state site.old, E.state site.new) }
     ensures folder { E.folder site.new ≡ E.folder site.old }
 {
     let devices = site.ready(alloc, &setup.config, journal_path(words))?;

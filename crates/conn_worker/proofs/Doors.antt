@@ -82,7 +82,7 @@ module _ {L : Type 0} where
   -- a link was served between these moments
   served_at : (setting : Setting L) (served : ℕ) (came : SinkState) (result : Result (Unit {0}) WorkEnd) (before middle after : AtDoor L)
       → stop_at before.pass.seen ≡ None → IsNewSink came → middle.pass ≡ before.pass → middle.door ≡ after_came before.door
-      → (gives : GivesBack setting (served + 1) came result middle after)
+      → (gives : GivesBack setting (served + 1) came result (middle, after))
       → IsServed setting (served + 1) gives.visit before after
   served_at setting served came result before middle after running new same door gives = record {
     running = running;
@@ -95,7 +95,7 @@ module _ {L : Type 0} where
   -- a link came and was given back, and the work goes on
   pub turn_served : (setting : Setting L) (served : ℕ) (came : SinkState) (done : Unit {0}) (before middle after : AtDoor L)
       → stop_at before.pass.seen ≡ None → IsNewSink came → middle.pass ≡ before.pass → middle.door ≡ after_came before.door
-      → GivesBack setting (served + 1) came (Ok done) middle after
+      → GivesBack setting (served + 1) came (Ok done) (middle, after)
       → TakesTurn setting served (Ok (served + 1)) before after
   turn_served setting served came done before middle after running new same door gives =
       let is : IsServed setting (served + 1) gives.visit before after = served_at setting served came (Ok done) before middle after running new same door gives in
@@ -104,7 +104,7 @@ module _ {L : Type 0} where
   -- a link came and was given back, and the history holds a stop
   pub turn_stopped : (setting : Setting L) (served : ℕ) (came : SinkState) (end : WorkEnd) (before middle after : AtDoor L)
       → stop_at before.pass.seen ≡ None → IsNewSink came → middle.pass ≡ before.pass → middle.door ≡ after_came before.door
-      → GivesBack setting (served + 1) came (Err end) middle after → served < MAX_SESSIONS
+      → GivesBack setting (served + 1) came (Err end) (middle, after) → served < MAX_SESSIONS
       → TakesTurn setting served (Err end) before after
   turn_stopped setting served came Closed before middle after running new same door gives few = absurd gives.pass
   turn_stopped setting served came (Ended at) before middle after running new same door gives few =

@@ -119,7 +119,7 @@ impl Worker<'_> {
         requires away { 0 < (D.state door.old).away }
         ensures stage { IsStageOf self.now pass.new }
         ensures gives_back { GivesBack (setting_in self.now pass.old.number D.Line.state) number (D.Line.state line) result
-            (record { pass = pass.old; door = D.state door.old }) (record { pass = pass.new; door = D.state door.new }) }
+            (record { pass = pass.old; door = D.state door.old }, record { pass = pass.new; door = D.state door.new }) }
     {
         let end = serve_link(
             rt,

@@ -38,13 +38,13 @@ module _ {L : Type 0} where
   PassesOn (Err SessionsOver) visit after = ⊥
 
   -- a link that had come was served as the session of this number, and given back
-  pub record GivesBack (setting : Setting L) (number : ℕ) (came : SinkState) (result : Result (Unit {0}) WorkEnd) (before after : AtDoor L) : Type 0 where
+  pub record GivesBack (setting : Setting L) (number : ℕ) (came : SinkState) (result : Result (Unit {0}) WorkEnd) (moments : AtDoor L × AtDoor L) : Type 0 where
     pub visit : Visit L
     pub came_is : visit.came ≡ came
     pub explained : IsExplained (service_of setting number) visit.end
-        (record { pass = before.pass; link = visit.came }) (record { pass = visit.pass; link = setting.tells visit.line })
-    pub door : after.door ≡ after_give_back before.door visit.line
-    pub pass : PassesOn result visit after.pass
+        (record { pass = moments.0.pass; link = visit.came }) (record { pass = visit.pass; link = setting.tells visit.line })
+    pub door : moments.1.door ≡ after_give_back moments.0.door visit.line
+    pub pass : PassesOn result visit moments.1.pass
 
   -- the door was asked once, after `served` links were served: the work goes on, and so many were served then, or it ends
   abbrev pub TakesTurn : Setting L → ℕ → Result ℕ WorkEnd → AtDoor L → AtDoor L → Type 0

@@ -1,6 +1,6 @@
 -- A line of printed words is read as the words that they mean.
 use Rattle.std.proofs.Common.{◌≡◌, ℕ, Bool, true, false, cond, not, ◌&&◌, ◌==◌, nat_lt, List, [], ◌∷◌, ◌++◌, map, length, Ok, refl, sym, ap, ◌∙◌, arith, inl, inr, append_assoc, append-nil}
-use Rattle.std.specs.Prelude.{flat_map, filter_map}
+use Rattle.std.specs.Prelude.{codes, flat_map, filter_map}
 use Rattle.std.specs.List.{list_all, list_any, slice_split, onto_first}
 use Rattle.std.proofs.lemmas.Bool.{cases_Bool, and_parts, eqb-true, lt-ltb}
 use Rattle.std.proofs.lemmas.Bool.Decides.{nat_tests}
@@ -31,17 +31,25 @@ plain_part c (d ∷ ds) h = rw h refl
 abbrev name_part : ℕ → Part
 name_part c = cond (c == 34) (Escape 34) (cond (c == 92) (Escape 92) (cond (c == 10) (Escape 10) (part.Plain c)))
 
-escaped_parts : (c : ℕ) (rest : List ℕ) → parts_of (escaped c ++ rest) ≡ name_part c ∷ parts_of rest
-escaped_parts c rest = elim (cases_Bool (c == 34)) [
-  | inl mark ↦ rw (eqb-true c 34 mark) refl
+-- what holds of the three escapes, and of another character as it stands, holds of each character and the part that it makes
+each_character : (P : List ℕ → Part → Type 0) (c : ℕ)
+    → (c ≡ 34 → P (codes "\\\"") (Escape 34)) → (c ≡ 92 → P (codes "\\\\") (Escape 92)) → (c ≡ 10 → P (codes "\\n") (Escape 10))
+    → ((c == 34) ≡ false → (c == 92) ≡ false → P (c ∷ []) (part.Plain c)) → P (escaped c) (name_part c)
+each_character P c mark slash line other = elim (cases_Bool (c == 34)) [
+  | inl is ↦ rw is (mark (eqb-true c 34 is))
   | inr no_mark ↦ elim (cases_Bool (c == 92)) [
-    | inl slash ↦ rw (eqb-true c 92 slash) refl
+    | inl is ↦ rw (no_mark, is) (slash (eqb-true c 92 is))
     | inr no_slash ↦ elim (cases_Bool (c == 10)) [
-      | inl line ↦ rw (eqb-true c 10 line) refl
-      | inr no_line ↦ rw (no_mark, no_slash, no_line) (plain_part c rest no_slash)
+      | inl is ↦ rw (no_mark, no_slash, is) (line (eqb-true c 10 is))
+      | inr no_line ↦ rw (no_mark, no_slash, no_line) (other no_mark no_slash)
     ]
   ]
 ]
+
+escaped_parts : (c : ℕ) (rest : List ℕ) → parts_of (escaped c ++ rest) ≡ name_part c ∷ parts_of rest
+escaped_parts c rest =
+    each_character (λ written made. parts_of (written ++ rest) ≡ made ∷ parts_of rest) c (λ is. refl) (λ is. refl) (λ is. refl)
+    (λ no_mark no_slash. plain_part c rest no_slash)
 
 name_parts : (name rest : List ℕ) → parts_of (flat_map escaped name ++ rest) ≡ map name_part name ++ parts_of rest
 name_parts [] rest = refl
@@ -88,16 +96,9 @@ and_no true = refl
 and_no false = refl
 
 name_role : (c : ℕ) (rest : List Part) → roles_from true (name_part c ∷ rest) ≡ Letter c ∷ roles_from true rest
-name_role c rest = elim (cases_Bool (c == 34)) [
-  | inl mark ↦ rw (eqb-true c 34 mark) refl
-  | inr no_mark ↦ elim (cases_Bool (c == 92)) [
-    | inl slash ↦ rw (eqb-true c 92 slash) refl
-    | inr no_slash ↦ elim (cases_Bool (c == 10)) [
-      | inl line ↦ rw (eqb-true c 10 line) refl
-      | inr no_line ↦ rw (no_mark, no_slash, no_line, no_mark, and_no (is_blank c)) refl
-    ]
-  ]
-]
+name_role c rest =
+    each_character (λ written made. roles_from true (made ∷ rest) ≡ Letter c ∷ roles_from true rest) c (λ is. rw is refl) (λ is. rw is refl) (λ is. rw is refl)
+    (λ no_mark no_slash. rw (no_mark, and_no (is_blank c)) refl)
 
 name_roles : (cs : List ℕ) (rest : List Part) → roles_from true (map name_part cs ++ rest) ≡ map Letter cs ++ roles_from true rest
 name_roles [] rest = refl
@@ -116,16 +117,8 @@ plain_good [] rest = refl
 plain_good (c ∷ cs) rest = plain_good cs rest
 
 name_part_good : (c : ℕ) → is_bad (name_part c) ≡ false
-name_part_good c = elim (cases_Bool (c == 34)) [
-  | inl mark ↦ rw mark refl
-  | inr no_mark ↦ elim (cases_Bool (c == 92)) [
-    | inl slash ↦ rw (no_mark, slash) refl
-    | inr no_slash ↦ elim (cases_Bool (c == 10)) [
-      | inl line ↦ rw (no_mark, no_slash, line) refl
-      | inr no_line ↦ rw (no_mark, no_slash, no_line) refl
-    ]
-  ]
-]
+name_part_good c =
+    each_character (λ written made. is_bad made ≡ false) c (λ is. refl) (λ is. refl) (λ is. refl) (λ no_mark no_slash. refl)
 
 name_good : (cs : List ℕ) (rest : List Part) → list_any is_bad (map name_part cs ++ rest) ≡ list_any is_bad rest
 name_good [] rest = refl
@@ -144,16 +137,8 @@ plain_closed (c ∷ cs) rest h =
     is_unclosed-cons (part.Plain c) (map part.Plain cs ++ rest) ∙ rw (letter_of_plain c plain.0).mark (plain_closed cs rest plain.1)
 
 name_part_open : (c : ℕ) → is_mark (name_part c) ≡ false
-name_part_open c = elim (cases_Bool (c == 34)) [
-  | inl mark ↦ rw mark refl
-  | inr no_mark ↦ elim (cases_Bool (c == 92)) [
-    | inl slash ↦ rw (no_mark, slash) refl
-    | inr no_slash ↦ elim (cases_Bool (c == 10)) [
-      | inl line ↦ rw (no_mark, no_slash, line) refl
-      | inr no_line ↦ rw (no_mark, no_slash, no_line) no_mark
-    ]
-  ]
-]
+name_part_open c =
+    each_character (λ written made. is_mark made ≡ false) c (λ is. refl) (λ is. refl) (λ is. refl) (λ no_mark no_slash. no_mark)
 
 name_closed : (cs : List ℕ) (rest : List Part) → is_unclosed (map name_part cs ++ rest) ≡ is_unclosed rest
 name_closed [] rest = refl

@@ -1,6 +1,6 @@
 -- What asking the stage for a step gives: the reply of the definitions after the history that was found.
-use Rattle.std.proofs.Common.{◌≡◌, ℕ, ◌+◌, ◌<◌, ◌≤◌, ◌&&◌, ◌==◌, Bool, true, false, List, [], ◌∷◌, ◌++◌, length, refl, sym, ap, ap₂, ◌∙◌, subst, arith, inl, inr, eq-eqb}
-use Rattle.std.specs.Prelude.{Some, None, Result, Ok, Err, All, IfOk, MatchResult, get_or, nat_lt, if◌then◌else◌}
+use Rattle.std.proofs.Common.{◌≡◌, ℕ, ◌+◌, ◌<◌, ◌≤◌, ◌&&◌, ◌==◌, Bool, true, false, List, [], ◌∷◌, ◌++◌, length, refl, sym, ap, ap₂, ◌∙◌, subst, arith, inr, eq-eqb}
+use Rattle.std.specs.Prelude.{Some, None, Result, Ok, Err, IfOk, MatchResult, nat_lt, if◌then◌else◌}
 use Rattle.std.proofs.lemmas.Bool.Decides.{nat_tests}
 use Rattle.std.proofs.lemmas.List.{length-map}
 use Rattle.play_types.specs.Config.{ConfigView}
@@ -8,25 +8,19 @@ use Rattle.play_types.specs.Commands.{answer_reply, command_name}
 use Rattle.play_types.specs.History.{held, held_by, stop_at}
 use Rattle.play_types.specs.declared.answer.Answer.{Answer}
 use Rattle.play_types.specs.declared.command.Cmd.{Cmd}
-use Rattle.play_types.specs.declared.command.Cmd.TheVariants.{Load, LoadBg, Play, PlayTake, Pause, Resume, StopLayer, ClearLayer, ClearChannel, SwapLayers, SwapChannels, Set, CommitMixer, ResetLayer, ResetChannel, Value, Info}
-use Rattle.play_types.specs.declared.take.Spec.{Spec}
-use Rattle.play_types.specs.declared.take.Spec.TheVariants.{Clip, Colour, RouteChannel, RouteLayer}
 use Rattle.play_types.specs.declared.event.Tag.{Tag}
 use Rattle.play_types.specs.declared.event.Event.{Event}
 use Rattle.play_types.specs.declared.event.Event.TheVariants as event
 use Rattle.play_types.specs.declared.reply.Name.{Name}
 use Rattle.play_types.specs.declared.reply.Name.TheVariants as name
 use Rattle.play_types.proofs.Histories.{stop_at-append}
-use Rattle.history_model.specs.commands.Channels.{AreAimed, IsAimed}
-use Rattle.history_model.specs.commands.Channels as named
-use Rattle.history_model.specs.pictures.Media.{Setup}
 use Rattle.history_model.specs.stage.Acts.{is_refused}
-use Rattle.history_model.specs.stage.Answer.{Answered, answer, command_answer, outcome_of}
+use Rattle.history_model.specs.stage.Answer.{command_answer, outcome_of}
 use Rattle.history_model.specs.text.Replies.{IsRefusalCode, IsReplyTo}
 use Rattle.history_model.specs.scripts.History.{JournalFull, OutOfMemory, Taken, Turn, Verdict, channel_size, is_full, setup_of, verdict, verdict_events}
 use Rattle.history_model.specs.scripts.Output.{verdict_reply}
 use Rattle.history_model.specs.sessions.Session as model
-use Rattle.stage_core.specs.Served.{IsRouted, IsServed}
+use Rattle.return_codes.proofs.Answered.{answered_batch, answered_command, told_batch, told_command}
 use Rattle.stage_core.specs.Stage.{HasRoom, IsNotTaken}
 use Rattle.stage_core.specs.declared.fault.ApplyFault.{ApplyFault}
 use Rattle.stage_core.specs.declared.fault.ApplyFault.TheVariants as fault
@@ -38,71 +32,12 @@ use Rattle.conn_worker.specs.inner.Steps.{AsksFor, IsReady, replied, service_in}
 use Rattle.conn_worker.specs.declared.connection.Connection.{Connection}
 use Rattle.conn_worker.proofs.Passes.{makes_added, makes_looked}
 
--- a route to a configured channel is one to a channel of the stage
-routed_by : (config : ConfigView) (spec : Spec) → named.IsRouted config spec → IsRouted (length config.channels) spec
-routed_by config (Clip id) routed = tt
-routed_by config (Colour value) routed = tt
-routed_by config (RouteChannel channel) routed = routed
-routed_by config (RouteLayer place) routed = routed
-
--- a stage that has the configured channels serves each command that names configured channels alone
-pub served_by : (config : ConfigView) (command : Cmd) → IsAimed config command → IsServed (length config.channels) command
-served_by config (Load place take) aimed = (aimed.0, routed_by config take.spec aimed.1)
-served_by config (LoadBg place take) aimed = (aimed.0, routed_by config take.spec aimed.1)
-served_by config (Play place) aimed = aimed
-served_by config (PlayTake place take) aimed = (aimed.0, routed_by config take.spec aimed.1)
-served_by config (Pause place) aimed = aimed
-served_by config (Resume place) aimed = aimed
-served_by config (StopLayer place) aimed = aimed
-served_by config (ClearLayer place) aimed = aimed
-served_by config (ClearChannel channel) aimed = aimed
-served_by config (SwapLayers a b transforms) aimed = aimed
-served_by config (SwapChannels a b transforms) aimed = aimed
-served_by config (Set setting) aimed = aimed
-served_by config (CommitMixer channel) aimed = aimed
-served_by config (ResetLayer place) aimed = aimed
-served_by config (ResetChannel channel) aimed = aimed
-served_by config (Value place prop) aimed = aimed
-served_by config Info aimed = aimed
-
--- and each command of a batch
-pub each_served_by : (config : ConfigView) (commands : List Cmd) → AreAimed config commands → All (IsServed (length config.channels)) commands
-each_served_by config commands aimed = λ k command inside. served_by config (get_or commands k command) (aimed k command inside)
-
--- 403, 501 and 503 are codes of refusals
-code_403 : IsRefusalCode 403
-code_403 = inl (omega arith, omega arith)
-
+-- 501 and 503 are codes of refusals
 code_501 : IsRefusalCode 501
 code_501 = inr (omega arith, omega arith)
 
 code_503 : IsRefusalCode 503
 code_503 = inr (omega arith, omega arith)
-
-fits_outcome : (config : ConfigView) (asked : Name) (refused : Bool) → IsReplyTo config (answer_reply asked (outcome_of refused))
-fits_outcome config asked true = code_403
-fits_outcome config asked false = tt
-
--- the reply to a command fits the configuration
-fits_command : (config : ConfigView) (setup : Setup) (history : List Event) (refused : Bool) (command : Cmd) → length setup.channels ≡ length config.channels
-    → IsReplyTo config (answer_reply (command_name command) (command_answer setup history refused command))
-fits_command config setup history refused (Load place take) many = fits_outcome config name.Load refused
-fits_command config setup history refused (LoadBg place take) many = fits_outcome config name.LoadBg refused
-fits_command config setup history refused (Play place) many = fits_outcome config name.Play refused
-fits_command config setup history refused (PlayTake place take) many = fits_outcome config name.Play refused
-fits_command config setup history refused (Pause place) many = fits_outcome config name.Pause refused
-fits_command config setup history refused (Resume place) many = fits_outcome config name.Resume refused
-fits_command config setup history refused (StopLayer place) many = fits_outcome config name.Stop refused
-fits_command config setup history refused (ClearLayer place) many = fits_outcome config name.Clear refused
-fits_command config setup history refused (ClearChannel channel) many = fits_outcome config name.Clear refused
-fits_command config setup history refused (SwapLayers a b transforms) many = fits_outcome config name.Swap refused
-fits_command config setup history refused (SwapChannels a b transforms) many = fits_outcome config name.Swap refused
-fits_command config setup history refused (Set setting) many = fits_outcome config name.Mixer refused
-fits_command config setup history refused (CommitMixer channel) many = fits_outcome config name.Mixer refused
-fits_command config setup history refused (ResetLayer place) many = fits_outcome config name.Mixer refused
-fits_command config setup history refused (ResetChannel channel) many = fits_outcome config name.Mixer refused
-fits_command config setup history refused (Value place prop) many = tt
-fits_command config setup history refused Info many = many
 
 tested_above : (a b : ℕ) → a < b → nat_lt a b ≡ true
 tested_above a b less = grind (arith, nat_tests)
@@ -114,19 +49,6 @@ tested_within a b less = grind (arith, nat_tests)
 judged : (turn : Turn) (commands : ℕ) (full no_memory : Bool) → is_full turn.playout turn.events commands ≡ full → turn.no_memory ≡ no_memory
     → verdict turn commands ≡ (if full then JournalFull else if no_memory then OutOfMemory else Taken)
 judged turn commands full no_memory is none = ap₂ (λ (f m : Bool). if f then JournalFull else if m then OutOfMemory else Taken) is none
-
-same_answer : (one other : Answer) → Answered one ≡ Answered other → one ≡ other
-same_answer one other e = cc
-
-answered_command : (setup : Setup) (events : List Event) (tag : Tag) (command : Cmd) (found : Answer) → answer setup events (event.Do tag command) ≡ Answered found
-    → command_answer setup events (is_refused events (event.Do tag command)) command ≡ found
-unfolding answer
-answered_command setup events tag command found is = same_answer (command_answer setup events (is_refused events (event.Do tag command)) command) found is
-
-answered_batch : (setup : Setup) (events : List Event) (tag : Tag) (commands : List Cmd) (found : Answer) → answer setup events (event.Batch tag commands) ≡ Answered found
-    → outcome_of (is_refused events (event.Batch tag commands)) ≡ found
-unfolding answer
-answered_batch setup events tag commands found is = same_answer (outcome_of (is_refused events (event.Batch tag commands))) found is
 
 -- the service is one of the stage, for the session of this number
 pub record IsService (service : Service) (sizes : Sizes) (worker session : ℕ) : Type 0 where
@@ -289,10 +211,7 @@ module _ (service : Service) (sizes : Sizes) (worker session : ℕ) (is : IsServ
       → IfOk (replied (command_name command) result) (IsReplyTo service.config)
   fits_asked_command command (Ok found) before after adds =
       let setup = setup_of (playout_of service) in
-      let e : Event = event.Do (tag_of before.number session) command in
-      subst (λ (a : Answer). IsReplyTo service.config (answer_reply (command_name command) a))
-      (answered_command setup adds.history (tag_of before.number session) command found (adds.told.reply setup many))
-      (fits_command service.config setup adds.history (is_refused adds.history e) command (many ∙ is.channels))
+      told_command service.config setup adds.history (tag_of before.number session) command found (many ∙ is.channels) (adds.told.reply setup many)
   fits_asked_command command (Err reason) before after looks = fits_fault service.config (command_name command) reason
 
   pub fits_asked_batch : (commands : List Cmd) (result : Result Answer ApplyFault) (before after : PassView)
@@ -302,8 +221,5 @@ module _ (service : Service) (sizes : Sizes) (worker session : ℕ) (is : IsServ
       → IfOk (replied name.Commit result) (IsReplyTo service.config)
   fits_asked_batch commands (Ok found) before after adds =
       let setup = setup_of (playout_of service) in
-      let e : Event = event.Batch (tag_of before.number session) commands in
-      subst (λ (a : Answer). IsReplyTo service.config (answer_reply name.Commit a))
-      (answered_batch setup adds.history (tag_of before.number session) commands found (adds.told.reply setup many))
-      (fits_outcome service.config name.Commit (is_refused adds.history e))
+      told_batch service.config setup adds.history (tag_of before.number session) commands found (adds.told.reply setup many)
   fits_asked_batch commands (Err reason) before after looks = fits_fault service.config name.Commit reason

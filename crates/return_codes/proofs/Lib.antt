@@ -1,3 +1,4 @@
+pub mod Answered
 mod Lines
 pub mod OnLiterals
 mod Values

@@ -1,17 +1,13 @@
 -- Requests that the stage takes or does not take, and the steps of connections.
 use Rattle.std.proofs.Common.{◌≡◌, ◌≢◌, ℕ, ◌+◌, ◌<◌, ◌≤◌, Bool, true, false, List, [], ◌∷◌, ◌++◌, refl, sym, ap, ◌∙◌, subst, arith, append-nil, append_assoc, length}
-use Rattle.std.specs.Prelude.{Some, None, Result, Ok, Err, All, IfErr, IfOk, OnErr, OnOk, get_or, nat_lt, if◌then◌else◌, option_map}
+use Rattle.std.specs.Prelude.{Some, None, Result, Ok, Err, IfErr, IfOk, OnErr, OnOk, nat_lt, if◌then◌else◌, option_map}
 use Rattle.std.proofs.lemmas.Bool.Decides.{nat_tests}
 use Rattle.std.proofs.lemmas.List.{length-map}
 use Rattle.std.proofs.lemmas.Option.{none-some}
-use Rattle.play_types.specs.Config.{ConfigView}
 use Rattle.play_types.specs.Commands.{answer_reply}
 use Rattle.play_types.specs.History.{held, stop_at, ticks}
 use Rattle.play_types.specs.declared.answer.Answer.{Answer}
 use Rattle.play_types.specs.declared.command.Cmd.{Cmd}
-use Rattle.play_types.specs.declared.command.Cmd.TheVariants.{Load, LoadBg, Play, PlayTake, Pause, Resume, StopLayer, ClearLayer, ClearChannel, SwapLayers, SwapChannels, Set, CommitMixer, ResetLayer, ResetChannel, Value, Info}
-use Rattle.play_types.specs.declared.take.Spec.{Spec}
-use Rattle.play_types.specs.declared.take.Spec.TheVariants.{Clip, Colour, RouteChannel, RouteLayer}
 use Rattle.play_types.specs.declared.event.Tag.{Tag}
 use Rattle.play_types.specs.declared.event.Event.{Event}
 use Rattle.play_types.specs.declared.event.Event.TheVariants as event
@@ -21,8 +17,6 @@ use Rattle.play_types.specs.declared.reply.Reply.TheVariants as reply
 use Rattle.play_types.proofs.Histories.{stop_at-append, ticks-append}
 use Rattle.play_outside.specs.SinkState.{SinkState, after_taking}
 use Rattle.play_outside.proofs.Taking.{after_taking-nil}
-use Rattle.history_model.specs.commands.Channels.{AreAimed, IsAimed}
-use Rattle.history_model.specs.commands.Channels as named
 use Rattle.history_model.specs.pictures.Media.{Setup}
 use Rattle.history_model.specs.stage.Answer.{Answered, answer}
 use Rattle.history_model.specs.text.Replies.{reply_lines}
@@ -32,10 +26,10 @@ use Rattle.history_model.specs.sessions.Session.{KillServer}
 use Rattle.history_model.specs.sessions.Session as model
 use Rattle.band_render.specs.Histories as frames
 use Rattle.band_render.proofs.Ticks.{represents-other}
-use Rattle.stage_core.specs.Served.{IsRouted, IsServed}
 use Rattle.stage_core.specs.Stage.{HasRoom, IsNotTaken, StageView, after_event}
 use Rattle.stage_core.specs.declared.fault.ApplyFault.{ApplyFault}
 use Rattle.stage_core.specs.declared.fault.ApplyFault.TheVariants as fault
+use Rattle.return_codes.proofs.Answered.{answered_batch, answered_command}
 use Rattle.server_setup.specs.declared.setup.ServerSetup.{ServerSetup}
 use Rattle.run_script.specs.declared.clients.Clients.{Clients}
 use Rattle.run_script.specs.declared.ending.Halt.{Halt}
@@ -66,47 +60,6 @@ pub ticks_kept : (event : Event) (player : Player) (stage : StageView) → ticks
     → ticks stage.journal.events ≡ ticks (events_in player)
 ticks_kept event player stage none is =
     ap (λ (s : StageView). ticks s.journal.events) is ∙ ticks-append (events_in player) (event ∷ []) ∙ omega (arith, none)
-
--- a route to a configured channel is one to a channel of the stage
-routed_by : (config : ConfigView) (spec : Spec) → named.IsRouted config spec → IsRouted (length config.channels) spec
-routed_by config (Clip id) routed = tt
-routed_by config (Colour value) routed = tt
-routed_by config (RouteChannel channel) routed = routed
-routed_by config (RouteLayer place) routed = routed
-
--- a stage that has the configured channels serves each command that names configured channels alone
-pub served_by : (config : ConfigView) (command : Cmd) → IsAimed config command → IsServed (length config.channels) command
-served_by config (Load place take) aimed = (aimed.0, routed_by config take.spec aimed.1)
-served_by config (LoadBg place take) aimed = (aimed.0, routed_by config take.spec aimed.1)
-served_by config (Play place) aimed = aimed
-served_by config (PlayTake place take) aimed = (aimed.0, routed_by config take.spec aimed.1)
-served_by config (Pause place) aimed = aimed
-served_by config (Resume place) aimed = aimed
-served_by config (StopLayer place) aimed = aimed
-served_by config (ClearLayer place) aimed = aimed
-served_by config (ClearChannel channel) aimed = aimed
-served_by config (SwapLayers a b transforms) aimed = aimed
-served_by config (SwapChannels a b transforms) aimed = aimed
-served_by config (Set setting) aimed = aimed
-served_by config (CommitMixer channel) aimed = aimed
-served_by config (ResetLayer place) aimed = aimed
-served_by config (ResetChannel channel) aimed = aimed
-served_by config (Value place prop) aimed = aimed
-served_by config Info aimed = aimed
-
--- and each command of a batch
-pub each_served_by : (config : ConfigView) (commands : List Cmd) → AreAimed config commands → All (IsServed (length config.channels)) commands
-each_served_by config commands aimed = λ k command inside. served_by config (get_or commands k command) (aimed k command inside)
-
--- the stage serves a command that names configured channels alone
-pub served : (player : Player) (command : Cmd) → IsReady player → IsAimed player.setup.config command → IsServed player.stage.channels command
-served player command ready aimed =
-    subst (λ (n : ℕ). IsServed n command) (sym ready.channels) (served_by player.setup.config command aimed)
-
--- and the commands of a batch that do so
-pub each_served : (player : Player) (commands : List Cmd) → IsReady player → AreAimed player.setup.config commands → All (IsServed player.stage.channels) commands
-each_served player commands ready aimed =
-    subst (λ (n : ℕ). All (IsServed n) commands) (sym ready.channels) (each_served_by player.setup.config commands aimed)
 
 -- what becomes of a number of commands
 judged : (turn : Turn) (commands : ℕ) (full : Bool) → is_full turn.playout turn.events commands ≡ full
@@ -176,28 +129,23 @@ going_on player commands (Err fault.OutOfMemory) ready cause = tt
 going_on player commands (Err (fault.JournalFull already)) ready cause = tt
 going_on player commands (Err (fault.Ended at)) ready cause = absurd (none-some at (sym ready.running ∙ cause))
 
--- the answer to a command that the stage took
-same_answer : (one other : Answer) → Answered one ≡ Answered other → one ≡ other
-same_answer one other e = cc
-
 -- the setup has the channels of the stage
-channels_of : (player : Player) → IsReady player → length (setup_in player).channels ≡ player.stage.channels
+pub channels_of : (player : Player) → IsReady player → length (setup_in player).channels ≡ player.stage.channels
 channels_of player ready = length-map player.setup.config.channels channel_size ∙ sym ready.channels
 
+-- the answer to a command that the stage took
 pub command_answered : (player : Player) (tag : Tag) (command : Cmd) (taken : Result Answer ApplyFault) → IsReady player
     → IfOk taken (λ given. (setup : Setup) → length setup.channels ≡ player.stage.channels → answer setup (events_in player) (event.Do tag command) ≡ Answered given)
     → IfOk taken (λ given. given ≡ (command_request player tag command).answer)
-unfolding answer
 command_answered player tag command (Ok given) ready answers =
-    sym (same_answer (command_request player tag command).answer given (answers (setup_in player) (channels_of player ready)))
+    sym (answered_command (setup_in player) (events_in player) tag command given (answers (setup_in player) (channels_of player ready)))
 command_answered player tag command (Err reason) ready answers = tt
 
 -- the answer to a batch that the stage took
 pub batch_answered : (player : Player) (tag : Tag) (commands : List Cmd) (taken : Result Answer ApplyFault)
     → IfOk taken (λ given. (setup : Setup) → answer setup (events_in player) (event.Batch tag commands) ≡ Answered given)
     → IfOk taken (λ given. given ≡ (batch_request player tag commands).answer)
-unfolding answer
-batch_answered player tag commands (Ok given) answers = sym (same_answer (batch_request player tag commands).answer given (answers (setup_in player)))
+batch_answered player tag commands (Ok given) answers = sym (answered_batch (setup_in player) (events_in player) tag commands given (answers (setup_in player)))
 batch_answered player tag commands (Err reason) answers = tt
 
 -- the player goes on after a command or a batch, whether the stage took it or not

@@ -1,11 +1,9 @@
-use Rattle.std.proofs.Common.{◌≢◌, ◌<◌, ◌∷◌, [], List, length, refl, sym, ◌∙◌, subst, arith}
-use Rattle.std.specs.Prelude.{All}
+use Rattle.std.proofs.Common.{rules, ◌≢◌, ◌<◌, ◌∷◌, [], List, length, refl, sym, ◌∙◌, subst, arith}
 use Rattle.play_types.specs.declared.command.Cmd.{Cmd}
 use Rattle.play_types.specs.declared.event.Event.TheVariants.{Batch, Tick}
-use Rattle.stage_core.specs.Served.{IsServed}
 use Rattle.run_script.specs.inner.Player.{DoesRequest, batch_request}
 use Rattle.run_script.proofs.Connections.{aimed_of}
-use Rattle.run_script.proofs.Following.{batch_answered, does_request, each_served, going_on, no_tick_after, ready_after}
+use Rattle.run_script.proofs.Following.{batch_answered, does_request, going_on, no_tick_after, ready_after}
 use Rattle.run_script.proofs.Replying.{batch_fits}
 use Rattle.run_script.proofs.player.Player.do_batch.Goals as goal
 
@@ -19,8 +17,9 @@ apply_batch-requires-clause-some c = some c.batch-commands.result.now (λ none. 
 pub apply_batch-requires-clause-each : goal.apply_batch-requires-clause-each
 apply_batch-requires-clause-each c =
     let old = c.args.self.now in
-    subst (λ commands. All (IsServed old.stage.channels) commands) (sym c.batch-commands.ensures)
-    (each_served old _ c.requires.ready (aimed_of old.setup.config c.args.tag old.clients.list.items c.requires.ready.batches))
+    let aimed = aimed_of old.setup.config c.args.tag old.clients.list.items c.requires.ready.batches in
+    let same = c.requires.ready.channels in
+    search rules
 
 pub reply_to-requires : goal.reply_to-requires
 reply_to-requires c = going_on c.args.self.now (length c.batch-commands.result.now) c.apply_batch.result c.requires.ready c.apply_batch.ensures.fault
@@ -39,8 +38,7 @@ pub returns-clause-fits : goal.returns-clause-fits
 returns-clause-fits c =
     let old = c.args.self.now in
     let commands = c.batch-commands.result.now in
-    batch_fits old c.args.tag commands c.apply_batch.result c.reply_to.result
-    (batch_answered old c.args.tag commands c.apply_batch.result c.apply_batch.ensures.answer) c.reply_to.ensures
+    batch_fits old c.args.tag commands c.apply_batch.result c.reply_to.result c.apply_batch.ensures.answer c.reply_to.ensures
 
 pub returns-clause-does : goal.returns-clause-does
 returns-clause-does c =

@@ -1,12 +1,9 @@
 use Rattle.std.proofs.Common.{◌≢◌, refl, subst}
 use Rattle.play_types.specs.declared.event.Event.TheVariants.{Do, Tick}
 use Rattle.run_script.specs.inner.Player.{RepliesTo, command_request}
-use Rattle.run_script.proofs.Following.{command_answered, does_request, going_on, no_tick_after, ready_after, served}
+use Rattle.run_script.proofs.Following.{command_answered, does_request, going_on, no_tick_after, ready_after}
 use Rattle.run_script.proofs.Replying.{command_fits}
 use Rattle.run_script.proofs.player.Player.do_command.Goals as goal
-
-pub apply-requires : goal.apply-requires
-apply-requires c = served c.args.self.now c.args.cmd c.requires.ready c.requires.aimed
 
 pub reply_to-requires : goal.reply_to-requires
 reply_to-requires c = going_on c.args.self.now 1 c.apply.result c.requires.ready c.apply.ensures.fault
@@ -22,8 +19,7 @@ returns-clause-ticks c = no_tick_after (Do c.args.tag c.args.cmd) c.apply.result
 pub returns-clause-fits : goal.returns-clause-fits
 returns-clause-fits c =
     let old = c.args.self.now in
-    command_fits old c.args.tag c.args.cmd c.apply.result c.reply_to.result
-    (command_answered old c.args.tag c.args.cmd c.apply.result c.requires.ready c.apply.ensures.answer)
+    command_fits old c.args.tag c.args.cmd c.apply.result c.reply_to.result c.requires.ready c.apply.ensures.answer
     (subst (λ n. RepliesTo n c.apply.result c.reply_to.result) c.name-name.ensures c.reply_to.ensures)
 
 pub returns-clause-does : goal.returns-clause-does

@@ -2,16 +2,8 @@
 use Rattle.std.proofs.Common.{◌≡◌, ◌≢◌, inl, inr, ℕ, ◌≤◌, List, refl, sym, ap, ◌∙◌, subst, arith}
 use Rattle.std.specs.Prelude.{Option, Some, None, Result, Ok, Err, IfSome, MatchOption}
 use Rattle.std.proofs.lemmas.Option.{none-some}
-use Rattle.std.specs.Str.{encode_utf8_all}
-use Rattle.play_types.specs.Config.{ConfigView}
 use Rattle.play_outside.specs.Faults.{Rose}
 use Rattle.play_outside.specs.FolderState.{FolderState, Files}
-use Rattle.play_outside.specs.Folder.{IsHeld, config_at}
-use Rattle.config_file.specs.Reading.{config_in}
-use Rattle.clip_format.specs.Table.{Entry}
-use Rattle.clip_store.specs.declared.fault.ScanFault.{ScanFault}
-use Rattle.clip_store.specs.declared.fault.ScanFault.TheVariants as scan
-use Rattle.clip_store.specs.Scan.{Tells, scanned}
 use Rattle.run_script.specs.declared.ending.Ending.{Ending}
 use Rattle.run_script.specs.declared.ending.Ending.TheVariants.{Finished, Stopped, BadLine, TooLong, ReadFault, WriteFault}
 use Rattle.run_script.specs.declared.ending.Ending.TheVariants as ending
@@ -22,9 +14,10 @@ use Rattle.server_setup.specs.declared.fault.RunFault.TheVariants as faults
 use Rattle.run_script.specs.Ending.{status_of}
 use Rattle.run_script.specs.CommandLine.{CommandLine, Plain, Configured, command_line_of}
 use Rattle.run_script.specs.Program.{Outside, streams_of, SaysUsage, RunsCommandLine, PlaysToEnd, DeviceFails, MeetsFault, MeetsFirstFault, SucceedsIfValid, PlaysScript, plain_playout, playout_of}
-use Rattle.server_setup.specs.Setup.{HoldsSome, SetsUp, fault_of_clips, fault_of_files, fault_of_held, fault_of_text}
+use Rattle.server_setup.specs.Setup.{SetsUp, TellsFirst, fault_of_files}
 use Rattle.server_setup.specs.Fault as setup
 use Rattle.run_script.proofs.Complete.{completes_run, device_of_run, is_played}
+use Rattle.server_setup.proofs.FirstFault.{told_first}
 use Rattle.server_setup.proofs.Setups.{files_kept, kept_but_device}
 
 -- a status of a run of a command line
@@ -141,82 +134,33 @@ module _ (before after : Outside) where
       ok_no_device : {one : ServerSetup} → Ok one ≢ Err Device
       ok_no_device e = let no : 0 ≡ 4 = ap status_in e in omega (arith, no)
 
-  -- what is held at the path, where something such is held
-  held_such : (IsSuch : List ℕ → Type 0) (path : List ℕ) (files : Files) → before.media.files ≡ Some files → HoldsSome IsSuch path before.media
-      → (bytes : List ℕ) × (config_at path files ≡ Some bytes) × IsSuch bytes
-  held_such IsSuch path files known holds = (holds.0, subst (λ (f : Option Files). IsHeld (config_at path) holds.0 f) known holds.1, holds.2)
-
-  -- the first fault of files with a configuration that is accepted is that of its clips
-  fault_by_clips : (path : List ℕ) (files : Files) (config : ConfigView) (answer : Result (List Entry) ScanFault) → before.media.files ≡ Some files
-      → HoldsSome (λ bytes. config_in bytes ≡ Some (Ok config)) path before.media → Tells (scanned (encode_utf8_all config.media)) answer before.media.files
-      → fault_of_files path files ≡ fault_of_clips answer
-  unfolding fault_of_files
-  fault_by_clips path files config answer known holds tells =
-      let held = held_such (λ bytes. config_in bytes ≡ Some (Ok config)) path files known holds in
-      let is : answer ≡ scanned (encode_utf8_all config.media) files =
-      subst (λ (f : Option Files). Tells (scanned (encode_utf8_all config.media)) answer f) known tells in
-      ap (fault_of_held files) held.1
-      ∙ ap (fault_of_text files) held.2
-      ∙ ap fault_of_clips (sym is)
-
-  -- what a result says of the first fault of the files
-  abbrev pub SaysFault : Result ServerSetup RunFault → Option RunFault → Type 0
-  SaysFault (Ok setup) first = first ≡ None
-  SaysFault (Err ConfigText) first = first ≡ Some ConfigText
-  SaysFault (Err (ConfigKey name)) first = first ≡ Some (ConfigKey name)
-  SaysFault (Err (MediaTwice name)) first = first ≡ Some (MediaTwice name)
-  SaysFault (Err (MediaTotal total)) first = first ≡ Some (MediaTotal total)
-  SaysFault (Err Device) first = Rose before.media.faults after.media.faults
-  SaysFault (Err OutOfMemory) first = Unit {0}
-  SaysFault (Err Usage) first = ⊥
-  SaysFault (Err (faults.BadLine number)) first = ⊥
-  SaysFault (Err InputTooLong) first = ⊥
-
-  first_fault : (path : List ℕ) (files : Files) → before.media.files ≡ Some files → (answer : Result ServerSetup RunFault) → SetsUp path answer before.media after.media
-      → SaysFault answer (fault_of_files path files)
-  unfolding fault_of_files
-  first_fault path files known (Ok setup) sets = fault_by_clips path files setup.config (Ok setup.media) known sets.0 sets.1.0
-  first_fault path files known (Err ConfigText) sets =
-      let held = held_such (λ bytes. config_in bytes ≡ None) path files known sets.0 in
-      ap (fault_of_held files) held.1 ∙ ap (fault_of_text files) held.2
-  first_fault path files known (Err (ConfigKey name)) sets =
-      let held = held_such (λ bytes. config_in bytes ≡ Some (Err name)) path files known sets.0 in
-      ap (fault_of_held files) held.1 ∙ ap (fault_of_text files) held.2
-  first_fault path files known (Err (MediaTwice name)) sets = fault_by_clips path files sets.0 (Err (scan.TwoNames name)) known sets.1 sets.2.0
-  first_fault path files known (Err (MediaTotal total)) sets = fault_by_clips path files sets.0 (Err (scan.TooLarge total)) known sets.1 sets.2.0
-  first_fault path files known (Err Device) sets = sets.1
-  first_fault path files known (Err OutOfMemory) sets = tt
-  first_fault path files known (Err Usage) sets = absurd sets
-  first_fault path files known (Err (faults.BadLine number)) sets = absurd sets
-  first_fault path files known (Err InputTooLong) sets = absurd sets
-
   -- what has no fault is refused out of memory alone, where no read fails
-  not_refused : (first : Option RunFault) → first ≡ None → (fault : RunFault) → SaysFault (Err fault) first → (Rose before.media.faults after.media.faults → ⊥)
-      → setup.status_of fault ≡ 5
-  not_refused first none ConfigText says well = absurd (none-some _ (sym none ∙ says))
-  not_refused first none (ConfigKey name) says well = absurd (none-some _ (sym none ∙ says))
-  not_refused first none (MediaTwice name) says well = absurd (none-some _ (sym none ∙ says))
-  not_refused first none (MediaTotal total) says well = absurd (none-some _ (sym none ∙ says))
-  not_refused first none Device says well = absurd (well says)
-  not_refused first none OutOfMemory says well = refl
-  not_refused first none Usage says well = absurd says
-  not_refused first none (faults.BadLine number) says well = absurd says
-  not_refused first none InputTooLong says well = absurd says
+  not_refused : (path : List ℕ) (first : Option RunFault) → first ≡ None → (fault : RunFault) → SetsUp path (Err fault) before.media after.media
+      → TellsFirst (Err fault) first → (Rose before.media.faults after.media.faults → ⊥) → setup.status_of fault ≡ 5
+  not_refused path first none ConfigText sets tells well = absurd (none-some _ (sym none ∙ tells))
+  not_refused path first none (ConfigKey name) sets tells well = absurd (none-some _ (sym none ∙ tells))
+  not_refused path first none (MediaTwice name) sets tells well = absurd (none-some _ (sym none ∙ tells))
+  not_refused path first none (MediaTotal total) sets tells well = absurd (none-some _ (sym none ∙ tells))
+  not_refused path first none Device sets tells well = absurd (well sets.1)
+  not_refused path first none OutOfMemory sets tells well = refl
+  not_refused path first none Usage sets tells well = absurd tells
+  not_refused path first none (faults.BadLine number) sets tells well = absurd tells
+  not_refused path first none InputTooLong sets tells well = absurd tells
 
   -- a refusal meets the first fault
-  refusal_meets : (first : Option RunFault) (fault : RunFault) (status : ℕ) → status ≡ setup.status_of fault → SaysFault (Err fault) first → after.input ≡ before.input
-      → MeetsFault first status before after
-  refusal_meets first ConfigText status is says unread = subst (λ (o : Option RunFault). MeetsFault o status before after) (sym says) (inl is, unread)
-  refusal_meets first (ConfigKey name) status is says unread = subst (λ (o : Option RunFault). MeetsFault o status before after) (sym says) (inl is, unread)
-  refusal_meets first (MediaTwice name) status is says unread = subst (λ (o : Option RunFault). MeetsFault o status before after) (sym says) (inl is, unread)
-  refusal_meets first (MediaTotal total) status is says unread = subst (λ (o : Option RunFault). MeetsFault o status before after) (sym says) (inl is, unread)
-  refusal_meets None Device status is says unread = λ e. let no : 4 ≡ 3 = sym is ∙ e in omega (arith, no)
-  refusal_meets (Some fault) Device status is says unread = (inr (inr (is, says)), unread)
-  refusal_meets None OutOfMemory status is says unread = λ e. let no : 5 ≡ 3 = sym is ∙ e in omega (arith, no)
-  refusal_meets (Some fault) OutOfMemory status is says unread = (inr (inl is), unread)
-  refusal_meets first Usage status is says unread = absurd says
-  refusal_meets first (faults.BadLine number) status is says unread = absurd says
-  refusal_meets first InputTooLong status is says unread = absurd says
+  refusal_meets : (path : List ℕ) (first : Option RunFault) (fault : RunFault) (status : ℕ) → status ≡ setup.status_of fault
+      → SetsUp path (Err fault) before.media after.media → TellsFirst (Err fault) first → after.input ≡ before.input → MeetsFault first status before after
+  refusal_meets path first ConfigText status is sets tells unread = subst (λ (o : Option RunFault). MeetsFault o status before after) (sym tells) (inl is, unread)
+  refusal_meets path first (ConfigKey name) status is sets tells unread = subst (λ (o : Option RunFault). MeetsFault o status before after) (sym tells) (inl is, unread)
+  refusal_meets path first (MediaTwice name) status is sets tells unread = subst (λ (o : Option RunFault). MeetsFault o status before after) (sym tells) (inl is, unread)
+  refusal_meets path first (MediaTotal total) status is sets tells unread = subst (λ (o : Option RunFault). MeetsFault o status before after) (sym tells) (inl is, unread)
+  refusal_meets path None Device status is sets tells unread = λ e. let no : 4 ≡ 3 = sym is ∙ e in omega (arith, no)
+  refusal_meets path (Some fault) Device status is sets tells unread = (inr (inr (is, sets.1)), unread)
+  refusal_meets path None OutOfMemory status is sets tells unread = λ e. let no : 5 ≡ 3 = sym is ∙ e in omega (arith, no)
+  refusal_meets path (Some fault) OutOfMemory status is sets tells unread = (inr (inl is), unread)
+  refusal_meets path first Usage status is sets tells unread = absurd tells
+  refusal_meets path first (faults.BadLine number) status is sets tells unread = absurd tells
+  refusal_meets path first InputTooLong status is sets tells unread = absurd tells
 
   pub run_refused : (line : CommandLine) (status : ℕ) → RunsCommandLine line status before after → MeetsFirstFault line status before after
   run_refused (Plain size) status runs = λ e. no_clips runs.1.ending (sym runs.1.outcome ∙ e)
@@ -226,10 +170,11 @@ module _ (before after : Outside) where
       by_files None is = tt
       by_files (Some files) is =
           elim runs [
-            | inl refused ↦ refusal_meets (fault_of_files path files) refused.fault status refused.outcome
-                (first_fault path files is (Err refused.fault) refused.refused) refused.unread
+            | inl refused ↦ refusal_meets path (fault_of_files path files) refused.fault status refused.outcome refused.refused
+                (told_first path (Err refused.fault) before.media after.media files is refused.refused) refused.unread
             | inr configured ↦ subst (λ (o : Option RunFault). MeetsFault o status before after)
-                (sym (first_fault path files is (Ok configured.setup) configured.set_up)) (λ e. no_clips configured.run.ending (sym configured.run.outcome ∙ e))
+                (sym (told_first path (Ok configured.setup) before.media after.media files is configured.set_up))
+                (λ e. no_clips configured.run.ending (sym configured.run.outcome ∙ e))
           ]
 
   pub run_complete : (line : CommandLine) (status : ℕ) → RunsCommandLine line status before after → SucceedsIfValid line status before after
@@ -237,7 +182,8 @@ module _ (before after : Outside) where
       completes_run (plain_playout size) status (streams_of before) (streams_of after) runs.1 valid (λ e. well (inl e)) (λ e. well (inr e))
   run_complete (Configured path digests) status runs = λ can valid well.
       elim runs [
-        | inl refused ↦ inr (refused.outcome ∙ not_refused (fault_of_files path can.0) can.2 refused.fault (first_fault path can.0 can.1 (Err refused.fault) refused.refused) can.3)
+        | inl refused ↦ inr (refused.outcome ∙ not_refused path (fault_of_files path can.0) can.2 refused.fault refused.refused
+            (told_first path (Err refused.fault) before.media after.media can.0 can.1 refused.refused) can.3)
         | inr configured ↦ completes_run (playout_of configured.setup digests) status (streams_of before) (streams_of after) configured.run valid (λ e. well (inl e)) (λ e. well (inr e))
       ]
 

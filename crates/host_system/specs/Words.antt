@@ -6,6 +6,8 @@ use Rattle.std.specs.IoError.{error_kind}
 use Rattle.std.specs.declared.io.Error.{Error}
 use Rattle.std.specs.declared.io.ErrorKind.TheVariants as kind
 use Rattle.std.specs.declared.vec.IntoIter.{IntoIter}
+use Rattle.server_setup.specs.declared.fault.RunFault.{RunFault}
+use Rattle.server_setup.specs.declared.fault.RunFault.TheVariants as run
 use Rattle.host_system.specs.declared.words.WordsFault.{WordsFault}
 use Rattle.host_system.specs.declared.words.WordsFault.TheVariants.{Unreadable, OutOfMemory}
 
@@ -18,3 +20,8 @@ TakesWords (Ok args) (Err OutOfMemory) = Unit {0}
 TakesWords (Err error) (Ok words) = ⊥
 TakesWords (Err error) (Err Unreadable) = error_kind error ≢ kind.OutOfMemory
 TakesWords (Err error) (Err OutOfMemory) = error_kind error ≡ kind.OutOfMemory
+
+-- the fault of a run whose words are not known: words that cannot be read are no command line
+abbrev pub run_fault_of : WordsFault → RunFault
+run_fault_of Unreadable = run.Usage
+run_fault_of OutOfMemory = run.OutOfMemory

@@ -1,9 +1,10 @@
 //! The words of a command line.
 ghost use Rattle.std.specs.Prelude.{◌≡◌, IfOk, drop};
 ghost use Rattle.std.specs.Vec.Iter.{into_iter_items};
-ghost use Rattle.host_system.specs.Words.{TakesWords};
+ghost use Rattle.host_system.specs.Words.{TakesWords, run_fault_of};
 ghost use Rattle.host_system.specs.declared.words.WordsFault.TheVariants.{OutOfMemory};
 
+use server_setup::RunFault;
 use std::alloc::{AllocError, Global};
 use std::env::Args;
 use std::error::Error;
@@ -35,6 +36,18 @@ impl From<AllocError> for WordsFault {
 
     fn from(_error: AllocError) -> WordsFault {
         WordsFault::OutOfMemory
+    }
+}
+
+impl From<WordsFault> for RunFault {
+    ghost from_gives = { λ error fault. fault ≡ run_fault_of error };
+
+    /// Returns the fault of a run: words that cannot be read are no command line.
+    fn from(error: WordsFault) -> RunFault {
+        match error {
+            WordsFault::Unreadable => RunFault::Usage,
+            WordsFault::OutOfMemory => RunFault::OutOfMemory,
+        }
     }
 }
 

@@ -3,16 +3,8 @@ use Rattle.std.specs.Prelude.{◌≡◌, ℕ, List, [], ◌∷◌, ◌++◌}
 use Rattle.play_outside.specs.declared.sink.WriteStep.{WriteStep}
 use Rattle.server_setup.specs.Fault.{fault_line, status_of}
 use Rattle.server_setup.specs.declared.fault.RunFault.{RunFault}
-use Rattle.server_setup.specs.declared.fault.RunFault.TheVariants as run
 use Rattle.play_server.specs.SiteState.{SiteState}
 use Rattle.play_server.specs.Site.{Says}
-use Rattle.host_system.specs.declared.words.WordsFault.{WordsFault}
-use Rattle.host_system.specs.declared.words.WordsFault.TheVariants.{Unreadable, OutOfMemory}
-
--- words that cannot be read are no command line
-abbrev pub run_fault_of : WordsFault → RunFault
-run_fault_of Unreadable = run.Usage
-run_fault_of OutOfMemory = run.OutOfMemory
 
 -- the run ends with this fault: no devices are asked for, and its line is said, or could not be said
 pub record EndsAtOnce {C D O : Type 0} (fault : RunFault) (status : ℕ) (before after : SiteState C D O) : Type 0 where

@@ -9,9 +9,6 @@ pub const PROGRAM: &str = "playd";
 /// The line of words that are no command line.
 pub const USAGE_FAULT: &str = "E usage";
 
-/// The line of memory that ran out.
-pub const MEMORY_FAULT: &str = "E memory";
-
 /// Says which words the program takes, with an example of each form.
 pub fn say_usage<E: Eprint>(errors: &E) {
     let _ = errors.eprintln(USAGE);

@@ -1,10 +1,9 @@
 //! The whole program, over its words and its site.
-ghost use Rattle.std.specs.Prelude.{◌≡◌, ◌∷◌, ◌++◌, [], IfOk, IfErr, codes, map, string_bytes};
-ghost use Rattle.server_setup.specs.Fault.{fault_line, status_of};
+ghost use Rattle.std.specs.Prelude.{◌≡◌, ◌∷◌, IfOk, IfErr, codes, map, string_bytes};
 ghost use Rattle.play_server.specs.Program.{RunsServer};
-ghost use Rattle.playd.specs.Serve.{EndsAtOnce, run_fault_of};
+ghost use Rattle.host_system.specs.Words.{run_fault_of};
+ghost use Rattle.playd.specs.Serve.{EndsAtOnce};
 
-use crate::said::{MEMORY_FAULT, USAGE_FAULT};
 use host_system::WordsFault;
 use play_server::{Site, serve_main};
 use server_setup::RunFault;
@@ -30,17 +29,17 @@ pub fn serve<R: Threads + Wait + Sync, E: Site>(
 {
     match words {
         Ok(words) => serve_main(rt, alloc, words.as_slice(), site),
-        Err(WordsFault::Unreadable) => end(RunFault::Usage, USAGE_FAULT, site),
-        Err(WordsFault::OutOfMemory) => end(RunFault::OutOfMemory, MEMORY_FAULT, site),
+        Err(fault) => end(fault, site),
     }
 }
 
-/// Says the line of a fault, and returns its exit status.
-fn end<E: Site>(fault: RunFault, line: &str, site: &mut E) -> u8
-    requires { line.now ++ 10 ∷ [] ≡ fault_line fault }
-    ensures ends { EndsAtOnce fault result (E.state site.old) (E.state site.new) }
+/// Says the line of the fault that words are which are not known, and returns its exit status.
+fn end<E: Site>(fault: WordsFault, site: &mut E) -> u8
+    ensures ends { EndsAtOnce (run_fault_of fault) result (E.state site.old) (E.state site.new) }
     ensures unread { E.folder site.new ≡ E.folder site.old }
 {
+    let fault = RunFault::from(fault);
+    let line = fault.short_line().unwrap();
     let _ = site.say(line);
     fault.status()
 }

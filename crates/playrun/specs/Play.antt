@@ -2,15 +2,7 @@
 use Rattle.std.specs.Prelude.{◌≡◌, ℕ}
 use Rattle.server_setup.specs.Fault.{fault_line, status_of}
 use Rattle.server_setup.specs.declared.fault.RunFault.{RunFault}
-use Rattle.server_setup.specs.declared.fault.RunFault.TheVariants as run
 use Rattle.run_script.specs.Program.{Outside, WritesFaultLine}
-use Rattle.host_system.specs.declared.words.WordsFault.{WordsFault}
-use Rattle.host_system.specs.declared.words.WordsFault.TheVariants.{Unreadable, OutOfMemory}
-
--- words that cannot be read are no command line
-abbrev pub run_fault_of : WordsFault → RunFault
-run_fault_of Unreadable = run.Usage
-run_fault_of OutOfMemory = run.OutOfMemory
 
 -- the run ends with this fault: nothing is read, and the output says so
 pub record EndsAtOnce (fault : RunFault) (status : ℕ) (before after : Outside) : Type 0 where

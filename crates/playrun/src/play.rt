@@ -2,7 +2,8 @@
 ghost use Rattle.std.specs.Prelude.{◌≡◌, IfOk, IfErr, map, string_bytes};
 ghost use Rattle.server_setup.specs.Fault.{fault_line, status_of};
 ghost use Rattle.run_script.specs.Program.{PlaysScript, WritesFaultLine};
-ghost use Rattle.playrun.specs.Play.{EndsAtOnce, run_fault_of};
+ghost use Rattle.host_system.specs.Words.{run_fault_of};
+ghost use Rattle.playrun.specs.Play.{EndsAtOnce};
 
 use super::complaint::say_usage;
 use host_system::WordsFault;
@@ -33,8 +34,7 @@ pub fn play<R: Threads + Sync + Eprint, I: Source, M: MediaDir, O: Sink>(
 {
     let status = match words {
         Ok(words) => run_main(rt, alloc, words.as_slice(), input, media, out),
-        Err(WordsFault::Unreadable) => end(RunFault::Usage, out),
-        Err(WordsFault::OutOfMemory) => end(RunFault::OutOfMemory, out),
+        Err(fault) => end(RunFault::from(fault), out),
     };
     if status == RunFault::Usage.status() {
         say_usage(rt);

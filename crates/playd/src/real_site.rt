@@ -5,7 +5,7 @@ ghost use Rattle.play_server.specs.SiteState.{after_finish};
 
 use crate::said::{PROGRAM, USAGE_FAULT, say_listening, say_usage};
 use host_system::FolderMedia;
-use play_outside::{FileFault, WriteStep};
+use play_outside::{FileFault, MediaDir, WriteStep};
 use play_server::Site;
 use play_types::Config;
 use real_devices::{FileSink, RateClock, RealDevices, TcpDoor};
@@ -25,19 +25,11 @@ pub struct RealSite<R> {
     faults: u64,
 }
 
-impl<
-    R: Net<Listener = TcpListener, Stream = TcpStream>
-        + Files<File = File>
-        + Clock
-        + Eprint
-        + AllocGlobal
-        + Copy
-        + Drop
-        + Send,
-> RealSite<R> {
+impl<R: Files + Eprint + AllocGlobal + Copy + Drop> RealSite<R> {
     /// Returns the site over a runtime. No call of it has failed yet, and no read of its folder.
     pub fn new(rt: R) -> RealSite<R>
-        ensures { ⟦<RealSite<R> as Site>⟧.state result ≡ record { told = None; faults = 0 } }
+        ensures faults { result.faults ≡ 0 }
+        ensures folder { ⟦<FolderMedia<R> as MediaDir>⟧.state result.media ≡ record { files = None; faults = 0 } }
     {
         RealSite {
             rt,
@@ -45,9 +37,7 @@ impl<
             faults: 0,
         }
     }
-}
 
-impl<R> RealSite<R> {
     /// Counts a failed call.
     fn raise(&mut self)
         ensures { self.new ≡ record self.old { faults = one_more self.old.faults } }

@@ -1,5 +1,5 @@
 -- What a pulse leaves, for a pass, a clock and the outputs.
-use Rattle.std.proofs.Common.{◌≡◌, ℕ, ◌+◌, ◌<◌, ◌≤◌, Some, None, Result, Ok, Err, List, [], ◌∷◌, ◌++◌, length, refl, sym, ap, subst, ◌∙◌, arith, length-append, append-nil}
+use Rattle.std.proofs.Common.{◌≡◌, ℕ, ◌+◌, ◌<◌, ◌≤◌, Some, Ok, Err, List, [], ◌∷◌, ◌++◌, length, refl, sym, ap, subst, ◌∙◌, arith}
 use mathlib.Core.List.{IsPrefix}
 use Rattle.play_types.specs.History.{stop_at, ticks}
 use Rattle.play_types.specs.Scene.{IsConfigured}
@@ -8,21 +8,21 @@ use Rattle.play_types.specs.declared.event.Event.TheVariants.{Tick}
 use Rattle.play_types.specs.declared.event.TheConstants.{MAX_TICKS}
 use Rattle.play_types.proofs.Histories.{ticks-append}
 use Rattle.play_outside.specs.ClockState.{ClockState, after_pulse}
-use Rattle.play_outside.specs.SinkState.{SinkState, after_taking}
+use Rattle.play_outside.specs.SinkState.{SinkState}
 use Rattle.clip_format.specs.Table.{Entry}
 use Rattle.history_model.specs.pictures.Media.{Setup}
 use Rattle.stage_lock.specs.Views.{PassView, SharedView}
-use Rattle.stage_lock.specs.Calls.{Looks, added, looked}
+use Rattle.stage_lock.specs.Calls.{Looks, looked}
 use Rattle.play_ticker.specs.Ends.{after_pulses, clock_at_end, pulses_taken}
-use Rattle.play_ticker.specs.Frames.{raw_frame, tick_positions}
-use Rattle.play_ticker.specs.Outputs.{EachOutput, IsWritten, Shown, TakesFrames}
+use Rattle.play_ticker.specs.Frames.{raw_frame}
+use Rattle.play_ticker.specs.Outputs.{EachOutput, IsWritten, TakesFrames}
 use Rattle.play_ticker.specs.inner.Loop.{IsAtEnd, IsKnown, MadeTicks}
 use Rattle.play_ticker.specs.inner.Pulse.{FailsAt, MakesPulse, MakesTick, TakesPulse, Ticking, bytes_in}
 use Rattle.play_ticker.specs.declared.ending.TickEnd.{TickEnd}
 use Rattle.play_ticker.specs.declared.ending.TickEnd.TheVariants.{ClockClosed, Ended, TicksOver, ClockFault, OutFault}
 use Rattle.play_ticker.proofs.Frames.{GoesOn, tick_positions-quiet, ticks-quiet}
 use Rattle.play_ticker.proofs.Taking.{cut_tick, each_then, still_written, taken_tick}
-use Rattle.play_ticker.proofs.Steps.{Goes, added_tick, found_goes_on, goes_looked, goes_tick, made_more, made_tick, pulses-more, ticked}
+use Rattle.play_ticker.proofs.Steps.{Goes, found_goes_on, goes_looked, goes_tick, made_more, made_tick, pulses-more}
 
 -- pass 0 after a pulse that was the last
 pub record PassEnded (end : TickEnd) (base old new : PassView) : Type 0 where
@@ -53,32 +53,29 @@ told_looked old IsTold new h = subst (λ (p : PassView). IsTold p.seen) (sym h.a
 seen_tick : (entries : List Entry) (old new : Ticking) (h : MakesTick entries old new) → new.pass.seen ≡ h.history ++ Tick ∷ []
 seen_tick entries old new h = ap (λ (p : PassView). p.seen) h.after
 
+-- after a pulse at which the stage was looked at and made no tick
+looked_ended : (end : TickEnd) (IsTold : List Event → Type 0) (base old new : PassView) → ((made : ℕ) → pulses_taken end made ≡ made + 1) → Looks old IsTold new → Goes base old
+    → IsAtEnd end new → PassEnded end base old new
+looked_ended end IsTold base old new pulses h was cause =
+    let all = goes_looked base old new IsTold h was in record {
+      first = all.0;
+      seen = all.1;
+      turns = all.3 ∙ ap (λ (n : ℕ). base.turns + n) (sym (pulses (length new.made)));
+      ends = all.4;
+      pulses = pulses (length new.made) ∙ ap (λ (l : List ℕ). length l + 1) all.2;
+      known = h.found.made_seen;
+      ticks = made_looked old new IsTold was.first h;
+      cause = λ stage. cause;
+    }
+
 pub pulse_ended : (end : TickEnd) (entries : List Entry) (base : PassView) (old new : Ticking) → MakesPulse (Err end) entries old new → Goes base old.pass → PassEnded end base old.pass new.pass
 pulse_ended ClockClosed entries base old new h was = absurd h
 pulse_ended (Ended at) entries base old new h was =
     let told : List Event → Type 0 = λ history. stop_at history ≡ Some at in
-    let all = goes_looked base old.pass new.pass told h was in record {
-      first = all.0;
-      seen = all.1;
-      turns = all.3;
-      ends = all.4;
-      pulses = ap (λ (l : List ℕ). length l + 1) all.2;
-      known = h.found.made_seen;
-      ticks = made_looked old.pass new.pass told was.first h;
-      cause = λ stage. (told_looked old.pass told new.pass h, known_looked old.pass told new.pass h);
-    }
+    looked_ended (Ended at) told base old.pass new.pass (λ made. refl) h was (told_looked old.pass told new.pass h, known_looked old.pass told new.pass h)
 pulse_ended TicksOver entries base old new h was =
     let told : List Event → Type 0 = λ history. MAX_TICKS ≤ ticks history in
-    let all = goes_looked base old.pass new.pass told h was in record {
-      first = all.0;
-      seen = all.1;
-      turns = all.3;
-      ends = all.4;
-      pulses = ap (λ (l : List ℕ). length l + 1) all.2;
-      known = h.found.made_seen;
-      ticks = made_looked old.pass new.pass told was.first h;
-      cause = λ stage. told_looked old.pass told new.pass h;
-    }
+    looked_ended TicksOver told base old.pass new.pass (λ made. refl) h was (told_looked old.pass told new.pass h)
 pulse_ended ClockFault entries base old new h was = absurd h
 pulse_ended (OutFault channel) entries base old new h was =
     let all = goes_tick entries base old new h.0 was in

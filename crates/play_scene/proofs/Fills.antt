@@ -1,5 +1,5 @@
 -- Where fills and clips lay the raster of a layer into the frame.
-use Rattle.std.proofs.Common.{◌≡◌, ◌≢◌, ℕ, zero, suc, ◌<◌, ◌≤◌, ◌+◌, Bool, true, ◌&&◌, List, refl, sym, ap, ◌∙◌, lt-ltb, le-ltb, if◌then◌else◌, ℤ, pos, negsuc, ◌-ℤ◌, ◌+ℤ◌, ◌*ℤ◌, ◌<ℤ◌, ◌≤ℤ◌, nat_abs, to_z, of_z, w64, arith}
+use Rattle.std.proofs.Common.{◌≡◌, ◌≢◌, ℕ, zero, suc, ◌<◌, ◌≤◌, ◌+◌, Bool, true, ◌&&◌, List, refl, sym, ap, ◌∙◌, lt-ltb, le-ltb, if◌then◌else◌, ℤ, pos, negsuc, ◌-ℤ◌, ◌+ℤ◌, ◌*ℤ◌, ◌<ℤ◌, ◌≤ℤ◌, SFits, nat_abs, to_z, of_z, w64, arith}
 use Rattle.std.specs.Prelude.{Option, Some, None, int_le, int_lt}
 use Rattle.std.proofs.lemmas.Int.{ints, to_z-of_z, fits_signed_from_abs}
 use Rattle.play_types.specs.Setting.{IsWide, IsWithin, number_at}
@@ -63,11 +63,20 @@ placed-no_row frame placement raster x y none =
     ∙ no_row column raster (nat_abs placement.opacity)
 
 -- a fill with a width brings the column of the quotient, where there is one
-pub filled-wide : (width : ℕ) (edge scale : ℤ) (x : ℕ) (column : ℤ) → scale ≢ pos 0 →
+filled-wide : (width : ℕ) (edge scale : ℤ) (x : ℕ) (column : ℤ) → scale ≢ pos 0 →
     column ≡ floor_div (twice_middle x -ℤ twice_part width edge) (pos 2 *ℤ scale) → filled_column width edge scale x ≡ column_in width column
 filled-wide width edge (pos zero) x column some is = absurd (some refl)
 filled-wide width edge (pos (suc n)) x column some is = ap (column_in width) (sym is)
 filled-wide width edge (negsuc n) x column some is = ap (column_in width) (sym is)
+
+-- so does the quotient of the numbers of 64 bits
+pub filled-at : (width : ℕ) (edge scale : ℤ) (x : ℕ) (column : ℤ) → SFits w64 edge → SFits w64 scale → scale ≢ pos 0 →
+    column ≡ floor_div (twice_middle x -ℤ twice_part width (to_z w64 (of_z w64 edge))) (pos 2 *ℤ to_z w64 (of_z w64 scale)) →
+    filled_column width edge scale x ≡ column_in width column
+filled-at width edge scale x column edge_fits scale_fits some is =
+    let edge_is : to_z w64 (of_z w64 edge) ≡ edge = to_z-of_z w64 edge edge_fits in
+    let scale_is : to_z w64 (of_z w64 scale) ≡ scale = to_z-of_z w64 scale scale_fits in
+    filled-wide width edge scale x column some (is ∙ (λ i. floor_div (twice_middle x -ℤ twice_part width (edge_is i)) (pos 2 *ℤ scale_is i)))
 
 -- a number below 0 is no column
 pub column-below : (width : ℕ) (column : ℤ) → column <ℤ pos 0 → column_in width column ≡ None

@@ -1,15 +1,13 @@
 -- Words for the worked examples: a clip, layers that give sounds, and the bytes of what they make together.
 use Rattle.std.specs.Prelude.{ℕ, ℤ, pos, false, List, [], ◌∷◌, Some}
-use Rattle.play_types.specs.Setting.{number_at}
-use Rattle.play_types.specs.Transition.{TransView, cut}
-use Rattle.play_types.specs.declared.setting.Prop.TheVariants as prop
+use Rattle.play_types.specs.Transition.{TransView}
 use Rattle.play_types.specs.declared.transition.Curve.TheVariants.{Linear}
 use Rattle.play_types.specs.declared.transition.Kind.TheVariants.{Wipe}
 use Rattle.play_types.specs.declared.drawn.Still.{Still}
-use Rattle.play_types.specs.declared.drawn.Still.TheVariants.{Nothing, Frame}
+use Rattle.play_types.specs.declared.drawn.Still.TheVariants.{Frame}
 use Rattle.play_types.specs.declared.drawn.Drawn.{Drawn}
-use Rattle.history_model.specs.stage.Value.{default_of}
 use Rattle.play_scene.specs.Frames.{FrameView}
+use Rattle.play_scene.specs.Worked.{layer_of}
 use Rattle.play_sound.specs.Sounds.{Sounds, bytes_of_samples, mixed_sample, sample_in}
 
 -- the frame of channel 1 at the tick before: one pixel, and the pairs 1 and -1, 256 and -256, 32767 and -32768
@@ -36,17 +34,7 @@ sounds = record {
 
 -- a layer that shows a still, at a volume in millionths
 abbrev pub layer : Still → ℤ → Drawn
-layer still volume = record {
-  still = still;
-  old = Nothing;
-  trans = cut;
-  step = 0;
-  opacity = number_at (default_of prop.Opacity) 0;
-  fill = default_of prop.Fill;
-  clip = default_of prop.Clip;
-  volume = volume;
-  keyer = false;
-}
+layer still volume = record (layer_of still) { volume = volume }
 
 -- the clip, at a volume in millionths
 abbrev pub tone : ℕ → Drawn

@@ -32,21 +32,35 @@ frame_with_sound frame sound is same =
     record { size = is.size; bytes = is.bytes; sound = same ∙ is.sound; lowered = is.lowered }
 
 -- frames of which the bytes of a channel were written are as many as before
-pub many_written : (channel : ℕ) (bytes : List ℕ) (frames now : List FrameView) → now ≡ with_bytes channel bytes frames →
+many_written : (channel : ℕ) (bytes : List ℕ) (frames now : List FrameView) → now ≡ with_bytes channel bytes frames →
     length now ≡ length frames
 many_written channel bytes frames now is =
     ap length is ∙ length-set frames (channel - 1) (record (frame_at channel frames) { bytes = bytes })
 
+-- the channel is one of the frames after its bytes were written
+pub configured_still : (channel count : ℕ) (bytes : List ℕ) (frames now : List FrameView) → IsConfigured count channel → length frames ≡ count →
+    now ≡ with_bytes channel bytes frames → IsConfigured (length now) channel
+configured_still channel count bytes frames now h many is =
+    (h.0, omega (arith, h.1, many, many_written channel bytes frames now is))
+
+-- where the bytes and then the sound of a channel are written, its size stays
+pub size_stays : (channel count : ℕ) (bytes sound : List ℕ) (frames middle now : List FrameView) → IsConfigured count channel → length frames ≡ count →
+    middle ≡ with_bytes channel bytes frames → now ≡ with_sound channel sound middle →
+    (frame_at channel now).size ≡ (frame_at channel frames).size
+size_stays channel count bytes sound frames middle now h many first last =
+    ap (λ (frame : FrameView). frame.size)
+    (sound_written channel sound middle now (configured_still channel count bytes frames middle h many first) last)
+    ∙ ap (λ (frame : FrameView). frame.size) (bytes_written channel bytes frames middle (h.0, omega (arith, h.1, many)) first)
+
 -- the frames of the other channels stay
-pub others_stay : (channel : ℕ) (bytes sound : List ℕ) (frames middle now : List FrameView) → IsConfigured (length frames) channel →
-    IsConfigured (length middle) channel →
+pub others_stay : (channel count : ℕ) (bytes sound : List ℕ) (frames middle now : List FrameView) → IsConfigured count channel → length frames ≡ count →
     middle ≡ with_bytes channel bytes frames → now ≡ with_sound channel sound middle →
     now ≡ set frames (channel - 1) (frame_at channel now)
-others_stay channel bytes sound frames middle now h k first last =
+others_stay channel count bytes sound frames middle now h many first last =
     last
     ∙ ap (λ (list : List FrameView). set list (channel - 1) (record (frame_at channel middle) { sound = sound })) first
     ∙ set-set frames (channel - 1) (record (frame_at channel frames) { bytes = bytes }) (record (frame_at channel middle) { sound = sound })
-    ∙ ap (set frames (channel - 1)) (sym (sound_written channel sound middle now k last))
+    ∙ ap (set frames (channel - 1)) (sym (sound_written channel sound middle now (configured_still channel count bytes frames middle h many first) last))
 
 -- the frames of the tick before are some pictures
 pub pictures_there : (frames : List FrameView) (entries : List Entry) → ArePictures (pictures_of frames entries) frames entries

@@ -6,19 +6,13 @@ use Rattle.history_model.specs.pictures.Raster.{Pictures}
 use Rattle.history_model.specs.text.Frames.{frame_bytes}
 use Rattle.play_scene.specs.Frames.{FrameView, IsFrame, frame_at, pictures_of}
 use Rattle.play_sound.specs.Sounds.{bytes_of_samples, mixed_sample}
-use Rattle.band_render.proofs.Writing.{bytes_written, frame_with_sound, many_written, others_stay, pictures_there, sound_written}
+use Rattle.band_render.proofs.Writing.{bytes_written, configured_still, frame_with_sound, others_stay, pictures_there, size_stays, sound_written}
 use Rattle.band_render.proofs.rendering.render_frame.Goals as goal
 
 pub size-size-requires : goal.size-size-requires
 size-size-requires c =
-    let channel = c.args.channel in
-    let before = c.args.next.now in
-    let size = (frame_at channel before).size in
-    let pictures = pictures_of c.args.prev.now c.args.media.now in
-    let bytes = frame_bytes size.width size.height (scene_pixel pictures size (scene_at channel c.args.scenes.now)) in
-    let many = many_written channel bytes before c.render_channel.new.next
-    (c.render_channel.ensures pictures (pictures_there c.args.prev.now c.args.media.now)) in
-    (c.requires.channel.0, omega (arith, c.requires.channel.1, many, c.requires.next))
+    configured_still c.args.channel _ _ c.args.next.now c.render_channel.new.next c.requires.channel c.requires.next
+    (c.render_channel.ensures _ (pictures_there c.args.prev.now c.args.media.now))
 
 pub returns-clause-shows : goal.returns-clause-shows
 returns-clause-shows c =
@@ -32,9 +26,9 @@ returns-clause-shows c =
     let bytes : Pictures → List ℕ = λ pictures. frame_bytes size.width size.height (scene_pixel pictures size layers) in
     let some = pictures_there c.args.prev.now c.args.media.now in
     let first = c.render_channel.ensures (pictures_of c.args.prev.now c.args.media.now) some in
-    let many = many_written channel (bytes (pictures_of c.args.prev.now c.args.media.now)) before middle first in
     let there : IsConfigured (length before) channel = (c.requires.channel.0, omega (arith, c.requires.channel.1, c.requires.next)) in
-    let here : IsConfigured (length middle) channel = (c.requires.channel.0, omega (arith, c.requires.channel.1, many, c.requires.next)) in
+    let here : IsConfigured (length middle) channel =
+    configured_still channel (length c.args.scenes.now) (bytes (pictures_of c.args.prev.now c.args.media.now)) before middle c.requires.channel c.requires.next first in
     let last : frame_at channel after ≡ record (frame_at channel middle) { sound = sound } =
     sound_written channel sound middle after here c.put_sound.ensures in
     let bound = c.size-size.ensures.range.size.sound in
@@ -68,29 +62,10 @@ returns-clause-shows c =
 
 pub returns-clause-size : goal.returns-clause-size
 returns-clause-size c =
-    let channel = c.args.channel in
-    let before = c.args.next.now in
-    let middle = c.render_channel.new.next in
-    let size = (frame_at channel before).size in
-    let pictures = pictures_of c.args.prev.now c.args.media.now in
-    let bytes = frame_bytes size.width size.height (scene_pixel pictures size (scene_at channel c.args.scenes.now)) in
-    let first = c.render_channel.ensures pictures (pictures_there c.args.prev.now c.args.media.now) in
-    let many = many_written channel bytes before middle first in
-    let there : IsConfigured (length before) channel = (c.requires.channel.0, omega (arith, c.requires.channel.1, c.requires.next)) in
-    let here : IsConfigured (length middle) channel = (c.requires.channel.0, omega (arith, c.requires.channel.1, many, c.requires.next)) in
-    ap (λ (frame : FrameView). frame.size) (sound_written channel c.mix_sound.new.out middle c.put_sound.new.self here c.put_sound.ensures)
-    ∙ ap (λ (frame : FrameView). frame.size) (bytes_written channel bytes before middle there first)
+    size_stays c.args.channel _ _ c.mix_sound.new.out c.args.next.now c.render_channel.new.next c.put_sound.new.self c.requires.channel c.requires.next
+    (c.render_channel.ensures _ (pictures_there c.args.prev.now c.args.media.now)) c.put_sound.ensures
 
 pub returns-clause-others : goal.returns-clause-others
 returns-clause-others c =
-    let channel = c.args.channel in
-    let before = c.args.next.now in
-    let middle = c.render_channel.new.next in
-    let size = (frame_at channel before).size in
-    let pictures = pictures_of c.args.prev.now c.args.media.now in
-    let bytes = frame_bytes size.width size.height (scene_pixel pictures size (scene_at channel c.args.scenes.now)) in
-    let first = c.render_channel.ensures pictures (pictures_there c.args.prev.now c.args.media.now) in
-    let many = many_written channel bytes before middle first in
-    let there : IsConfigured (length before) channel = (c.requires.channel.0, omega (arith, c.requires.channel.1, c.requires.next)) in
-    let here : IsConfigured (length middle) channel = (c.requires.channel.0, omega (arith, c.requires.channel.1, many, c.requires.next)) in
-    others_stay channel bytes c.mix_sound.new.out before middle c.put_sound.new.self there here first c.put_sound.ensures
+    others_stay c.args.channel _ _ c.mix_sound.new.out c.args.next.now c.render_channel.new.next c.put_sound.new.self c.requires.channel c.requires.next
+    (c.render_channel.ensures _ (pictures_there c.args.prev.now c.args.media.now)) c.put_sound.ensures

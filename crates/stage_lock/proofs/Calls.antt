@@ -1,5 +1,7 @@
 -- What a call leaves its pass.
 use Rattle.std.proofs.Common.{◌≡◌, ◌⊎◌, ℕ, ◌+◌, ◌||◌, ◌&&◌, ◌==◌, Bool, true, false, cond, List, [], ◌∷◌, ◌++◌, length, refl, sym, ap, subst, ◌∙◌, inl, inr, eq-eqb}
+use Rattle.std.specs.Prelude.{Result, Ok, Err, IfErr, IfOk, MatchResult, OnErr, OnOk}
+use Rattle.std.proofs.lemmas.Result.{IfErr-weaker, on_err_weaker, on_ok_weaker}
 use Rattle.atomic_table.specs.Seated.{TableId}
 use Rattle.play_types.specs.declared.answer.Answer.{Answer}
 use Rattle.play_types.specs.declared.event.Event.{Event}
@@ -8,9 +10,10 @@ use Rattle.history_model.specs.pictures.Media.{Setup}
 use Rattle.play_types.specs.History.{held_by}
 use Rattle.play_journal.specs.Journal.{JournalView}
 use Rattle.history_model.specs.stage.Answer.{StageAnswer, answer}
-use Rattle.stage_core.specs.Stage.{HasRoom, StageView, after_event}
+use Rattle.stage_core.specs.Stage.{HasRoom, IsNotTaken, StageView, after_event}
+use Rattle.stage_core.specs.declared.fault.ApplyFault.{ApplyFault}
 use Rattle.stage_lock.specs.Own.{is_final, is_own, made_by}
-use Rattle.stage_lock.specs.Views.{Sizes, journal_of}
+use Rattle.stage_lock.specs.Views.{Sizes, journal_of, stage_of}
 use Rattle.stage_lock.specs.Calls.{Adds, IsAnswered, Looks, added, looked, stop_tag, tag_of}
 use Rattle.stage_lock.specs.Seats.{SeatView, ends_final, grown, holding, pass_view, released}
 use Rattle.stage_lock.specs.Rule.{Seat}
@@ -37,7 +40,7 @@ grown_as_added t v log e known =
     go false own = made_by-other v.number log e own ∙ known
 
 -- a call whose event has entered
-pub adds_at : (t t' : TableId) (m m' n : Seat) (c c' : StageView) (e : Event) (IsTold : List Event → Type 0) → HasWon m c m' → t' ≡ t → c' ≡ after_event e c
+adds_at : (t t' : TableId) (m m' n : Seat) (c c' : StageView) (e : Event) (IsTold : List Event → Type 0) → HasWon m c m' → t' ≡ t → c' ≡ after_event e c
     → n ≡ (released (grown m'.0 c'.journal.events), []) → IsTold c.journal.events → Adds (pass_view t m.0) e IsTold (pass_view t' n.0)
 adds_at t t' m m' n c c' e IsTold won table grew is told =
     let log : List Event = c.journal.events in
@@ -51,7 +54,7 @@ adds_at t t' m m' n c c' e IsTold won table grew is told =
     }
 
 -- a call that left the history as it found it
-pub looks_at : (t t' : TableId) (m m' n : Seat) (c : StageView) (IsTold : List Event → Type 0) → HasWon m c m' → t' ≡ t
+looks_at : (t t' : TableId) (m m' n : Seat) (c : StageView) (IsTold : List Event → Type 0) → HasWon m c m' → t' ≡ t
     → n ≡ (released m'.0, []) → IsTold c.journal.events → Looks (pass_view t m.0) IsTold (pass_view t' n.0)
 looks_at t t' m m' n c IsTold won table is told =
     let first : pass_view t' n.0 ≡ pass_view t (released m'.0) = λ i. pass_view (table i) (is i).0 in
@@ -64,7 +67,7 @@ looks_at t t' m m' n c IsTold won table is told =
     }
 
 -- what a command is told, where f is the event by the pass's number, and e the same by that of its view
-pub answered_at : (m m' : Seat) (c : StageView) (sizes : Sizes) (f e : Event) (reply : Answer) → HasWon m c m' → m.0.sizes ≡ sizes → f ≡ e → HasRoom c.journal (held_by f)
+answered_at : (m m' : Seat) (c : StageView) (sizes : Sizes) (f e : Event) (reply : Answer) → HasWon m c m' → m.0.sizes ≡ sizes → f ≡ e → HasRoom c.journal (held_by f)
     → ((setup : Setup) → length setup.channels ≡ c.channels → answer setup c.journal.events f ≡ StageAnswer.Answered reply) → IsAnswered sizes e reply c.journal.events
 answered_at m m' c sizes f e reply won same is room replies = record {
   room = subst (λ (x : Event). HasRoom (journal_of sizes c.journal.events) (held_by x)) is (subst (λ (j : JournalView). HasRoom j (held_by f)) (journal_is m m' c sizes won same) room);
@@ -72,9 +75,51 @@ answered_at m m' c sizes f e reply won same is room replies = record {
 }
 
 -- the stage that holds one event more than was won
-pub event_at : (m m' : Seat) (c c' : StageView) (e : Event) → HasWon m c m' → c' ≡ after_event e c → (is_own m.0.number e ≡ true) ⊎ (is_final e ≡ true) → HasEvent m'.0 c'
+event_at : (m m' : Seat) (c c' : StageView) (e : Event) → HasWon m c m' → c' ≡ after_event e c → (is_own m.0.number e ≡ true) ⊎ (is_final e ≡ true) → HasEvent m'.0 c'
 event_at m m' c c' e won grew own =
     subst (λ (x : Seat). HasEvent x.0 c') (sym won.after) record { event = e; own = own; whole = grew ∙ ap (λ (x : StageView). after_event e x) won.whole }
+
+-- a stage that was asked for an event, and that is then put back
+module _ {T F : Type 0} (m m' : Seat) (c c' : StageView) (called : Result T F) (won : HasWon m c m') where
+  -- it holds the event where it took it
+  pub holds_event : (e : Event) → OnOk called (c' ≡ after_event e c) → (is_own m.0.number e ≡ true) ⊎ (is_final e ≡ true) → OnOk called (HasEvent m'.0 c')
+  holds_event e grew own = on_ok_weaker called (λ is. event_at m m' c c' e won is own) grew
+
+  -- and is as it was where it did not
+  pub stays : OnErr called (c' ≡ c) → OnErr called (c' ≡ stage_of m'.0.sizes m'.0.seen)
+  stays same = on_err_weaker called (λ is. is ∙ subst (λ (x : Seat). c ≡ stage_of x.0.sizes x.0.seen) (sym won.after) won.whole) same
+
+  -- a call that asked for an event, by what the stage answered
+  pub called_at : (t t' : TableId) (n : Seat) (e : Event) (IsTold : T → List Event → Type 0) (IsRefused : F → List Event → Type 0) (given : Result T F) → t' ≡ t → given ≡ called
+      → OnOk called (c' ≡ after_event e c) → OnOk called (n ≡ (released (grown m'.0 c'.journal.events), [])) → OnErr called (n ≡ (released m'.0, []))
+      → IfOk called (λ answered. IsTold answered c.journal.events) → IfErr called (λ fault. IsRefused fault c.journal.events)
+      → MatchResult given (λ answered. Adds (pass_view t m.0) e (IsTold answered) (pass_view t' n.0)) (λ fault. Looks (pass_view t m.0) (IsRefused fault) (pass_view t' n.0))
+  called_at t t' n e IsTold IsRefused given table is grew entered kept told refused =
+      subst (λ (r : Result T F). MatchResult r (λ answered. Adds (pass_view t m.0) e (IsTold answered) (pass_view t' n.0)) (λ fault. Looks (pass_view t m.0) (IsRefused fault) (pass_view t' n.0)))
+      (sym is) (by_answer called grew entered kept told refused)
+    where
+      by_answer : (r : Result T F) → OnOk r (c' ≡ after_event e c) → OnOk r (n ≡ (released (grown m'.0 c'.journal.events), [])) → OnErr r (n ≡ (released m'.0, []))
+          → IfOk r (λ answered. IsTold answered c.journal.events) → IfErr r (λ fault. IsRefused fault c.journal.events)
+          → MatchResult r (λ answered. Adds (pass_view t m.0) e (IsTold answered) (pass_view t' n.0)) (λ fault. Looks (pass_view t m.0) (IsRefused fault) (pass_view t' n.0))
+      by_answer (Ok answered) grew entered kept told refused = adds_at t t' m m' n c c' e (IsTold answered) won table grew entered told
+      by_answer (Err fault) grew entered kept told refused = looks_at t t' m m' n c (IsRefused fault) won table kept refused
+
+-- a call for a command or a batch, where f is the event by the pass's number, and e the same by that of its view
+pub asked_at : (t t' : TableId) (m m' n : Seat) (c c' : StageView) (sizes : Sizes) (f e : Event) (called given : Result Answer ApplyFault) → HasWon m c m' → t' ≡ t → m.0.sizes ≡ sizes → f ≡ e → given ≡ called
+    → OnOk called (c' ≡ after_event f c) → OnOk called (n ≡ (released (grown m'.0 c'.journal.events), [])) → OnErr called (n ≡ (released m'.0, []))
+    → OnOk called (HasRoom c.journal (held_by f)) → IfOk called (λ reply. (setup : Setup) → length setup.channels ≡ c.channels → answer setup c.journal.events f ≡ StageAnswer.Answered reply)
+    → IfErr called (λ fault. IsNotTaken c.journal (held_by f) fault)
+    → MatchResult given (λ reply. Adds (pass_view t m.0) e (IsAnswered sizes e reply) (pass_view t' n.0)) (λ fault. Looks (pass_view t m.0) (λ history. IsNotTaken (journal_of sizes history) (held_by f) fault) (pass_view t' n.0))
+asked_at t t' m m' n c c' sizes f e called given won table same is returned grew entered kept room replies cause =
+    called_at m m' c c' called won t t' n e (IsAnswered sizes e) (λ fault history. IsNotTaken (journal_of sizes history) (held_by f) fault) given table returned
+    (on_ok_weaker called (λ g. g ∙ ap (λ (x : Event). after_event x c) is) grew) entered kept
+    (told called room replies)
+    (IfErr-weaker called _ _ (λ fault h. subst (λ (j : JournalView). IsNotTaken j (held_by f) fault) (journal_is m m' c sizes won same) h) cause)
+  where
+    told : (r : Result Answer ApplyFault) → OnOk r (HasRoom c.journal (held_by f)) → IfOk r (λ reply. (setup : Setup) → length setup.channels ≡ c.channels → answer setup c.journal.events f ≡ StageAnswer.Answered reply)
+        → IfOk r (λ reply. IsAnswered sizes e reply c.journal.events)
+    told (Ok reply) room replies = answered_at m m' c sizes f e reply won same is room replies
+    told (Err fault) room replies = tt
 
 -- a stop of a pass is its own event, or that of tag 0.0
 pub stop_is_own : (number session : ℕ) → (is_own number (Stop (stop_tag number session)) ≡ true) ⊎ (is_final (Stop (stop_tag number session)) ≡ true)

@@ -10,7 +10,7 @@ ghost use Rattle.stage_lock.specs.Steps.{AreEnrolled, HasTaken, IsSized};
 use crate::note::Note;
 use crate::pass::Pass;
 use crate::rule::StageRule;
-use crate::slot::{Board, Seat, absorb, count, enroll, enter, give_back, meet, take, tell};
+use crate::slot::{Board, Seat, absorb, count, enroll, give_back, meet, put_back, take, tell};
 use crate::view::{SeatView, Shape};
 use atomic_table::{Refused, Table};
 use play_types::{Answer, Cmd, Scenes, Tag};
@@ -115,16 +115,8 @@ impl SharedStage {
             worker: pass.number,
             session,
         };
-        match stage.apply(alloc, tag, cmd) {
-            Ok(reply) => {
-                enter(&self.table.shared, &mut pass.seat, stage);
-                Ok(reply)
-            }
-            Err(fault) => {
-                give_back(&self.table.shared, &mut pass.seat, stage);
-                Err(fault)
-            }
-        }
+        let answered = stage.apply(alloc, tag, cmd);
+        put_back(&self.table.shared, &mut pass.seat, stage, answered)
     }
 
     /// Adds a batch to the history as one event, with the pass's number and the session as its tag, and returns its answer
@@ -153,16 +145,8 @@ impl SharedStage {
             worker: pass.number,
             session,
         };
-        match stage.apply_batch(alloc, tag, cmds) {
-            Ok(reply) => {
-                enter(&self.table.shared, &mut pass.seat, stage);
-                Ok(reply)
-            }
-            Err(fault) => {
-                give_back(&self.table.shared, &mut pass.seat, stage);
-                Err(fault)
-            }
-        }
+        let answered = stage.apply_batch(alloc, tag, cmds);
+        put_back(&self.table.shared, &mut pass.seat, stage, answered)
     }
 
     /// Adds a tick to the history, writes what each channel shows at it into the scenes, and returns its number. The pass has
@@ -185,16 +169,8 @@ impl SharedStage {
             × Looks pass.old (λ history. IsNoTick (journal_of self.now.sizes history) fault) pass.new) }
     {
         let mut stage = take(rt, &self.table.shared, &mut pass.seat);
-        match stage.tick(scenes) {
-            Ok(number) => {
-                enter(&self.table.shared, &mut pass.seat, stage);
-                Ok(number)
-            }
-            Err(fault) => {
-                give_back(&self.table.shared, &mut pass.seat, stage);
-                Err(fault)
-            }
-        }
+        let ticked = stage.tick(scenes);
+        put_back(&self.table.shared, &mut pass.seat, stage, ticked)
     }
 
     /// Adds a stop to the history and returns its position. Its tag is the pass's number and the session, and 0.0 in session
@@ -208,16 +184,8 @@ impl SharedStage {
             (λ ended. Looks pass.old (λ history. stop_at history ≡ Some ended.at) pass.new) }
     {
         let mut stage = take(rt, &self.table.shared, &mut pass.seat);
-        match stage.stop(tag_of_stop(pass.number, session)) {
-            Ok(at) => {
-                enter(&self.table.shared, &mut pass.seat, stage);
-                Ok(at)
-            }
-            Err(ended) => {
-                give_back(&self.table.shared, &mut pass.seat, stage);
-                Err(ended)
-            }
-        }
+        let stopped = stage.stop(tag_of_stop(pass.number, session));
+        put_back(&self.table.shared, &mut pass.seat, stage, stopped)
     }
 
     /// Returns the position of the stop, `None` exactly where the history that this look found holds none.

@@ -2,7 +2,7 @@
 //!
 //! The table has two words and one slot. LENGTH is the number of events of the history, TURN is 1 while a pass holds the
 //! turn, and the slot has the stage while it is at home.
-ghost use Rattle.std.specs.Prelude.{◌≡◌, ◌<◌, ◌^◌, true, false, [], length};
+ghost use Rattle.std.specs.Prelude.{◌≡◌, ◌<◌, ◌^◌, OnErr, OnOk, true, false, [], length};
 ghost use Rattle.stage_lock.specs.Views.{stage_of};
 ghost use Rattle.stage_lock.specs.Seats.{enrolled, grown, newcomer, noted, released};
 ghost use Rattle.stage_lock.specs.Rule.{IsTold};
@@ -62,7 +62,7 @@ pub(crate) fn give_back(board: &Board, seat: &mut Seat, stage: Stage)
 
 /// Puts the stage back with one event more, adds one to the length, which is the moment at which the event enters the
 /// history, and gives up the turn.
-pub(crate) fn enter(board: &Board, seat: &mut Seat, stage: Stage)
+fn enter(board: &Board, seat: &mut Seat, stage: Stage)
     requires board { IsSized board.now.table_id }
     requires of { seat.old.table_id ≡ board.now.table_id }
     requires out { IsOut seat.old.me }
@@ -75,6 +75,36 @@ pub(crate) fn enter(board: &Board, seat: &mut Seat, stage: Stage)
     board.fetch_add::<EnterEvent>(seat, LENGTH, 1);
     board.store::<GiveTurn>(seat, TURN, 0);
     board.wake_one(TURN);
+}
+
+/// Puts the stage back after a call of it for an event, gives up the turn, and returns what the call returned: with the event where the
+/// call succeeded, and as it was where it failed.
+pub(crate) fn put_back<T, F>(
+    board: &Board,
+    seat: &mut Seat,
+    stage: Stage,
+    called: Result<T, F>,
+) -> Result<T, F>
+    requires board { IsSized board.now.table_id }
+    requires of { seat.old.table_id ≡ board.now.table_id }
+    requires out { IsOut seat.old.me }
+    requires event { OnOk called (HasEvent seat.old.me.0 stage) }
+    requires stage { OnErr called (stage ≡ stage_of seat.old.me.0.sizes seat.old.me.0.seen) }
+    ensures same { seat.new.table_id ≡ seat.old.table_id }
+    ensures result { result ≡ called }
+    ensures entered { OnOk called (seat.new.me ≡ (released (grown seat.old.me.0 stage.journal.events), [])) }
+    ensures kept { OnErr called (seat.new.me ≡ (released seat.old.me.0, [])) }
+{
+    match called {
+        Ok(answer) => {
+            enter(board, seat, stage);
+            Ok(answer)
+        }
+        Err(fault) => {
+            give_back(board, seat, stage);
+            Err(fault)
+        }
+    }
 }
 
 /// States that the events of a stage can be counted in 64 bits: they are no more than its commands, its ticks and a stop.

@@ -1,49 +1,38 @@
-use Rattle.std.proofs.Common.{List, inl, eq-eqb, ◌≡◌, ◌∙◌, ap, subst, sym, ℕ}
+use Rattle.std.proofs.Common.{◌≡◌, ◌∙◌, ap, eq-eqb, inl, subst, sym, ℕ}
+use Rattle.std.specs.Prelude.{MatchResult}
 use Rattle.play_types.specs.declared.event.Event.{Event}
 use Rattle.play_types.specs.declared.event.Event.TheVariants.{Do}
-use Rattle.play_journal.specs.Journal.{JournalView}
-use Rattle.stage_core.specs.Stage.{IsNotTaken, after_event}
+use Rattle.stage_core.specs.Stage.{IsNotTaken}
 use Rattle.stage_lock.specs.Views.{PassView, SharedView, Sizes, journal_of}
 use Rattle.stage_lock.specs.Calls.{Adds, IsAnswered, Looks, tag_of}
 use Rattle.stage_lock.specs.Seats.{pass_view}
-use Rattle.stage_lock.specs.Rule.{Seat}
-use Rattle.stage_lock.specs.Steps.{HasEvent}
-use Rattle.stage_lock.proofs.Calls.{adds_at, answered_at, journal_is, looks_at}
+use Rattle.stage_lock.proofs.Calls.{asked_at, holds_event, stays}
 use Rattle.stage_lock.proofs.shared.SharedStage.ask.Goals as goal
 
-pub returns-in-Ok-clause-call : goal.returns-in-Ok-clause-call
-returns-in-Ok-clause-call g c =
-    let sizes : Sizes = c.args.self.now.sizes in
-    let old : PassView = pass_view c.pass.inside.seat.table_id c.pass.inside.seat.me.0 in
-    let new : PassView = pass_view c.enter.new.seat.table_id c.enter.new.seat.me.0 in
-    let event : PassView → Event = λ p. Do (tag_of p.number c.args.session) c.args.cmd in
-    let f : Event = Do (tag_of c.pass.inside.number c.args.session) c.args.cmd in
-    let is : f ≡ event old = ap (λ (n : ℕ). Do (tag_of n c.args.session) c.args.cmd) (sym c.pass.invariant.number) in
-    let same : c.pass.inside.seat.me.0.sizes ≡ sizes = ap (λ (p : PassView). p.stage.sizes) c.pass.view_is ∙ ap (λ (s : SharedView). s.sizes) c.requires.of in
-    let told : IsAnswered sizes (event old) c.in-Ok.reply c.take-stage.result.journal.events = answered_at c.pass.inside.seat.me c.take-stage.new.seat.me c.take-stage.result sizes f (event old) c.in-Ok.reply c.take-stage.ensures.won same is c.in-Ok.ensures.room c.in-Ok.ensures.answer in
-    subst (λ (p : PassView). Adds p (event p) (IsAnswered sizes (event p) c.in-Ok.reply) new) c.pass.view_is
-    (adds_at c.pass.inside.seat.table_id c.enter.new.seat.table_id c.pass.inside.seat.me c.take-stage.new.seat.me c.enter.new.seat.me c.take-stage.result c.apply.new.self (event old) (IsAnswered sizes (event old) c.in-Ok.reply)
-    c.take-stage.ensures.won (c.enter.ensures.same ∙ c.take-stage.ensures.same) (c.in-Ok.ensures.journal ∙ ap (λ (x : Event). after_event x c.take-stage.result) is) c.enter.ensures.me told)
-
-pub returns-in-Err-clause-call : goal.returns-in-Err-clause-call
-returns-in-Err-clause-call g c =
-    let sizes : Sizes = c.args.self.now.sizes in
-    let new : PassView = pass_view c.give_back.new.seat.table_id c.give_back.new.seat.me.0 in
-    let same : c.pass.inside.seat.me.0.sizes ≡ sizes = ap (λ (p : PassView). p.stage.sizes) c.pass.view_is ∙ ap (λ (s : SharedView). s.sizes) c.requires.of in
-    let told : IsNotTaken (journal_of sizes c.take-stage.result.journal.events) 1 c.in-Err.fault = subst (λ (j : JournalView). IsNotTaken j 1 c.in-Err.fault) (journal_is c.pass.inside.seat.me c.take-stage.new.seat.me c.take-stage.result sizes c.take-stage.ensures.won same) c.in-Err.ensures.fault in
-    subst (λ (p : PassView). Looks p (λ history. IsNotTaken (journal_of sizes history) 1 c.in-Err.fault) new) c.pass.view_is
-    (looks_at c.pass.inside.seat.table_id c.give_back.new.seat.table_id c.pass.inside.seat.me c.take-stage.new.seat.me c.give_back.new.seat.me c.take-stage.result (λ history. IsNotTaken (journal_of sizes history) 1 c.in-Err.fault)
-    c.take-stage.ensures.won (c.give_back.ensures.same ∙ c.take-stage.ensures.same) c.give_back.ensures.me told)
-
 -- the event is the pass's own
-pub enter-requires-clause-event : goal.enter-requires-clause-event
-enter-requires-clause-event g c =
-    let m : Seat = c.pass.inside.seat.me in
-    let f : Event = Do (tag_of c.pass.inside.number c.args.session) c.args.cmd in
-    let log : List Event = c.take-stage.result.journal.events in
-    subst (λ (n : Seat). HasEvent n.0 c.apply.new.self) (sym c.take-stage.ensures.won.after)
-    (record {
-      event = f;
-      own = inl (eq-eqb c.pass.inside.number m.0.number (sym c.pass.invariant.number));
-      whole = c.in-Ok.ensures.journal ∙ ap (after_event f) c.take-stage.ensures.won.whole;
-    })
+pub put_back-requires-clause-event : goal.put_back-requires-clause-event
+put_back-requires-clause-event g c =
+    let seat = c.pass.inside.seat in
+    holds_event seat.me c.take-stage.new.seat.me c.take-stage.result c.apply-answered.new.self c.apply-answered.result c.take-stage.ensures.won
+    (Do (tag_of c.pass.inside.number c.args.session) c.args.cmd) c.apply-answered.ensures.journal (inl (eq-eqb c.pass.inside.number seat.me.0.number (sym c.pass.invariant.number)))
+
+pub put_back-requires-clause-stage : goal.put_back-requires-clause-stage
+put_back-requires-clause-stage g c =
+    stays c.pass.inside.seat.me c.take-stage.new.seat.me c.take-stage.result c.apply-answered.new.self c.apply-answered.result c.take-stage.ensures.won c.apply-answered.ensures.err
+
+pub returns-clause-call : goal.returns-clause-call
+returns-clause-call g c =
+    let sizes : Sizes = c.args.self.now.sizes in
+    let seat = c.pass.inside.seat in
+    let last = c.put_back.new.seat in
+    let event : PassView → Event = λ p. Do (tag_of p.number c.args.session) c.args.cmd in
+    let is : Do (tag_of c.pass.inside.number c.args.session) c.args.cmd ≡ event (pass_view seat.table_id seat.me.0) =
+    ap (λ (n : ℕ). Do (tag_of n c.args.session) c.args.cmd) (sym c.pass.invariant.number) in
+    let same : seat.me.0.sizes ≡ sizes = ap (λ (p : PassView). p.stage.sizes) c.pass.view_is ∙ ap (λ (s : SharedView). s.sizes) c.requires.of in
+    subst (λ (p : PassView). MatchResult c.put_back.result
+    (λ reply. Adds p (event p) (IsAnswered sizes (event p) reply) (pass_view last.table_id last.me.0))
+    (λ fault. Looks p (λ history. IsNotTaken (journal_of sizes history) 1 fault) (pass_view last.table_id last.me.0))) c.pass.view_is
+    (asked_at seat.table_id last.table_id seat.me c.take-stage.new.seat.me last.me c.take-stage.result c.apply-answered.new.self sizes
+    (Do (tag_of c.pass.inside.number c.args.session) c.args.cmd) (event (pass_view seat.table_id seat.me.0)) c.apply-answered.result c.put_back.result
+    c.take-stage.ensures.won (c.put_back.ensures.same ∙ c.take-stage.ensures.same) same is c.put_back.ensures.result
+    c.apply-answered.ensures.journal c.put_back.ensures.entered c.put_back.ensures.kept c.apply-answered.ensures.room c.apply-answered.ensures.answer c.apply-answered.ensures.fault)

@@ -1,34 +1,40 @@
-use Rattle.std.proofs.Common.{◌≡◌, ◌∙◌, ap, subst, sym, ℕ, length}
+use Rattle.std.proofs.Common.{◌≡◌, ◌∙◌, ap, eq-eqb, inl, length, subst, sym, ℕ}
+use Rattle.std.specs.Prelude.{MatchResult}
+use Rattle.std.proofs.lemmas.Result.{IfOk-weaker}
 use Rattle.play_types.specs.declared.event.Event.{Event}
 use Rattle.play_types.specs.declared.event.Event.TheVariants.{Batch}
-use Rattle.play_journal.specs.Journal.{JournalView}
-use Rattle.stage_core.specs.Stage.{IsNotTaken, after_event}
+use Rattle.stage_core.specs.Stage.{IsNotTaken}
 use Rattle.stage_lock.specs.Views.{PassView, SharedView, Sizes, journal_of}
 use Rattle.stage_lock.specs.Calls.{Adds, IsAnswered, Looks, tag_of}
 use Rattle.stage_lock.specs.Seats.{pass_view}
-use Rattle.stage_lock.proofs.Calls.{adds_at, answered_at, journal_is, looks_at}
+use Rattle.stage_lock.proofs.Calls.{asked_at, holds_event, stays}
 use Rattle.stage_lock.proofs.shared.SharedStage.ask_batch.Goals as goal
 
-pub returns-in-Ok-clause-call : goal.returns-in-Ok-clause-call
-returns-in-Ok-clause-call g c =
-    let sizes : Sizes = c.args.self.now.sizes in
-    let old : PassView = pass_view c.pass.inside.seat.table_id c.pass.inside.seat.me.0 in
-    let new : PassView = pass_view c.enter.new.seat.table_id c.enter.new.seat.me.0 in
-    let event : PassView → Event = λ p. Batch (tag_of p.number c.args.session) c.args.cmds.now in
-    let f : Event = Batch (tag_of c.pass.inside.number c.args.session) c.args.cmds.now in
-    let is : f ≡ event old = ap (λ (n : ℕ). Batch (tag_of n c.args.session) c.args.cmds.now) (sym c.pass.invariant.number) in
-    let same : c.pass.inside.seat.me.0.sizes ≡ sizes = ap (λ (p : PassView). p.stage.sizes) c.pass.view_is ∙ ap (λ (s : SharedView). s.sizes) c.requires.of in
-    let told : IsAnswered sizes (event old) c.in-Ok.reply c.take-stage.result.journal.events = answered_at c.pass.inside.seat.me c.take-stage.new.seat.me c.take-stage.result sizes f (event old) c.in-Ok.reply c.take-stage.ensures.won same is c.in-Ok.ensures.room (λ setup _. c.in-Ok.ensures.answer setup) in
-    subst (λ (p : PassView). Adds p (event p) (IsAnswered sizes (event p) c.in-Ok.reply) new) c.pass.view_is
-    (adds_at c.pass.inside.seat.table_id c.enter.new.seat.table_id c.pass.inside.seat.me c.take-stage.new.seat.me c.enter.new.seat.me c.take-stage.result c.apply_batch.new.self (event old) (IsAnswered sizes (event old) c.in-Ok.reply)
-    c.take-stage.ensures.won (c.enter.ensures.same ∙ c.take-stage.ensures.same) (c.in-Ok.ensures.journal ∙ ap (λ (x : Event). after_event x c.take-stage.result) is) c.enter.ensures.me told)
+-- the event is the pass's own
+pub put_back-requires-clause-event : goal.put_back-requires-clause-event
+put_back-requires-clause-event g c =
+    let seat = c.pass.inside.seat in
+    holds_event seat.me c.take-stage.new.seat.me c.take-stage.result c.apply_batch-answered.new.self c.apply_batch-answered.result c.take-stage.ensures.won
+    (Batch (tag_of c.pass.inside.number c.args.session) c.args.cmds.now) c.apply_batch-answered.ensures.journal (inl (eq-eqb c.pass.inside.number seat.me.0.number (sym c.pass.invariant.number)))
 
-pub returns-in-Err-clause-call : goal.returns-in-Err-clause-call
-returns-in-Err-clause-call g c =
+pub put_back-requires-clause-stage : goal.put_back-requires-clause-stage
+put_back-requires-clause-stage g c =
+    stays c.pass.inside.seat.me c.take-stage.new.seat.me c.take-stage.result c.apply_batch-answered.new.self c.apply_batch-answered.result c.take-stage.ensures.won c.apply_batch-answered.ensures.err
+
+pub returns-clause-call : goal.returns-clause-call
+returns-clause-call g c =
     let sizes : Sizes = c.args.self.now.sizes in
-    let new : PassView = pass_view c.give_back.new.seat.table_id c.give_back.new.seat.me.0 in
-    let same : c.pass.inside.seat.me.0.sizes ≡ sizes = ap (λ (p : PassView). p.stage.sizes) c.pass.view_is ∙ ap (λ (s : SharedView). s.sizes) c.requires.of in
-    let told : IsNotTaken (journal_of sizes c.take-stage.result.journal.events) (length c.args.cmds.now) c.in-Err.fault = subst (λ (j : JournalView). IsNotTaken j (length c.args.cmds.now) c.in-Err.fault) (journal_is c.pass.inside.seat.me c.take-stage.new.seat.me c.take-stage.result sizes c.take-stage.ensures.won same) c.in-Err.ensures.fault in
-    subst (λ (p : PassView). Looks p (λ history. IsNotTaken (journal_of sizes history) (length c.args.cmds.now) c.in-Err.fault) new) c.pass.view_is
-    (looks_at c.pass.inside.seat.table_id c.give_back.new.seat.table_id c.pass.inside.seat.me c.take-stage.new.seat.me c.give_back.new.seat.me c.take-stage.result (λ history. IsNotTaken (journal_of sizes history) (length c.args.cmds.now) c.in-Err.fault)
-    c.take-stage.ensures.won (c.give_back.ensures.same ∙ c.take-stage.ensures.same) c.give_back.ensures.me told)
+    let seat = c.pass.inside.seat in
+    let last = c.put_back.new.seat in
+    let event : PassView → Event = λ p. Batch (tag_of p.number c.args.session) c.args.cmds.now in
+    let is : Batch (tag_of c.pass.inside.number c.args.session) c.args.cmds.now ≡ event (pass_view seat.table_id seat.me.0) =
+    ap (λ (n : ℕ). Batch (tag_of n c.args.session) c.args.cmds.now) (sym c.pass.invariant.number) in
+    let same : seat.me.0.sizes ≡ sizes = ap (λ (p : PassView). p.stage.sizes) c.pass.view_is ∙ ap (λ (s : SharedView). s.sizes) c.requires.of in
+    subst (λ (p : PassView). MatchResult c.put_back.result
+    (λ reply. Adds p (event p) (IsAnswered sizes (event p) reply) (pass_view last.table_id last.me.0))
+    (λ fault. Looks p (λ history. IsNotTaken (journal_of sizes history) (length c.args.cmds.now) fault) (pass_view last.table_id last.me.0))) c.pass.view_is
+    (asked_at seat.table_id last.table_id seat.me c.take-stage.new.seat.me last.me c.take-stage.result c.apply_batch-answered.new.self sizes
+    (Batch (tag_of c.pass.inside.number c.args.session) c.args.cmds.now) (event (pass_view seat.table_id seat.me.0)) c.apply_batch-answered.result c.put_back.result
+    c.take-stage.ensures.won (c.put_back.ensures.same ∙ c.take-stage.ensures.same) same is c.put_back.ensures.result
+    c.apply_batch-answered.ensures.journal c.put_back.ensures.entered c.put_back.ensures.kept c.apply_batch-answered.ensures.room
+    (IfOk-weaker c.apply_batch-answered.result _ _ (λ reply answers. λ setup _. answers setup) c.apply_batch-answered.ensures.answer) c.apply_batch-answered.ensures.fault)

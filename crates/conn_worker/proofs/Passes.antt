@@ -104,8 +104,8 @@ in_order_more service seen [] one between history order found grows = (
 in_order_more service seen (first ∷ followed) one between history order found grows =
     (order.0, in_order_more service (first.found ++ events_of service first) followed one between history order.1 found grows)
 
--- the history grew by what others made
-in_order_later : (service : Service) (seen : List Event) (followed : List Followed) (between history : List Event)
+-- steps that found a part of a history found a part of each that goes on from it
+pub in_order_later : (service : Service) (seen : List Event) (followed : List Followed) (between history : List Event)
     → AreInOrder service seen followed between → IsPrefix between history → AreInOrder service seen followed history
 in_order_later service seen [] between history order grows = prefix_trans seen between history order grows
 in_order_later service seen (first ∷ followed) between history order grows =

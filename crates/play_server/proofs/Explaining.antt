@@ -14,23 +14,16 @@ use Rattle.stage_lock.specs.Calls.{tag_of}
 use Rattle.stage_lock.specs.Closing.{IsOf}
 use Rattle.stage_lock.proofs.Positions.{own_by_same}
 use Rattle.stage_lock.proofs.Prefixes.{prefix_trans}
-use Rattle.conn_worker.specs.Explained.{AreInOrder, covered}
-use Rattle.conn_worker.specs.Followed.{Followed, Service, events_of}
+use Rattle.conn_worker.specs.Explained.{covered}
 use Rattle.conn_worker.specs.Work.{AtDoor, HasWorked, Setting, service_of}
 use Rattle.conn_worker.specs.declared.work_end.TheConstants.{MAX_SESSIONS}
 use Rattle.conn_worker.specs.declared.work_end.WorkEnd.{WorkEnd}
 use Rattle.conn_worker.specs.declared.work_end.WorkEnd.TheVariants.{Closed, Ended, DoorFault, SessionsOver}
+use Rattle.conn_worker.proofs.Passes.{in_order_later}
 use Rattle.play_server.specs.Links.{EachFrom, IsExplainedLink, has_tag, tagged}
 use Rattle.play_server.specs.Doors.{EndsByHistory, HasServed, WasAsked, is_door_fault}
 use Rattle.play_server.proofs.Tags.{picks_all, picks_none, steps_tagged, tagged_own}
 use Rattle.play_server.proofs.Working.{EndsFrom, IsLink, Link, UnlessOver, Worked, events_from, link_events, run_of, visits_in, worked_of}
-
--- steps that found a part of a history found a part of each that goes on from it
-in_order_later : (service : Service) (seen : List Event) (followed : List Followed) (between history : List Event)
-    → AreInOrder service seen followed between → IsPrefix between history → AreInOrder service seen followed history
-in_order_later service seen [] between history order grows = prefix_trans seen between history order grows
-in_order_later service seen (one ∷ more) between history order grows =
-    (order.0, in_order_later service (one.found ++ events_of service one) more between history order.1 grows)
 
 -- a stop stands where it stood
 stop_shifts : (event : Event) (xs ys : List Event) (at : ℕ) → is_stop event ≡ false → ((k : ℕ) → stop_at xs ≡ Some k → stop_at ys ≡ Some k)

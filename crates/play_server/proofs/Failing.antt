@@ -180,7 +180,7 @@ module _ {C D O L : Type 0} (device : DeviceWords C D O L) (tells : L → SinkSt
       ]
 
   -- what a run that ended without a fault tells of its parts
-  no_faults : (devices : Devices C D O × Devices C D O) → (run : HasRun device tells program serve.Ended devices)
+  pub no_faults : (devices : Devices C D O × Devices C D O) → (run : HasRun device tells program serve.Ended devices)
       → (is_tick_fault run.ticker ≡ false) × (list_any (λ (r : DoorRun L). is_door_fault r.end) run.runs ≡ false) × (is_cut run.written ≡ false)
   no_faults devices run =
       let none = none_told (has_device_fault run.ticker run.runs run.written) run.ending in

@@ -1,6 +1,7 @@
 mod Answered
 mod Beginning
 mod Copying
+mod EndedRuns
 mod Ending
 mod Explaining
 mod Failing

@@ -16,9 +16,12 @@ ghost use Rattle.conn_worker.specs.Explained.{covered};
 ghost use Rattle.conn_worker.specs.Followed.{Followed, events_of};
 ghost use Rattle.conn_worker.specs.Work.{Visit, service_of};
 ghost use Rattle.play_server.specs.Links.{IsExplainedLink};
+ghost use Rattle.play_server.specs.Program.{AtSite, program_of};
 ghost use Rattle.play_server.specs.Replay.{IsAnsweredAgain, IsOpenedAgain, IsShownAgain, playout_of};
 ghost use Rattle.play_server.specs.Run.{HasRun, Program, setting_of};
+ghost use Rattle.play_server.specs.Statuses.{HasServedClients};
 ghost use Rattle.play_server.specs.declared.served.ServeEnd.{ServeEnd};
+ghost use Rattle.play_server.specs.declared.served.ServeEnd.TheVariants as serve;
 
 use play_outside::{Clock, Listener, Sink};
 
@@ -76,4 +79,28 @@ pub fn answers_are_written_again<D: Listener>()
 pub fn frames_are_written_again()
     ensures { (program : Program) (digests : Bool) (history before later : List Event) → history ≡ before ++ Tick ∷ later →
         IsShownAgain (playout_of program digests) history before later }
+{}
+
+/// So it is with each run of the program that ends with status 0.
+///
+/// The site gave a door for each connection, and a new output for the history. Where this output tells its bytes, it holds the text
+/// of the history. Each run of the text as a script on the same configuration and clips, in whose output nothing says that memory ran
+/// out, has the history of the run, and writes its answers and its frames.
+pub fn programs_are_played_again<C: Clock, D: Listener, O: Sink>()
+    ensures text { (line : List (List ℕ)) (moments : AtSite C D O × AtSite C D O)
+        (run : HasServedClients (record { clock = C.state; door = D.state; out = O.state }) D.Line.state line serve.Ended moments) →
+        (text : List ℕ) → (O.state run.served.finished.history).taken ≡ Some text →
+        text ≡ history_text (media_names run.setup.media) run.served.serves.history }
+    ensures again { (line : List (List ℕ)) (moments : AtSite C D O × AtSite C D O) (digests : Bool)
+        (run : HasServedClients (record { clock = C.state; door = D.state; out = O.state }) D.Line.state line serve.Ended moments) →
+        IsPlayout (playout_of (program_of run.setup) digests) →
+        (played : List PlayedLine) → lines_played played ≡ script_of (history_text (media_names run.setup.media) run.served.serves.history) →
+        IsWithoutWant (script_output (playout_of (program_of run.setup) digests) played) →
+        script_events (playout_of (program_of run.setup) digests) played ≡ run.served.serves.history }
+    ensures output { (line : List (List ℕ)) (moments : AtSite C D O × AtSite C D O) (digests : Bool)
+        (run : HasServedClients (record { clock = C.state; door = D.state; out = O.state }) D.Line.state line serve.Ended moments) →
+        IsPlayout (playout_of (program_of run.setup) digests) →
+        (played : List PlayedLine) → lines_played played ≡ script_of (history_text (media_names run.setup.media) run.served.serves.history) →
+        IsWithoutWant (script_output (playout_of (program_of run.setup) digests) played) →
+        script_output (playout_of (program_of run.setup) digests) played ≡ history_output (playout_of (program_of run.setup) digests) run.served.serves.history }
 {}

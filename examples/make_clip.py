@@ -1,0 +1,102 @@
+#!/usr/bin/env python3
+"""Makes a clip file of any film that ffmpeg reads, with its sound.
+
+make_clip.py FILM CLIP.rclp [--size WxH] [--rate N] [--pairs N] [--seconds N]
+
+--size     the size of the pictures in pixels, 1280x720 if it is left out; that of the channel, or another one, which the server scales
+--rate     the ticks a second of the server's configuration, 25 if it is left out
+--pairs    the stereo pairs a frame, as in the configuration of the channel: 48,000 divided by the rate if the film has sound, else 0.
+           The sound is resampled to `pairs * rate` pairs a second
+--seconds  how much of the film is taken, all of it if it is left out
+
+Colours of a film with an alpha channel are multiplied by the alpha before they are scaled. A film without sound gives silence if
+--pairs asks for some. It needs ffmpeg and ffprobe on the path.
+"""
+
+import argparse
+import os
+import struct
+import subprocess
+import sys
+import tempfile
+
+MOST_BYTES = 1_073_741_824
+MOST_FRAMES = 1_000_000
+
+
+def streams(film, kind, field):
+    """Returns what ffprobe says of a field of the first stream of a kind, `v` or `a`, and nothing if there is none."""
+    words = ["ffprobe", "-v", "error", "-select_streams", f"{kind}:0", "-show_entries", f"stream={field}", "-of", "default=nw=1:nk=1", film]
+    return subprocess.run(words, check=True, stdin=subprocess.DEVNULL, stdout=subprocess.PIPE, text=True).stdout.strip()
+
+
+def has_alpha(pixel_format):
+    """Returns whether pictures of this pixel format have an alpha channel."""
+    return pixel_format.startswith(("rgba", "bgra", "argb", "abgr", "yuva", "gbrap", "ya8", "ya16", "pal8", "ayuv", "vuya"))
+
+
+def pictures(said, room):
+    """Writes the pictures of the film as raw frames into a file, and returns its path."""
+    path = f"{room}/pictures"
+    width, height = said.size
+    multiplied = "format=gbrap,premultiply=inplace=1," if has_alpha(streams(said.film, "v", "pix_fmt")) else ""
+    words = ["ffmpeg", "-nostdin", "-v", "error", "-i", said.film, *said.taken, "-an"]
+    subprocess.run([*words, "-vf", f"fps={said.rate},{multiplied}scale={width}:{height}", "-pix_fmt", "bgra", "-f", "rawvideo", path], check=True)
+    return path
+
+
+def sound(said, room):
+    """Writes the sound of the film as raw stereo pairs into a file, and returns its path, or nothing if it has none."""
+    if not said.pairs or not streams(said.film, "a", "codec_name"):
+        return None
+    path = f"{room}/sound"
+    words = ["ffmpeg", "-nostdin", "-v", "error", "-i", said.film, *said.taken, "-vn"]
+    subprocess.run([*words, "-ac", "2", "-ar", str(said.pairs * said.rate), "-f", "s16le", path], check=True)
+    return path
+
+
+def write_clip(said, room):
+    """Writes the header, and then each picture with its sound. Returns the number of frames."""
+    width, height = said.size
+    picture_bytes, sound_bytes = 4 * width * height, 4 * said.pairs
+    picture_path, sound_path = pictures(said, room), sound(said, room)
+    frames = os.path.getsize(picture_path) // picture_bytes
+    if not 1 <= frames <= MOST_FRAMES:
+        sys.exit(f"make_clip.py: {said.film}: {frames} frames, and a clip has 1 to {MOST_FRAMES:,}")
+    if 20 + frames * (picture_bytes + sound_bytes) > MOST_BYTES:
+        print(f"make_clip.py: {said.clip}: more than the {MOST_BYTES:,} bytes that all clips of a folder may have together", file=sys.stderr)
+    with open(said.clip, "wb") as clip, open(picture_path, "rb") as shown, open(sound_path or os.devnull, "rb") as heard:
+        clip.write(struct.pack(">4s4HI2H", b"RCLP", 1, 0, width, height, frames, said.pairs, 0))
+        for _ in range(frames):
+            clip.write(shown.read(picture_bytes))
+            clip.write(heard.read(sound_bytes).ljust(sound_bytes, b"\0"))
+    return frames
+
+
+def size(text):
+    """Returns the width and the height of a text WxH."""
+    width, height = (int(it) for it in text.lower().split("x"))
+    if not (1 <= width <= 4096 and 1 <= height <= 4096):
+        raise ValueError(text)
+    return width, height
+
+
+def main():
+    reader = argparse.ArgumentParser(description="Makes a clip file of any film that ffmpeg reads.")
+    reader.add_argument("film")
+    reader.add_argument("clip", help="the file to make, whose name ends in .rclp")
+    reader.add_argument("--size", type=size, default=(1280, 720), help="WxH, 1280x720 if it is left out")
+    reader.add_argument("--rate", type=int, default=25, choices=range(1, 241), metavar="N", help="ticks a second, 25 if it is left out")
+    reader.add_argument("--pairs", type=int, choices=range(4097), metavar="N", help="stereo pairs a frame")
+    reader.add_argument("--seconds", type=float, metavar="N", help="how much of the film is taken")
+    said = reader.parse_args()
+    said.taken = ["-t", str(said.seconds)] if said.seconds else []
+    if said.pairs is None:
+        said.pairs = min(48_000 // said.rate, 4096) if streams(said.film, "a", "codec_name") else 0
+    with tempfile.TemporaryDirectory(prefix="make-clip-") as room:
+        frames = write_clip(said, room)
+    print(f"{said.clip}: {frames} frames of {said.size[0]}x{said.size[1]}, {said.pairs} stereo pairs each")
+
+
+if __name__ == "__main__":
+    main()

@@ -1,12 +1,17 @@
 """Runs a proved program of this repository: the name of its crate, and then the program's own words.
 
-The programs in this folder call it. Where a source that goes into the program has changed, the program is proved and built
+The programs in this folder call it. If a source that goes into the program has changed, the program is proved and built
 first, on a copy of the sources and on all processors, and what the gate passed on this machine is taken from there. What
-happens is told on standard error, one line a crate, and the toolchain's own words go to out/bin/build.log of the program's
-crate. Then the program runs in the place of this script, with the caller's standard streams, and its status is the status.
+happens is told on standard error: one line a crate, and each minute what the build is at. Then the program runs in the place
+of this script, with the caller's standard streams, and its status is the status. With the word --build and the names of some
+programs it builds all of them at once and runs none.
 
-Where the program has to be built and cannot be, the status is 70 and nothing is run: the last program stays where it is,
-and it is not the one that the sources say. Nothing is removed but older programs in out/bin of the program's crate.
+What was built is kept in sevuato/ of the caller's folder for such files (XDG_CACHE_HOME, ~/.cache if it is not set), under the
+name of the program and the sum of its sources, so that the gate does not clear it and other clones with the same sources use
+it. The toolchain's own words of the last build stand beside it, in build.log.
+
+If the program has to be built and cannot be, the status is 70 and nothing is run: what was built before stays where it is, and
+it is not the program that the sources say. Nothing is removed but the oldest programs of a name, beyond the last four.
 """
 
 import contextlib
@@ -14,6 +19,7 @@ import fcntl
 import hashlib
 import os
 import re
+import selectors
 import shutil
 import signal
 import subprocess
@@ -104,16 +110,39 @@ def clear(folder):
         time.sleep(0.1)
 
 
+def lines_of(crates):
+    """Returns the number of lines of each of these crates."""
+    return {name: sum(text.count("\n") for _, text in files_of(f"{TOP}/crates/{name}")) for name in crates}
+
+
 def minutes(crates):
     """Returns about how many minutes the toolchain takes to prove these crates from nothing."""
-    lines = 0
-    for name in crates:
-        for _, text in files_of(f"{TOP}/crates/{name}"):
-            lines += text.count("\n")
+    lines = sum(lines_of(crates).values())
     return max(1, round(lines / 1000 * MINUTES_A_THOUSAND_LINES / min(len(os.sched_getaffinity(0)), 4)))
 
 
 MINUTES_A_THOUSAND_LINES = 1.5
+SECONDS_BETWEEN_WORDS = 60
+KEPT_PROGRAMS = 4
+
+
+def kept_in():
+    """Returns the folder in which built programs are kept."""
+    home = os.environ.get("XDG_CACHE_HOME", "")
+    return f"{home if os.path.isabs(home) else os.path.expanduser('~/.cache')}/sevuato"
+
+
+def program_of(name, sources):
+    """Returns the path of the program that was built from the sources of this sum."""
+    return f"{kept_in()}/{name}.{sources}"
+
+
+def is_own_program(path):
+    """Returns whether a program stands there that this user, or the system's first user, made."""
+    try:
+        return os.path.isfile(path) and os.stat(path).st_uid in (0, os.geteuid())
+    except OSError:
+        return False
 
 
 def say(name, text):
@@ -122,11 +151,11 @@ def say(name, text):
 
 @contextlib.contextmanager
 def gate_over(folder, rooms):
-    """Starts `rt ci` in the folder, gives its lines, and ends it with all that it started."""
-    how = {"stdin": subprocess.DEVNULL, "stdout": subprocess.PIPE, "stderr": subprocess.STDOUT, "errors": "replace"}
+    """Starts `rt ci` in the folder, gives its session and its output, and ends it with all that it started."""
+    how = {"stdin": subprocess.DEVNULL, "stdout": subprocess.PIPE, "stderr": subprocess.STDOUT}
     ran = subprocess.Popen(["rt", "ci"], cwd=folder, start_new_session=True, env={**os.environ, "TMPDIR": rooms}, **how)
     try:
-        yield ran.stdout
+        yield ran.pid, ran.stdout
     finally:
         with contextlib.suppress(ProcessLookupError):
             os.killpg(ran.pid, signal.SIGKILL)
@@ -134,60 +163,128 @@ def gate_over(folder, rooms):
         ran.stdout.close()
 
 
-def prove(name, crates, folder, rooms, log):
-    """Proves the crates in the folder, and returns once the program is built there."""
-    done = 0
-    with gate_over(folder, rooms) as lines:
-        for line in lines:
-            log.write(line)
+class Progress:
+    """What a build is at: which crates are done, and since when each of the others is under way."""
+
+    def __init__(self, crates):
+        self.lines, self.began, self.since = lines_of(crates), time.monotonic(), {}
+        self.left, self.proved = set(crates), 0
+
+    def done(self, crate, is_proved):
+        """Notes that a crate is done, and whether it was proved in this build."""
+        self.left.discard(crate)
+        self.proved += self.lines[crate] if is_proved else 0
+
+    def text(self, session):
+        """Returns what the processes of a session are at, and about how many minutes are left."""
+        now, found = time.monotonic(), set()
+        for it in filter(str.isdigit, os.listdir("/proc")):
+            with contextlib.suppress(OSError, ValueError):
+                if os.getsid(int(it)) == session:
+                    with open(f"/proc/{it}/cmdline", encoding="utf-8", errors="replace") as said:
+                        words = said.read().split("\0")
+                    found.add(words[words.index("--crate-name") + 1])
+        self.since = {it: self.since.get(it, now) for it in found & self.left}
+        at = ", ".join(f"{it}, {(now - began) / 60:.0f} min" for it, began in sorted(self.since.items(), key=lambda it: it[1]))
+        more = sum(self.lines[it] for it in self.left)
+        left = f"; about {max(1, round((now - self.began) * more / self.proved / 60))} min left" if self.proved else ""
+        return f"{(now - self.began) / 60:.0f} min: at {at or 'the toolchain'}{left}"
+
+
+def spoken(lines, say_progress):
+    """Gives the lines of a stream, and calls the function whenever none has come for a while."""
+    with selectors.DefaultSelector() as waiting:
+        waiting.register(lines, selectors.EVENT_READ)
+        os.set_blocking(lines.fileno(), False)
+        held, spoke = "", time.monotonic()
+        while True:
+            if waiting.select(max(0.0, spoke + SECONDS_BETWEEN_WORDS - time.monotonic())):
+                piece = os.read(lines.fileno(), 65536).decode(errors="replace")
+                if not piece:
+                    break
+                *whole, held = (held + piece).split("\n")
+                yield from whole
+            if time.monotonic() - spoke >= SECONDS_BETWEEN_WORDS:
+                say_progress()
+                spoke = time.monotonic()
+
+
+def prove(names, crates, folder, rooms, log):
+    """Proves the crates in the folder, and returns once the programs of these names are built there."""
+    done, who, progress, wanted = 0, " ".join(names), Progress(crates), set(names)
+    with gate_over(folder, rooms) as (session, lines):
+        for line in spoken(lines, lambda: say(who, progress.text(session))):
+            log.write(f"{line}\n")
             log.flush()
             said = SAID.match(line)
-            if not said or said[1] not in crates:
+            if not said or said[1] not in progress.left:
                 continue
             if said[2] == "NOT PROVED":
                 raise NotBuilt(f"the crate {said[1]} is not proved")
             done += 1
-            say(name, f"{done} of {len(crates)}: {said[1]} {'is proved' if said[2] == 'proved' else 'was proved before'}")
-            if said[1] == name:
+            progress.done(said[1], said[2] == "proved")
+            wanted.discard(said[1])
+            say(who, f"{done} of {len(crates)}: {said[1]} {'is proved' if said[2] == 'proved' else 'was proved before'}")
+            if not wanted:
                 return
     raise NotBuilt("the toolchain stopped before the program was built")
 
 
-def build(name, crates):
-    """Builds the program from the sources as they stand, and puts it into its crate's out/bin under their sum."""
-    out = f"{TOP}/crates/{name}/out/bin"
-    log = f"{out}/build.log"
+def keep(built, name, sources):
+    """Keeps a program under the sum of its sources, and removes the oldest ones of its name."""
+    to = program_of(name, sources)
+    shutil.copyfile(built, f"{to}.new")
+    os.chmod(f"{to}.new", 0o755)
+    os.replace(f"{to}.new", to)
+    of_name = re.compile(rf"{name}\.[0-9a-f]{{16}}")
+    paths = [f"{kept_in()}/{it}" for it in os.listdir(kept_in()) if of_name.fullmatch(it)]
+    for path in sorted(paths, key=os.path.getmtime)[:-KEPT_PROGRAMS]:
+        os.remove(path)
+
+
+def build(names):
+    """Builds the programs of these names from the sources as they stand, and keeps each under their sum."""
+    kept, who = kept_in(), " ".join(names)
+    log = f"{kept}/build.log"
     if not shutil.which("rt"):
         raise NotBuilt("the toolchain's rt is not on the path")
-    os.makedirs(out, exist_ok=True)
+    os.makedirs(kept, mode=0o700, exist_ok=True)
     with contextlib.ExitStack() as held:
-        # (where two callers build at once, the second finds what the first built)
-        place = os.open(out, os.O_RDONLY)
+        # (if two callers build at once, the second finds what the first built)
+        place = os.open(kept, os.O_RDONLY)
         held.callback(os.close, place)
         fcntl.flock(place, fcntl.LOCK_EX)
-        if os.path.isfile(f"{out}/{name}.{sum_of(TOP, crates)}"):
+        below = {it: crates_below(it) for it in names}
+        if all(is_own_program(program_of(it, sum_of(TOP, below[it]))) for it in names):
             return
-        with tempfile.TemporaryFile(dir=out):
-            # (the program can be put here)
+        crates = {name: line for it in below.values() for name, line in it.items()}
+        with tempfile.TemporaryFile(dir=kept):
+            # (the programs can be put here)
             pass
         said = held.enter_context(open(log, "w", encoding="utf-8"))
-        room = tempfile.mkdtemp(prefix=f"{name}-build-")
+        room = tempfile.mkdtemp(prefix=f"{names[0]}-build-")
         held.callback(clear, room)
         os.mkdir(f"{room}/rooms")
         copy_crates(crates, f"{room}/top")
-        say(name, f"the program is built first: seconds where the gate passed its {len(crates)} crates on this machine, else about {minutes(crates)} min. The toolchain's words go to {log}")
+        what = "the program is built first" if len(names) == 1 else "the programs are built"
+        say(who, f"{what}: seconds if the gate passed the {len(crates)} crates on this machine, else about {minutes(crates)} min. The toolchain's words go to {log}")
         try:
-            prove(name, crates, f"{room}/top", f"{room}/rooms", said)
+            prove(names, crates, f"{room}/top", f"{room}/rooms", said)
         except NotBuilt as why:
             raise NotBuilt(f"{why}, as {log} says") from None
-        os.makedirs(out, exist_ok=True)
-        built = f"{out}/{name}.{sum_of(f'{room}/top', crates)}"
-        shutil.copyfile(f"{room}/top/crates/{name}/out/{name}", f"{built}.new")
-        os.chmod(f"{built}.new", 0o755)
-        os.replace(f"{built}.new", built)
-        for it in os.listdir(out):
-            if re.fullmatch(rf"{name}\.[0-9a-f]{{16}}(\.new)?", it) and f"{out}/{it}" != built:
-                os.remove(f"{out}/{it}")
+        for it in names:
+            keep(f"{room}/top/crates/{it}/out/{it}", it, sum_of(f"{room}/top", below[it]))
+
+
+def run(name, words):
+    """Runs the program in the place of this one. It returns only if no such program is kept."""
+    program = program_of(name, sum_of(TOP, crates_below(name)))
+    if is_own_program(program):
+        # (Python ignores these two, and the program would inherit that)
+        for it in (signal.SIGPIPE, signal.SIGXFSZ):
+            signal.signal(it, signal.SIG_DFL)
+        with contextlib.suppress(FileNotFoundError):
+            os.execv(program, [name, *words])
 
 
 def main(name, words):
@@ -196,21 +293,18 @@ def main(name, words):
 
     for it in (signal.SIGINT, signal.SIGTERM, signal.SIGHUP):
         signal.signal(it, stop)
+    names = words if name == "--build" else [name]
     try:
+        if name == "--build":
+            build(names)
+            return 0
         while True:
-            crates = crates_below(name)
-            program = f"{TOP}/crates/{name}/out/bin/{name}.{sum_of(TOP, crates)}"
-            if os.path.isfile(program):
-                # (Python ignores these two, and the program would inherit that)
-                for it in (signal.SIGPIPE, signal.SIGXFSZ):
-                    signal.signal(it, signal.SIG_DFL)
-                with contextlib.suppress(FileNotFoundError):
-                    os.execv(program, [name, *words])
-            build(name, crates)
+            run(name, words)
+            build(names)
     except NotBuilt as why:
-        say(name, f"not started: {why}")
+        say(" ".join(names), f"not started: {why}")
     except OSError as error:
-        say(name, f"not started: {error.filename or 'the build'}: {error.strerror}")
+        say(" ".join(names), f"not started: {error.filename or 'the build'}: {error.strerror}")
     return NOT_BUILT
 
 

@@ -23,7 +23,8 @@ use Rattle.play_types.specs.declared.parsed.Refusal.TheVariants.{Channel, Illega
 use Rattle.play_types.specs.Take.{TakeView, loaded, played}
 use Rattle.play_types.specs.declared.take.Spec.{Spec}
 use Rattle.play_types.specs.declared.take.Spec.TheVariants.{Clip, Colour, RouteChannel, RouteLayer}
-use Rattle.history_model.specs.commands.Channels.{IsConfigured, IsRouted, IsAimed}
+use Rattle.play_types.specs.Scene.{IsConfigured}
+use Rattle.history_model.specs.commands.Channels.{IsRouted, IsAimed}
 use Rattle.history_model.specs.commands.Options.{Options, options_at}
 use Rattle.history_model.specs.commands.Line.{Line, ◌>>=◌, ended, word_at, legal, flag_at}
 use Rattle.play_types.specs.Words.{is_word, prop_of, name_of}
@@ -79,7 +80,7 @@ known P result value all is = subst (λ r. IfOk r P) is all
 
 -- the area is on a configured channel
 abbrev IsAimedArea : Line → Area → Type 0
-IsAimedArea line area = IsConfigured line.config area.channel
+IsAimedArea line area = IsConfigured (length line.config.channels) area.channel
 
 area_of-aimed : (line : Line) (at : ℕ) (word : List ℕ) → IfOk (area_of line at word) (IsAimedArea line)
 unfolding area_of
@@ -102,13 +103,13 @@ result_ok-is (Err reason) value is = absurd (none-some value is)
 
 -- a producer that is a route is one to a configured channel
 abbrev IsRoutedProducer : Line → Producer → Type 0
-IsRoutedProducer line producer = IsRouted line.config producer.spec
+IsRoutedProducer line producer = IsRouted (length line.config.channels) producer.spec
 
 -- the route of a take is one to a configured channel
 abbrev IsRoutedTake : Line → TakeView → Type 0
-IsRoutedTake line take = IsRouted line.config take.spec
+IsRoutedTake line take = IsRouted (length line.config.channels) take.spec
 
-route_to-routed : (config : ConfigView) (channel : ℕ) (layer : Option ℕ) → IsConfigured config channel → IsRouted config (route_to channel layer)
+route_to-routed : (config : ConfigView) (channel : ℕ) (layer : Option ℕ) → IsConfigured (length config.channels) channel → IsRouted (length config.channels) (route_to channel layer)
 route_to-routed config channel None aimed = aimed
 route_to-routed config channel (Some layer) aimed = aimed
 
@@ -145,7 +146,7 @@ producer_of-routed line at word = by_word (is_colour_word word) (is_route_word w
     by_word false false = named_producer-routed line word (named_colour word)
 
 -- the take of a producer has its route
-take_with-routed : (line : Line) (at : ℕ) (options : Options) (frames : ℕ) (spec : Spec) → IsRouted line.config spec
+take_with-routed : (line : Line) (at : ℕ) (options : Options) (frames : ℕ) (spec : Spec) → IsRouted (length line.config.channels) spec
     → IfOk (legal line at (take_with options frames spec)) (IsRoutedTake line)
 take_with-routed line at options frames (Clip id) routed = by_seek (nat_lt options.seek frames)
   where
@@ -194,7 +195,7 @@ ended-keeps {A = A} P line at value has = by_length (nat_lt at (length line.word
 
 -- the place is on a configured channel
 abbrev IsAimedPlace : Line → PlaceView → Type 0
-IsAimedPlace line place = IsConfigured line.config place.channel
+IsAimedPlace line place = IsConfigured (length line.config.channels) place.channel
 
 only_place-aimed : (line : Line) → IfOk (only_place line) (IsAimedPlace line)
 only_place-aimed line =
@@ -227,7 +228,7 @@ load_bg-aimed line =
       known (IsRoutedTake line) (take_at line 2) take (take_at-routed line 2) has,
     )))
 
-cleared-aimed : (config : ConfigView) (channel : ℕ) (layer : Option ℕ) → IsConfigured config channel → IsAimed config (cleared channel layer)
+cleared-aimed : (config : ConfigView) (channel : ℕ) (layer : Option ℕ) → IsConfigured (length config.channels) channel → IsAimed config (cleared channel layer)
 cleared-aimed config channel None aimed = aimed
 cleared-aimed config channel (Some layer) aimed = aimed
 
@@ -259,7 +260,7 @@ swap-aimed line =
     (known (IsAimedArea line) (area_at line 1) one (area_at-aimed line 1) found)
     (known (IsAimedArea line) (area_at line 2) other (area_at-aimed line 2) has)))
 
-reset-aimed : (config : ConfigView) (channel : ℕ) (layer : Option ℕ) → IsConfigured config channel → IsAimed config (reset channel layer)
+reset-aimed : (config : ConfigView) (channel : ℕ) (layer : Option ℕ) → IsConfigured (length config.channels) channel → IsAimed config (reset channel layer)
 reset-aimed config channel None aimed = aimed
 reset-aimed config channel (Some layer) aimed = aimed
 

@@ -33,7 +33,7 @@ pub acts_on_content-other : (cmd : Cmd) (place : PlaceView) → touches cmd plac
 acts_on_content-other (Load at take) place e = e
 acts_on_content-other (LoadBg at take) place e = e
 acts_on_content-other (Play at) place e = e
-acts_on_content-other (PlayTake at take) place e = refl
+acts_on_content-other (PlayTake at take) place e = e
 acts_on_content-other (Pause at) place e = e
 acts_on_content-other (Resume at) place e = e
 acts_on_content-other (StopLayer at) place e = e

@@ -37,7 +37,7 @@ unfolding AtMost
 effect-few (Load at take) s t few = omega arith
 effect-few (LoadBg at take) s t few = few
 effect-few (Play at) s t few = played s.background s t few
-effect-few (PlayTake at take) s t few = few
+effect-few (PlayTake at take) s t few = omega arith
 effect-few (Pause at) s t few = marked true s.foreground t few
 effect-few (Resume at) s t few = marked false s.foreground t few
 effect-few (StopLayer at) s t few = tt

@@ -1,4 +1,4 @@
--- What is told of a place: its foreground, and what it shows at a tick.
+-- What is told of a layer: its foreground, and what it shows at a tick.
 use Rattle.std.specs.Prelude.{ℕ, ◌+◌, min, Option, Some, None, option_map}
 use Rattle.play_types.specs.Take.{TakeView}
 use Rattle.play_types.specs.Transition.{cut}
@@ -21,7 +21,7 @@ picture_of take shown = (take.spec, head take shown)
 abbrev pub old_picture_of : ℕ → Outgoing → Spec × ℕ
 old_picture_of shown old = picture_of old.take (outgoing_shown old shown)
 
--- what a place with this foreground shows: the picture, the one that it replaces, the transition and its step
+-- what a layer with this foreground shows: the picture, the one that it replaces, the transition and its step
 abbrev pub shown_of : Option Foreground → Shown
 shown_of None = record { now = None; old = None; trans = cut; step = 0 }
 shown_of (Some foreground) = record {

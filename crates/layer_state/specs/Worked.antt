@@ -1,4 +1,4 @@
--- Words for the worked examples: what a place shows, tick by tick.
+-- Words for the worked examples: what a layer shows, tick by tick.
 use Rattle.std.specs.Prelude.{ℕ, zero, suc, Some, None, List, [], ◌∷◌}
 use Rattle.play_types.specs.Transition.{cut}
 use Rattle.play_types.specs.declared.transition.Kind.TheVariants.{Mix}
@@ -33,6 +33,6 @@ abbrev pub mixes_blue : ℕ → ℕ → ℕ → Shown
 mixes_blue frame step duration =
     record { now = Some (Colour 0xFF0000FF, 0); old = Some (Clip 1, frame); trans = rightward Mix duration; step = step }
 
--- a place without a foreground
+-- a layer without a foreground
 abbrev pub nothing : Shown
 nothing = record { now = None; old = None; trans = cut; step = 0 }

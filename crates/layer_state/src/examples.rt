@@ -8,7 +8,7 @@ ghost use Rattle.history_model.specs.stage.Life.{empty_place};
 ghost use Rattle.layer_state.specs.Past.{IsPast, Represents};
 ghost use Rattle.layer_state.specs.Worked.{mixes_blue, nothing, pictures, shows_blue, shows_clip, shows_red};
 
-/// What a place shows at one tick: a clip at its playhead, and in a transition the clip that is replaced at its own.
+/// What a layer shows at one tick: a clip at its playhead, and in a transition the clip that is replaced at its own.
 pub fn one_tick()
     ensures nothing { pictures 1 (with_background empty_place red) ≡ nothing ∷ [] }
     ensures colour { pictures 1 (running red 7) ≡ shows_red ∷ [] }
@@ -19,7 +19,7 @@ pub fn one_tick()
     ensures old_paused { pictures 1 (over_old (by blue (rightward Mix 4)) 2 (old_of (clip 1 30) 7 true)) ≡ mixes_blue 7 3 4 ∷ [] }
 {}
 
-/// What a place shows tick by tick: a paused clip stands, and a background with AUTO starts after the last frame of the
+/// What a layer shows tick by tick: a paused clip stands, and a background with AUTO starts after the last frame of the
 /// clip, or before it by the duration of its transition.
 pub fn tick_by_tick()
     ensures runs { pictures 3 (running (clip 1 3) 0) ≡ shows_clip 0 ∷ shows_clip 1 ∷ shows_clip 2 ∷ [] }

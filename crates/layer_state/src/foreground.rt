@@ -1,4 +1,4 @@
-//! What a place shows, and the content that it replaces.
+//! What a layer shows, and the content that it replaces.
 ghost use Rattle.std.specs.Prelude.{◌≡◌, ◌<◌, ◌↔◌, IsTrue, Option, Some, false};
 ghost use Rattle.play_types.specs.declared.event.TheConstants.{MAX_TICKS};
 ghost use Rattle.history_model.specs.stage.Life.{delay_over, first_picture, outgoing, shown_for, with_mark};
@@ -10,7 +10,7 @@ use crate::shown::Shown;
 use play_types::{Kind, MAX_TICKS, Spec, Take};
 use std::marker::Model;
 
-/// What a place shows, with the content that it replaces where a transition brought it in.
+/// What a layer shows, with the content that it replaces if a transition brought it in.
 #[derive(Clone, Copy, Debug, PartialEq, Eq)]
 pub(crate) struct Foreground {
     front: Front,

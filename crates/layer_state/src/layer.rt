@@ -1,4 +1,4 @@
-//! A place of the stage.
+//! What a place holds.
 ghost use Rattle.std.specs.Prelude.{◌≡◌, ◌<◌, ◌↔◌, ◌+◌, ℕ, List, [], IsTrue, Some, option_map};
 ghost use Rattle.std.specs.Option.{ForSome};
 ghost use Rattle.play_types.specs.Place.{PlaceView};
@@ -15,9 +15,9 @@ use crate::shown::Shown;
 use play_types::Take;
 use std::marker::Model;
 
-/// A place of the stage: a foreground and a background, each where there is one.
+/// What a place holds: a foreground and a background, if there are any.
 ///
-/// A layer represents a past, which is the acts on its place and the ticks since the history began, where it is what they
+/// A layer represents a past, which is the acts on its place and the ticks since the history began, if it is what they
 /// have made of the place. A new layer represents the empty past. Each command keeps, for every past that the layer
 /// represented, that it represents that past with the command at its end, and a tick adds one tick.
 #[derive(Clone, Copy, Debug, PartialEq, Eq)]
@@ -37,7 +37,7 @@ impl Model for Layer {
 }
 
 impl Layer {
-    /// Returns a place that holds nothing.
+    /// Returns a layer that holds nothing.
     pub fn new() -> Layer
         ensures value { result ≡ empty_place }
         ensures past { (ticks : ℕ) → Represents result [] ticks }
@@ -125,7 +125,7 @@ impl Layer {
         *self = Layer::new();
     }
 
-    /// Lets one tick pass, and returns what the place shows at it: a background whose start is due is started, then the
+    /// Lets one tick pass, and returns what the layer shows at it: a background whose start is due is started, then the
     /// picture is taken, and then a foreground that is not paused was shown for one tick more.
     pub fn tick(&mut self) -> Shown
         requires { ForSome self.old.foreground (λ foreground. foreground.shown < MAX_TICKS) }
@@ -180,7 +180,7 @@ impl Layer {
         }
     }
 
-    /// Returns what the place shows as it stands.
+    /// Returns what the layer shows as it is.
     fn shown(&self) -> Shown
         ensures { result ≡ shown_of self.now.foreground }
     {

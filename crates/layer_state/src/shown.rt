@@ -18,7 +18,7 @@ pub struct Shown {
 }
 
 impl Shown {
-    /// Returns what a place without a foreground shows.
+    /// Returns what a layer without a foreground shows.
     pub(crate) fn nothing() -> Shown
         ensures { result ≡ shown_of None }
     {

@@ -4,6 +4,8 @@ use Rattle.play_types.specs.declared.answer.Answer.{Answer}
 use Rattle.play_types.specs.declared.answer.Answer.TheVariants as answer
 use Rattle.play_types.specs.declared.command.Cmd.{Cmd}
 use Rattle.play_types.specs.declared.command.Cmd.TheVariants as cmd
+use Rattle.play_types.specs.declared.shape.CommandShape.TheVariants as shape
+use Rattle.play_types.specs.Shape.{shape_of}
 use Rattle.play_types.specs.declared.reply.Name.{Name}
 use Rattle.play_types.specs.declared.reply.Name.TheVariants as name
 use Rattle.play_types.specs.declared.reply.Reply.{Reply}
@@ -31,23 +33,17 @@ command_name cmd.Info = name.Info
 
 -- whether a command only asks
 abbrev pub is_query : Cmd → Bool
-is_query (cmd.Load place take) = false
-is_query (cmd.LoadBg place take) = false
-is_query (cmd.Play place) = false
-is_query (cmd.PlayTake place take) = false
-is_query (cmd.Pause place) = false
-is_query (cmd.Resume place) = false
-is_query (cmd.StopLayer place) = false
-is_query (cmd.ClearLayer place) = false
-is_query (cmd.ClearChannel channel) = false
-is_query (cmd.SwapLayers one other transforms) = false
-is_query (cmd.SwapChannels one other transforms) = false
-is_query (cmd.Set setting) = false
-is_query (cmd.CommitMixer channel) = false
-is_query (cmd.ResetLayer place) = false
-is_query (cmd.ResetChannel channel) = false
-is_query (cmd.Value place prop) = true
-is_query cmd.Info = true
+is_query cmd = elim (shape_of cmd) [
+  | shape.Take place take ↦ false
+  | shape.Change place ↦ false
+  | shape.ClearChannel channel ↦ false
+  | shape.SwapLayers one other transforms ↦ false
+  | shape.SwapChannels one other transforms ↦ false
+  | shape.Set setting ↦ false
+  | shape.CommitMixer channel ↦ false
+  | shape.Reset target ↦ false
+  | shape.Ask query ↦ true
+]
 
 -- the reply that tells a client the stage's answer to a command of this name
 abbrev pub answer_reply : Name → Answer → Reply

@@ -1,5 +1,6 @@
 pub mod Words
 pub mod Place
+pub mod ChannelItems
 pub mod Transition
 pub mod Columns
 pub mod Take
@@ -7,6 +8,7 @@ pub mod Playhead
 pub mod Setting
 pub mod Curve
 pub mod Answer
+pub mod Shape
 pub mod Commands
 pub mod History
 pub mod Geometry

@@ -1,5 +1,6 @@
 -- What contracts see of scenes: for each channel the list of its drawn layers, the lowest first.
-use Rattle.std.specs.Prelude.{◌≡◌, ℕ, ◌-◌, ◌<◌, ◌≤◌, ◌⊎◌, List, [], ◌∷◌, ◌++◌, length, slice_index_or, slice_set, All}
+use Rattle.std.specs.Prelude.{◌≡◌, ℕ, ◌<◌, ◌≤◌, ◌⊎◌, List, [], ◌∷◌, ◌++◌, length, All}
+use Rattle.play_types.specs.ChannelItems.{channel_item, with_channel_item}
 use Rattle.play_types.specs.Setting.{AreValues}
 use Rattle.play_types.specs.declared.place.TheConstants.{MAX_CHANNELS, MAX_LIVE_LAYERS}
 use Rattle.play_types.specs.declared.setting.Prop.TheVariants.{Opacity, Fill, Clip, Volume}
@@ -43,8 +44,8 @@ pub record AreScenes (scenes : List (List Drawn)) : Type 0 where
 
 -- the layers of a channel
 abbrev pub scene_at : ℕ → List (List Drawn) → List Drawn
-scene_at channel scenes = slice_index_or scenes (channel - 1) []
+scene_at channel scenes = channel_item channel scenes []
 
 -- the scenes with one layer more above the others of a channel
 abbrev pub with_layer : ℕ → Drawn → List (List Drawn) → List (List Drawn)
-with_layer channel drawn scenes = slice_set scenes (channel - 1) (scene_at channel scenes ++ drawn ∷ [])
+with_layer channel drawn scenes = with_channel_item channel (scene_at channel scenes ++ drawn ∷ []) scenes

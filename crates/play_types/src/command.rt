@@ -2,11 +2,13 @@
 ghost use Rattle.std.specs.Prelude.{◌≡◌, ◌==◌, ◌∷◌, ◌++◌, [], length, OnOk, OnErr, option_copied, slice_get};
 ghost use Rattle.std.specs.Slice.Iter.{iter_rest};
 ghost use Rattle.play_types.specs.Commands.{command_name, is_query};
+ghost use Rattle.play_types.specs.Shape.{shape_of};
 ghost use Rattle.play_types.specs.Take.{loaded, played};
 
 use crate::place::Place;
 use crate::reply::Name;
 use crate::setting::{Prop, Setting};
+use crate::shape::{CommandShape, Query, Target};
 use crate::take::Take;
 use std::alloc::{AllocError, Global};
 use std::marker::Model;
@@ -88,27 +90,49 @@ impl Cmd {
         }
     }
 
+    /// Returns what the command does, and on what.
+    pub fn shape(&self) -> CommandShape
+        ensures { result ≡ shape_of self.now }
+    {
+        match self {
+            Cmd::Load(place, take) | Cmd::LoadBg(place, take) | Cmd::PlayTake(place, take) => {
+                CommandShape::Take(*place, *take)
+            }
+            Cmd::Play(place)
+            | Cmd::Pause(place)
+            | Cmd::Resume(place)
+            | Cmd::StopLayer(place)
+            | Cmd::ClearLayer(place) => CommandShape::Change(*place),
+            Cmd::ClearChannel(channel) => CommandShape::ClearChannel(*channel),
+            Cmd::SwapLayers(one, other, transforms) => {
+                CommandShape::SwapLayers(*one, *other, *transforms)
+            }
+            Cmd::SwapChannels(one, other, transforms) => {
+                CommandShape::SwapChannels(*one, *other, *transforms)
+            }
+            Cmd::Set(setting) => CommandShape::Set(*setting),
+            Cmd::CommitMixer(channel) => CommandShape::CommitMixer(*channel),
+            Cmd::ResetLayer(place) => CommandShape::Reset(Target::Layer(*place)),
+            Cmd::ResetChannel(channel) => CommandShape::Reset(Target::Channel(*channel)),
+            Cmd::Value(place, prop) => CommandShape::Ask(Query::Value(*place, *prop)),
+            Cmd::Info => CommandShape::Ask(Query::Status),
+        }
+    }
+
     /// Returns whether the command only asks, and so changes nothing.
     pub fn is_query(&self) -> bool
         ensures { result ≡ is_query self.now }
     {
-        match self {
-            Cmd::Value(..) | Cmd::Info => true,
-            Cmd::Load(..)
-            | Cmd::LoadBg(..)
-            | Cmd::Play(_)
-            | Cmd::PlayTake(..)
-            | Cmd::Pause(_)
-            | Cmd::Resume(_)
-            | Cmd::StopLayer(_)
-            | Cmd::ClearLayer(_)
-            | Cmd::ClearChannel(_)
-            | Cmd::SwapLayers(..)
-            | Cmd::SwapChannels(..)
-            | Cmd::Set(_)
-            | Cmd::CommitMixer(_)
-            | Cmd::ResetLayer(_)
-            | Cmd::ResetChannel(_) => false,
+        match self.shape() {
+            CommandShape::Ask(_) => true,
+            CommandShape::Take(..)
+            | CommandShape::Change(_)
+            | CommandShape::ClearChannel(_)
+            | CommandShape::SwapLayers(..)
+            | CommandShape::SwapChannels(..)
+            | CommandShape::Set(_)
+            | CommandShape::CommitMixer(_)
+            | CommandShape::Reset(_) => false,
         }
     }
 }

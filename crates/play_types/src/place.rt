@@ -1,5 +1,5 @@
 //! Where a layer is.
-ghost use Rattle.std.specs.Prelude.{◌≡◌, ◌↔◌, IsSome, IfSome};
+ghost use Rattle.std.specs.Prelude.{◌≡◌, ◌-◌, ◌≤◌, ◌↔◌, IsSome, IfSome};
 ghost use Rattle.play_types.specs.Place.{IsPlace};
 
 use std::marker::Model;
@@ -12,6 +12,14 @@ pub const MAX_LAYER: u16 = 9_999;
 
 /// The most layers of a channel that are live.
 pub const MAX_LIVE_LAYERS: usize = 64;
+
+/// Returns the index of the item of a channel in a list that has one for each channel, that of channel 1 first.
+pub fn channel_index(channel: u8) -> usize
+    requires { 1 ≤ channel }
+    ensures { result ≡ channel - 1 }
+{
+    usize::from(channel) - 1
+}
 
 /// A layer of a channel. Channels count from 1 to 16, layers from 0 to 9999.
 #[derive(Clone, Copy, Debug, PartialEq, Eq)]

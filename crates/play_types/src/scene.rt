@@ -5,7 +5,7 @@ ghost use Rattle.play_types.specs.declared.place.TheConstants.{MAX_LIVE_LAYERS};
 
 use crate::config::Config;
 use crate::drawn::Drawn;
-use crate::place::MAX_LIVE_LAYERS;
+use crate::place::{MAX_LIVE_LAYERS, channel_index};
 use std::alloc::{AllocError, Global};
 use std::marker::Model;
 
@@ -116,7 +116,7 @@ impl Scenes {
         requires names { NamesConfigured (length self.old) drawn }
         ensures { self.new ≡ with_layer channel drawn self.old }
     {
-        self.scenes[usize::from(channel) - 1].push(drawn);
+        self.scenes[channel_index(channel)].push(drawn);
     }
 
     /// Returns the scene of a channel, which is configured.
@@ -125,7 +125,7 @@ impl Scenes {
         ensures value { result.now ≡ scene_at channel self.now }
         ensures range { AreScenes self.now }
     {
-        &self.scenes[usize::from(channel) - 1]
+        &self.scenes[channel_index(channel)]
     }
 
     /// Returns the number of channels, 1 to 16.

@@ -1,6 +1,7 @@
 -- What the places of channels show at a tick.
-use Rattle.std.specs.Prelude.{ℕ, ◌-◌, ◌==◌, List, [], ◌∷◌, Option, option_map, slice_index_or, slice_set, if◌then◌else◌}
+use Rattle.std.specs.Prelude.{ℕ, ◌==◌, List, [], ◌∷◌, Option, option_map, if◌then◌else◌}
 use Rattle.std.specs.List.{find}
+use Rattle.play_types.specs.ChannelItems.{channel_item, with_channel_item}
 use Rattle.play_types.specs.Place.{PlaceView}
 use Rattle.play_types.specs.declared.take.Spec.{Spec}
 
@@ -27,14 +28,14 @@ with_shown layer picture (shown ∷ more) =
 abbrev pub shown_on : ShownLayers → ℕ → Option Picture
 shown_on layers layer = option_map (λ (shown : ℕ × Picture). shown.1) (find (λ (shown : ℕ × Picture). shown.0 == layer) layers)
 
--- the layers of a channel, by its number from 1 on
+-- the layers of a channel
 abbrev pub layers_of : ℕ → List ShownLayers → ShownLayers
-layers_of channel tick = slice_index_or tick (channel - 1) []
+layers_of channel tick = channel_item channel tick []
 
 -- a tick at which a place shows this picture, in place of the one that it showed
 abbrev pub with_picture : PlaceView → Picture → List ShownLayers → List ShownLayers
 with_picture place picture tick =
-    slice_set tick (place.channel - 1) (with_shown place.layer picture (layers_of place.channel tick))
+    with_channel_item place.channel (with_shown place.layer picture (layers_of place.channel tick)) tick
 
 -- what each place shows at a tick
 abbrev pub shown_at : List ShownLayers → Pictures

@@ -8,7 +8,7 @@ ghost use Rattle.route_graph.specs.Shown.{layers_of, shown_at, with_picture};
 ghost use Rattle.route_graph.specs.inner.Tick.{shown_so_far};
 
 use crate::layers::LayerList;
-use play_types::{Place, Spec};
+use play_types::{Place, Spec, channel_index};
 use std::alloc::{AllocError, Global};
 use std::marker::Model;
 
@@ -75,7 +75,7 @@ impl ShownTick {
         if !self.begun {
             self.begin();
         }
-        self.channels[usize::from(place.channel()) - 1].show(place.layer(), picture);
+        self.channels[channel_index(place.channel())].show(place.layer(), picture);
     }
 
     /// Returns the picture of a place: `None` exactly where the tick has not begun, or the place shows nothing at it.
@@ -85,7 +85,7 @@ impl ShownTick {
         if !self.begun {
             return None;
         }
-        let layers = self.channels.get(usize::from(place.channel()) - 1)?;
+        let layers = self.channels.get(channel_index(place.channel()))?;
         layers.get(place.layer())
     }
 }

@@ -7,7 +7,7 @@ use Rattle.history_model.specs.stage.Act.{Act, act_after}
 use Rattle.history_model.specs.stage.Trail.{content_origin, acts_on_content, trail}
 use Rattle.history_model.specs.stage.Life.{Life, after, effect, empty_place, life}
 use Rattle.history_model.specs.stage.Live.{state}
-use Rattle.history_model.specs.stage.Places.{Places, AreAbove, ArePlaces, AreBy, changed_at, live_places, one_tick_later, standing, taken, with_place}
+use Rattle.history_model.specs.stage.Places.{Places, AreAbove, ArePlaces, AreBy, changed_at, live_places, one_tick_later, standing, with_place}
 use Rattle.history_model.proofs.Lives.{after-add, after-zero}
 use Rattle.history_model.proofs.Liveness.{is_live-after}
 use Rattle.history_model.proofs.places.Lists.{ArePlaces-with_place, same_places, standing-with_place}
@@ -126,10 +126,10 @@ state-play_take acts t at place first second still_first still_second same =
 module _ (acts : List Act) (t channel : ℕ) where
   pub at_one : (at : PlaceView) (cmd : Cmd) (n : ℕ) →
       standing (changed_at at cmd channel (live_places acts t channel)) n
-      ≡ (if (at.channel == channel) && eqb at.layer n then taken cmd (state acts t (record { channel = channel; layer = n })) else state acts t (record { channel = channel; layer = n }))
+      ≡ (if (at.channel == channel) && eqb at.layer n then effect cmd (state acts t (record { channel = channel; layer = n })) else state acts t (record { channel = channel; layer = n }))
   at_one at cmd n =
       standing-changed (at.channel == channel) at.layer n (live_places acts t channel) (λ k. state acts t (record { channel = channel; layer = k }))
-      (taken cmd) (ArePlaces-live acts t channel) (standing-live acts t channel)
+      (effect cmd) (ArePlaces-live acts t channel) (standing-live acts t channel)
 
 -- what a command on a place makes of places are places
 pub places_chosen : (here : Bool) (changed places : Places) → ArePlaces changed → ArePlaces places → ArePlaces (if here then changed else places)
@@ -138,4 +138,4 @@ places_chosen false changed places p q = q
 
 pub ArePlaces-changed : (at : PlaceView) (cmd : Cmd) (channel : ℕ) (places : Places) → ArePlaces places → ArePlaces (changed_at at cmd channel places)
 ArePlaces-changed at cmd channel places p =
-    places_chosen (at.channel == channel) _ places (ArePlaces-with_place places at.layer (taken cmd (standing places at.layer)) p) p
+    places_chosen (at.channel == channel) _ places (ArePlaces-with_place places at.layer (effect cmd (standing places at.layer)) p) p

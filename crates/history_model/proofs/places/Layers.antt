@@ -93,7 +93,7 @@ rising_more : (cmd : Cmd) (found : List ℕ) → AreRising found → AreRising (
 rising_more (Load at take) found r = AreRising-with_number at.layer found r
 rising_more (LoadBg at take) found r = AreRising-with_number at.layer found r
 rising_more (Play at) found r = r
-rising_more (PlayTake at take) found r = r
+rising_more (PlayTake at take) found r = AreRising-with_number at.layer found r
 rising_more (Pause at) found r = r
 rising_more (Resume at) found r = r
 rising_more (StopLayer at) found r = r
@@ -118,7 +118,7 @@ was_apart : (n : ℕ) (cmd : Cmd) (found : List ℕ) → is_in n (with_layers_of
 was_apart n (Load at take) found e = (apart_from n at.layer found e).1
 was_apart n (LoadBg at take) found e = (apart_from n at.layer found e).1
 was_apart n (Play at) found e = e
-was_apart n (PlayTake at take) found e = e
+was_apart n (PlayTake at take) found e = (apart_from n at.layer found e).1
 was_apart n (Pause at) found e = e
 was_apart n (Resume at) found e = e
 was_apart n (StopLayer at) found e = e
@@ -144,7 +144,7 @@ leaves_empty : (cmd : Cmd) (place : PlaceView) (found : List ℕ) → is_in plac
 leaves_empty (Load at take) place found e there = absurd (not_there at place (apart_from place.layer at.layer found e).0 there)
 leaves_empty (LoadBg at take) place found e there = absurd (not_there at place (apart_from place.layer at.layer found e).0 there)
 leaves_empty (Play at) place found e there = refl
-leaves_empty (PlayTake at take) place found e there = refl
+leaves_empty (PlayTake at take) place found e there = absurd (not_there at place (apart_from place.layer at.layer found e).0 there)
 leaves_empty (Pause at) place found e there = refl
 leaves_empty (Resume at) place found e there = refl
 leaves_empty (StopLayer at) place found e there = refl

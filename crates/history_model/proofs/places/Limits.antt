@@ -8,9 +8,9 @@ use Rattle.play_types.specs.Take.{TakeView}
 use Rattle.play_types.specs.declared.command.Cmd.{Cmd}
 use Rattle.play_types.specs.declared.command.Cmd.TheVariants.{Load, LoadBg, Play, PlayTake, Pause, Resume, StopLayer, ClearLayer, ClearChannel, SwapLayers, SwapChannels, Set, CommitMixer, ResetLayer, ResetChannel, Value, Info}
 use Rattle.history_model.specs.stage.Act.{Act, acts_of}
-use Rattle.history_model.specs.stage.Life.{Life, Foreground, after_play, with_mark}
+use Rattle.history_model.specs.stage.Life.{Life, Foreground, after_play, effect, with_mark}
 use Rattle.history_model.specs.stage.Live.{is_live}
-use Rattle.history_model.specs.stage.Places.{AreBy, ArePlaces, Places, changed_at, standing, taken}
+use Rattle.history_model.specs.stage.Places.{AreBy, ArePlaces, Places, changed_at, standing}
 use Rattle.history_model.proofs.places.Lists.{length-with_place}
 use Rattle.history_model.proofs.places.Layers.{is_in}
 
@@ -62,10 +62,10 @@ no_longer true changed places fewer = fewer
 no_longer false changed places fewer = omega arith
 
 pub no_longer_at : (at : PlaceView) (cmd : Cmd) (channel : ℕ) (places : Places) → ArePlaces places →
-    ((s : Life) → is_live (taken cmd s) ≡ true → is_live s ≡ true) → length (changed_at at cmd channel places) ≤ length places
+    ((s : Life) → is_live (effect cmd s) ≡ true → is_live s ≡ true) → length (changed_at at cmd channel places) ≤ length places
 no_longer_at at cmd channel places p was =
     no_longer (at.channel == channel) _ places
-    (length-with_place places at.layer (taken cmd (standing places at.layer)) p (was (standing places at.layer)))
+    (length-with_place places at.layer (effect cmd (standing places at.layer)) p (was (standing places at.layer)))
 
 -- a test that no number passes, and one that a number of the list passes
 pub none_passes : (test : ℕ → Bool) (numbers : List ℕ) → ((n : ℕ) → test n ≡ false) → list_any test numbers ≡ false

@@ -1,41 +1,39 @@
 -- The channels that a command names.
-use Rattle.std.specs.Prelude.{ℕ, ◌≤◌, List, length, All}
+use Rattle.std.specs.Prelude.{ℕ, List, length, All}
 use Rattle.play_types.specs.Config.{ConfigView}
+use Rattle.play_types.specs.Scene.{IsConfigured}
 use Rattle.play_types.specs.declared.take.Spec.{Spec}
 use Rattle.play_types.specs.declared.take.Spec.TheVariants.{Clip, Colour, RouteChannel, RouteLayer}
+use Rattle.play_types.specs.Shape.{shape_of, target_channel}
 use Rattle.play_types.specs.declared.command.Cmd.{Cmd}
-use Rattle.play_types.specs.declared.command.Cmd.TheVariants as cmd
+use Rattle.play_types.specs.declared.shape.CommandShape.TheVariants as shape
+use Rattle.play_types.specs.declared.shape.Query.TheVariants as query
 
--- the channel is a configured one
-abbrev pub IsConfigured : ConfigView → ℕ → Type 0
-IsConfigured config channel = (1 ≤ channel) × (channel ≤ length config.channels)
+-- a producer that is a route is one to one of the first `channels` channels
+abbrev pub IsRouted : ℕ → Spec → Type 0
+IsRouted channels (Clip id) = Unit {0}
+IsRouted channels (Colour value) = Unit {0}
+IsRouted channels (RouteChannel channel) = IsConfigured channels channel
+IsRouted channels (RouteLayer place) = IsConfigured channels place.channel
 
--- a producer that is a route is one to a configured channel
-abbrev pub IsRouted : ConfigView → Spec → Type 0
-IsRouted config (Clip id) = Unit {0}
-IsRouted config (Colour value) = Unit {0}
-IsRouted config (RouteChannel channel) = IsConfigured config channel
-IsRouted config (RouteLayer place) = IsConfigured config place.channel
+-- each place, channel and route that a command names is of one of the first `channels` channels
+abbrev pub IsServed : ℕ → Cmd → Type 0
+IsServed channels cmd = elim (shape_of cmd) [
+  | shape.Take at take ↦ IsConfigured channels at.channel × IsRouted channels take.spec
+  | shape.Change at ↦ IsConfigured channels at.channel
+  | shape.ClearChannel channel ↦ IsConfigured channels channel
+  | shape.SwapLayers a b transforms ↦ IsConfigured channels a.channel × IsConfigured channels b.channel
+  | shape.SwapChannels a b transforms ↦ IsConfigured channels a × IsConfigured channels b
+  | shape.Set setting ↦ IsConfigured channels setting.place.channel
+  | shape.CommitMixer channel ↦ IsConfigured channels channel
+  | shape.Reset target ↦ IsConfigured channels (target_channel target)
+  | shape.Ask (query.Value place prop) ↦ IsConfigured channels place.channel
+  | shape.Ask query.Status ↦ Unit {0}
+]
 
--- each channel that a command names, by a place, by its number or by a route, is a configured one
+-- each place, channel and route that a command names is of a configured channel
 abbrev pub IsAimed : ConfigView → Cmd → Type 0
-IsAimed config (cmd.Load place take) = IsConfigured config place.channel × IsRouted config take.spec
-IsAimed config (cmd.LoadBg place take) = IsConfigured config place.channel × IsRouted config take.spec
-IsAimed config (cmd.Play place) = IsConfigured config place.channel
-IsAimed config (cmd.PlayTake place take) = IsConfigured config place.channel × IsRouted config take.spec
-IsAimed config (cmd.Pause place) = IsConfigured config place.channel
-IsAimed config (cmd.Resume place) = IsConfigured config place.channel
-IsAimed config (cmd.StopLayer place) = IsConfigured config place.channel
-IsAimed config (cmd.ClearLayer place) = IsConfigured config place.channel
-IsAimed config (cmd.ClearChannel channel) = IsConfigured config channel
-IsAimed config (cmd.SwapLayers one other transforms) = IsConfigured config one.channel × IsConfigured config other.channel
-IsAimed config (cmd.SwapChannels one other transforms) = IsConfigured config one × IsConfigured config other
-IsAimed config (cmd.Set setting) = IsConfigured config setting.place.channel
-IsAimed config (cmd.CommitMixer channel) = IsConfigured config channel
-IsAimed config (cmd.ResetLayer place) = IsConfigured config place.channel
-IsAimed config (cmd.ResetChannel channel) = IsConfigured config channel
-IsAimed config (cmd.Value place property) = IsConfigured config place.channel
-IsAimed config cmd.Info = Unit {0}
+IsAimed config cmd = IsServed (length config.channels) cmd
 
 -- each channel that a command of these names is a configured one
 abbrev pub AreAimed : ConfigView → List Cmd → Type 0

@@ -4,8 +4,9 @@ use Rattle.std.specs.List.{list_any}
 use Rattle.play_types.specs.History.{ticks}
 use Rattle.play_types.specs.declared.place.TheConstants.{MAX_LIVE_LAYERS}
 use Rattle.play_types.specs.declared.setting.TheConstants.{MAX_WAITING_SETTINGS}
+use Rattle.play_types.specs.Shape.{shape_of}
 use Rattle.play_types.specs.declared.command.Cmd.{Cmd}
-use Rattle.play_types.specs.declared.command.Cmd.TheVariants.{Load, LoadBg, Play, PlayTake, Pause, Resume, StopLayer, ClearLayer, ClearChannel, SwapLayers, SwapChannels, Set, CommitMixer, ResetLayer, ResetChannel, Value, Info}
+use Rattle.play_types.specs.declared.shape.CommandShape.TheVariants as shape
 use Rattle.play_types.specs.declared.event.Event.{Event}
 use Rattle.play_types.specs.declared.event.Event.TheVariants.{Do, Batch, Tick, Stop}
 use Rattle.history_model.specs.stage.Act.{Act, acts_of}
@@ -14,23 +15,17 @@ use Rattle.history_model.specs.stage.Live.{with_number, live_layers}
 
 -- the channels with those to which a command can bring a content or a waiting setting
 abbrev pub with_channels_of : Cmd → List ℕ → List ℕ
-with_channels_of (Load place take) channels = with_number place.channel channels
-with_channels_of (LoadBg place take) channels = with_number place.channel channels
-with_channels_of (Play place) channels = channels
-with_channels_of (PlayTake place take) channels = channels
-with_channels_of (Pause place) channels = channels
-with_channels_of (Resume place) channels = channels
-with_channels_of (StopLayer place) channels = channels
-with_channels_of (ClearLayer place) channels = channels
-with_channels_of (ClearChannel channel) channels = channels
-with_channels_of (SwapLayers a b transforms) channels = with_number a.channel (with_number b.channel channels)
-with_channels_of (SwapChannels a b transforms) channels = with_number a (with_number b channels)
-with_channels_of (Set setting) channels = with_number setting.place.channel channels
-with_channels_of (CommitMixer channel) channels = channels
-with_channels_of (ResetLayer place) channels = channels
-with_channels_of (ResetChannel channel) channels = channels
-with_channels_of (Value place prop) channels = channels
-with_channels_of Info channels = channels
+with_channels_of cmd channels = elim (shape_of cmd) [
+  | shape.Take at take ↦ with_number at.channel channels
+  | shape.Change at ↦ channels
+  | shape.ClearChannel channel ↦ channels
+  | shape.SwapLayers a b transforms ↦ with_number a.channel (with_number b.channel channels)
+  | shape.SwapChannels a b transforms ↦ with_number a (with_number b channels)
+  | shape.Set setting ↦ with_number setting.place.channel channels
+  | shape.CommitMixer channel ↦ channels
+  | shape.Reset target ↦ channels
+  | shape.Ask query ↦ channels
+]
 
 -- the channels that can hold a content or a waiting setting after the acts, in rising number
 abbrev pub channels : List Act → List ℕ

@@ -5,8 +5,10 @@ use Rattle.play_types.specs.Answer.{micros_of, status_list_of}
 use Rattle.play_types.specs.History.{ticks}
 use Rattle.play_types.specs.declared.setting.Prop.{Prop}
 use Rattle.play_types.specs.declared.setting.Prop.TheVariants.{Opacity, Fill, Clip, Volume, Keyer}
+use Rattle.play_types.specs.Shape.{shape_of}
 use Rattle.play_types.specs.declared.command.Cmd.{Cmd}
-use Rattle.play_types.specs.declared.command.Cmd.TheVariants.{Load, LoadBg, Play, PlayTake, Pause, Resume, StopLayer, ClearLayer, ClearChannel, SwapLayers, SwapChannels, Set, CommitMixer, ResetLayer, ResetChannel, Value as ValueOf, Info as InfoOf}
+use Rattle.play_types.specs.declared.shape.CommandShape.TheVariants as shape
+use Rattle.play_types.specs.declared.shape.Query.TheVariants as query
 use Rattle.play_types.specs.declared.event.Event.{Event}
 use Rattle.play_types.specs.declared.event.Event.TheVariants.{Do, Batch, Tick, Stop}
 use Rattle.play_types.specs.declared.answer.Status.{Status}
@@ -93,25 +95,18 @@ outcome_of false = Done
 
 -- the answer to a command after a history, by whether it is refused
 abbrev pub command_answer : Setup → List Event → Bool → Cmd → Answer
-command_answer setup history refused (Load place take) = outcome_of refused
-command_answer setup history refused (LoadBg place take) = outcome_of refused
-command_answer setup history refused (Play place) = outcome_of refused
-command_answer setup history refused (PlayTake place take) = outcome_of refused
-command_answer setup history refused (Pause place) = outcome_of refused
-command_answer setup history refused (Resume place) = outcome_of refused
-command_answer setup history refused (StopLayer place) = outcome_of refused
-command_answer setup history refused (ClearLayer place) = outcome_of refused
-command_answer setup history refused (ClearChannel channel) = outcome_of refused
-command_answer setup history refused (SwapLayers a b transforms) = outcome_of refused
-command_answer setup history refused (SwapChannels a b transforms) = outcome_of refused
-command_answer setup history refused (Set setting) = outcome_of refused
-command_answer setup history refused (CommitMixer channel) = outcome_of refused
-command_answer setup history refused (ResetLayer place) = outcome_of refused
-command_answer setup history refused (ResetChannel channel) = outcome_of refused
-command_answer setup history refused (ValueOf place prop) =
-    Value (micros_of (value history place prop (ticks history)) (number_count prop))
-command_answer setup history refused InfoOf =
-    Info (status_list_of (statuses setup history) (length setup.channels))
+command_answer setup history refused cmd = elim (shape_of cmd) [
+  | shape.Take at take ↦ outcome_of refused
+  | shape.Change at ↦ outcome_of refused
+  | shape.ClearChannel channel ↦ outcome_of refused
+  | shape.SwapLayers a b transforms ↦ outcome_of refused
+  | shape.SwapChannels a b transforms ↦ outcome_of refused
+  | shape.Set setting ↦ outcome_of refused
+  | shape.CommitMixer channel ↦ outcome_of refused
+  | shape.Reset target ↦ outcome_of refused
+  | shape.Ask (query.Value place prop) ↦ Value (micros_of (value history place prop (ticks history)) (number_count prop))
+  | shape.Ask query.Status ↦ Info (status_list_of (statuses setup history) (length setup.channels))
+]
 
 -- the answer to an event after a history
 unfoldable pub answer : Setup → List Event → Event → StageAnswer

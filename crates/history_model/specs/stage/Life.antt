@@ -1,6 +1,6 @@
 -- What stands at a place: its foreground and its background.
 use Rattle.std.specs.Prelude.{ℕ, zero, suc, ◌+◌, ◌-◌, Bool, true, false, not, ◌&&◌, List, [], ◌∷◌, nat_lt, Option, Some, None, option_map, if◌then◌else◌}
-use Rattle.play_types.specs.Take.{TakeView, loaded}
+use Rattle.play_types.specs.Take.{TakeView, loaded, played}
 use Rattle.play_types.specs.declared.transition.Kind.{Kind}
 use Rattle.play_types.specs.declared.transition.Kind.TheVariants.{Cut, Mix, Push, Slide, Wipe}
 use Rattle.play_types.specs.declared.take.Spec.{Spec}
@@ -128,7 +128,7 @@ abbrev pub effect : Cmd → Life → Life
 effect (Load at take) s = record { foreground = Some (first_picture take); background = None }
 effect (LoadBg at take) s = record s { background = Some take }
 effect (Play at) s = after_play s.background s
-effect (PlayTake at take) s = s
+effect (PlayTake at take) s = start (record s { background = Some (played take) })
 effect (Pause at) s = with_pause true s
 effect (Resume at) s = with_pause false s
 effect (StopLayer at) s = record s { foreground = None }

@@ -1,8 +1,9 @@
 -- Which places are live, and which are drawn. In lists of acts the last act stands first.
 use Rattle.std.specs.Prelude.{ℕ, ◌==◌, Bool, ◌||◌, List, [], ◌∷◌, nat_lt, is_some, filter, if◌then◌else◌, Option}
 use Rattle.play_types.specs.Place.{PlaceView}
+use Rattle.play_types.specs.Shape.{shape_of}
 use Rattle.play_types.specs.declared.command.Cmd.{Cmd}
-use Rattle.play_types.specs.declared.command.Cmd.TheVariants.{Load, LoadBg, Play, PlayTake, Pause, Resume, StopLayer, ClearLayer, ClearChannel, SwapLayers, SwapChannels, Set, CommitMixer, ResetLayer, ResetChannel, Value, Info}
+use Rattle.play_types.specs.declared.shape.CommandShape.TheVariants as shape
 use Rattle.history_model.specs.stage.Act.{Act}
 use Rattle.history_model.specs.stage.Trail.{trail}
 use Rattle.history_model.specs.stage.Life.{Life, Foreground, life, ready}
@@ -16,23 +17,17 @@ with_number n (m ∷ more) =
 
 -- the layers with those to which a command can bring a content: a swap of channels keeps each content on its layer
 abbrev pub with_layers_of : Cmd → List ℕ → List ℕ
-with_layers_of (Load place take) layers = with_number place.layer layers
-with_layers_of (LoadBg place take) layers = with_number place.layer layers
-with_layers_of (Play place) layers = layers
-with_layers_of (PlayTake place take) layers = layers
-with_layers_of (Pause place) layers = layers
-with_layers_of (Resume place) layers = layers
-with_layers_of (StopLayer place) layers = layers
-with_layers_of (ClearLayer place) layers = layers
-with_layers_of (ClearChannel channel) layers = layers
-with_layers_of (SwapLayers a b transforms) layers = with_number a.layer (with_number b.layer layers)
-with_layers_of (SwapChannels a b transforms) layers = layers
-with_layers_of (Set setting) layers = layers
-with_layers_of (CommitMixer channel) layers = layers
-with_layers_of (ResetLayer place) layers = layers
-with_layers_of (ResetChannel channel) layers = layers
-with_layers_of (Value place prop) layers = layers
-with_layers_of Info layers = layers
+with_layers_of cmd layers = elim (shape_of cmd) [
+  | shape.Take at take ↦ with_number at.layer layers
+  | shape.Change at ↦ layers
+  | shape.ClearChannel channel ↦ layers
+  | shape.SwapLayers a b transforms ↦ with_number a.layer (with_number b.layer layers)
+  | shape.SwapChannels a b transforms ↦ layers
+  | shape.Set setting ↦ layers
+  | shape.CommitMixer channel ↦ layers
+  | shape.Reset target ↦ layers
+  | shape.Ask query ↦ layers
+]
 
 -- the layers that acts loaded or swapped, on any channel, in rising number: no other layer can hold a content
 abbrev pub layers : List Act → List ℕ

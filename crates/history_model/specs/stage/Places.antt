@@ -1,11 +1,9 @@
 -- The live places of a channel as one list, and what a command on a place and a tick make of it.
 use Rattle.std.specs.Prelude.{◌≡◌, ℕ, ◌<◌, ◌≤◌, ◌==◌, Bool, true, List, [], ◌∷◌, map, nat_lt, length, if◌then◌else◌}
 use Rattle.play_types.specs.Place.{PlaceView}
-use Rattle.play_types.specs.Take.{played}
 use Rattle.play_types.specs.History.{ticks}
 use Rattle.play_types.specs.declared.place.TheConstants.{MAX_LIVE_LAYERS}
 use Rattle.play_types.specs.declared.command.Cmd.{Cmd}
-use Rattle.play_types.specs.declared.command.Cmd.TheVariants.{Load, LoadBg, Play, PlayTake, Pause, Resume, StopLayer, ClearLayer, ClearChannel, SwapLayers, SwapChannels, Set, CommitMixer, ResetLayer, ResetChannel, Value, Info}
 use Rattle.play_types.specs.declared.event.Event.{Event}
 use Rattle.history_model.specs.stage.Act.{Act}
 use Rattle.history_model.specs.stage.Acts.{acts}
@@ -55,30 +53,10 @@ with_place (place ∷ more) layer life =
     if place.0 == layer then in_front layer life more
     else (if nat_lt layer place.0 then in_front layer life (place ∷ more) else place ∷ rest)
 
--- what stands at the place of a command after it
-abbrev pub taken : Cmd → Life → Life
-taken (Load at take) s = effect (Load at take) s
-taken (LoadBg at take) s = effect (LoadBg at take) s
-taken (Play at) s = effect (Play at) s
-taken (PlayTake at take) s = effect (Play at) (effect (LoadBg at (played take)) s)
-taken (Pause at) s = effect (Pause at) s
-taken (Resume at) s = effect (Resume at) s
-taken (StopLayer at) s = effect (StopLayer at) s
-taken (ClearLayer at) s = effect (ClearLayer at) s
-taken (ClearChannel channel) s = effect (ClearChannel channel) s
-taken (SwapLayers a b transforms) s = s
-taken (SwapChannels a b transforms) s = s
-taken (Set setting) s = s
-taken (CommitMixer channel) s = s
-taken (ResetLayer at) s = s
-taken (ResetChannel channel) s = s
-taken (Value at prop) s = s
-taken Info s = s
-
 -- the places of a channel after a command on a place, by those before it
 abbrev pub changed_at : PlaceView → Cmd → ℕ → Places → Places
 changed_at at cmd channel before =
-    if at.channel == channel then with_place before at.layer (taken cmd (standing before at.layer)) else before
+    if at.channel == channel then with_place before at.layer (effect cmd (standing before at.layer)) else before
 
 -- a layer with what stands there one tick later
 abbrev pub one_tick_later : ℕ × Life → ℕ × Life

@@ -4,8 +4,9 @@ use Rattle.std.specs.Prelude.{ℕ, ◌+◌, ◌≤◌, ◌==◌, Bool, false, �
 use Rattle.play_types.specs.Place.{PlaceView}
 use Rattle.play_types.specs.declared.place.TheConstants.{MAX_LIVE_LAYERS}
 use Rattle.play_types.specs.declared.setting.TheConstants.{MAX_WAITING_SETTINGS}
+use Rattle.play_types.specs.Shape.{shape_of}
 use Rattle.play_types.specs.declared.command.Cmd.{Cmd}
-use Rattle.play_types.specs.declared.command.Cmd.TheVariants.{Load, LoadBg, Play, PlayTake, Pause, Resume, StopLayer, ClearLayer, ClearChannel, SwapLayers, SwapChannels, Set, CommitMixer, ResetLayer, ResetChannel, Value, Info}
+use Rattle.play_types.specs.declared.shape.CommandShape.TheVariants as shape
 use Rattle.history_model.specs.stage.Act.{Act, acts_of}
 use Rattle.history_model.specs.stage.Life.{Life}
 use Rattle.history_model.specs.stage.Places.{Places, changed_at, is_over_limit, live_places, one_tick_later, standing, with_place}
@@ -46,44 +47,31 @@ exchanged_channel a b channel = if channel == a then b else (if channel == b the
 
 -- the live places of a channel after a command, by those of each channel before it
 abbrev pub live_after : Cmd → (ℕ → Places) → ℕ → Places
-live_after (Load at take) before channel = changed_at at (Load at take) channel (before channel)
-live_after (LoadBg at take) before channel = changed_at at (LoadBg at take) channel (before channel)
-live_after (Play at) before channel = changed_at at (Play at) channel (before channel)
-live_after (PlayTake at take) before channel = changed_at at (PlayTake at take) channel (before channel)
-live_after (Pause at) before channel = changed_at at (Pause at) channel (before channel)
-live_after (Resume at) before channel = changed_at at (Resume at) channel (before channel)
-live_after (StopLayer at) before channel = changed_at at (StopLayer at) channel (before channel)
-live_after (ClearLayer at) before channel = changed_at at (ClearLayer at) channel (before channel)
-live_after (ClearChannel cleared) before channel = if cleared == channel then [] else before channel
-live_after (SwapLayers a b transforms) before channel = exchanged a b before channel
-live_after (SwapChannels a b transforms) before channel = before (exchanged_channel a b channel)
-live_after (Set setting) before channel = before channel
-live_after (CommitMixer committed) before channel = before channel
-live_after (ResetLayer at) before channel = before channel
-live_after (ResetChannel reset) before channel = before channel
-live_after (Value at prop) before channel = before channel
-live_after Info before channel = before channel
+live_after cmd before channel = elim (shape_of cmd) [
+  | shape.Take at take ↦ changed_at at cmd channel (before channel)
+  | shape.Change at ↦ changed_at at cmd channel (before channel)
+  | shape.ClearChannel cleared ↦ if cleared == channel then [] else before channel
+  | shape.SwapLayers a b transforms ↦ exchanged a b before channel
+  | shape.SwapChannels a b transforms ↦ before (exchanged_channel a b channel)
+  | shape.Set setting ↦ before channel
+  | shape.CommitMixer committed ↦ before channel
+  | shape.Reset target ↦ before channel
+  | shape.Ask query ↦ before channel
+]
 
 -- how many settings wait on a channel after a command, by how many waited before it
 abbrev pub waiting_count_after : Cmd → ℕ → ℕ → ℕ
-waiting_count_after (Load at take) channel before = before
-waiting_count_after (LoadBg at take) channel before = before
-waiting_count_after (Play at) channel before = before
-waiting_count_after (PlayTake at take) channel before = before
-waiting_count_after (Pause at) channel before = before
-waiting_count_after (Resume at) channel before = before
-waiting_count_after (StopLayer at) channel before = before
-waiting_count_after (ClearLayer at) channel before = before
-waiting_count_after (ClearChannel cleared) channel before = before
-waiting_count_after (SwapLayers a b transforms) channel before = before
-waiting_count_after (SwapChannels a b transforms) channel before = before
-waiting_count_after (Set setting) channel before =
-    if setting.deferred && (setting.place.channel == channel) then 1 + before else before
-waiting_count_after (CommitMixer committed) channel before = if committed == channel then 0 else before
-waiting_count_after (ResetLayer at) channel before = before
-waiting_count_after (ResetChannel reset) channel before = before
-waiting_count_after (Value at prop) channel before = before
-waiting_count_after Info channel before = before
+waiting_count_after cmd channel before = elim (shape_of cmd) [
+  | shape.Take at take ↦ before
+  | shape.Change at ↦ before
+  | shape.ClearChannel cleared ↦ before
+  | shape.SwapLayers a b transforms ↦ before
+  | shape.SwapChannels a b transforms ↦ before
+  | shape.Set setting ↦ if setting.deferred && (setting.place.channel == channel) then 1 + before else before
+  | shape.CommitMixer committed ↦ if committed == channel then 0 else before
+  | shape.Reset target ↦ before
+  | shape.Ask query ↦ before
+]
 
 -- the stage after a command
 abbrev pub state_after : Cmd → StageState → StageState
@@ -99,25 +87,17 @@ is_over_after cmd state channel = is_over_limit (live_after cmd state.places cha
 -- whether a command is refused: a channel that it names would have too many live places, or has as many waiting settings
 -- as it may have
 abbrev pub is_refused_by : Cmd → StageState → Bool
-is_refused_by (Load at take) state = is_over_after (Load at take) state at.channel
-is_refused_by (LoadBg at take) state = is_over_after (LoadBg at take) state at.channel
-is_refused_by (Play at) state = false
-is_refused_by (PlayTake at take) state = is_over_after (PlayTake at take) state at.channel
-is_refused_by (Pause at) state = false
-is_refused_by (Resume at) state = false
-is_refused_by (StopLayer at) state = false
-is_refused_by (ClearLayer at) state = false
-is_refused_by (ClearChannel cleared) state = false
-is_refused_by (SwapLayers a b transforms) state =
-    is_over_after (SwapLayers a b transforms) state a.channel || is_over_after (SwapLayers a b transforms) state b.channel
-is_refused_by (SwapChannels a b transforms) state = false
-is_refused_by (Set setting) state =
-    setting.deferred && nat_le MAX_WAITING_SETTINGS (state.waiting setting.place.channel)
-is_refused_by (CommitMixer committed) state = false
-is_refused_by (ResetLayer at) state = false
-is_refused_by (ResetChannel reset) state = false
-is_refused_by (Value at prop) state = false
-is_refused_by Info state = false
+is_refused_by cmd state = elim (shape_of cmd) [
+  | shape.Take at take ↦ is_over_after cmd state at.channel
+  | shape.Change at ↦ false
+  | shape.ClearChannel channel ↦ false
+  | shape.SwapLayers a b transforms ↦ is_over_after cmd state a.channel || is_over_after cmd state b.channel
+  | shape.SwapChannels a b transforms ↦ false
+  | shape.Set setting ↦ setting.deferred && nat_le MAX_WAITING_SETTINGS (state.waiting setting.place.channel)
+  | shape.CommitMixer channel ↦ false
+  | shape.Reset target ↦ false
+  | shape.Ask query ↦ false
+]
 
 -- the stage after all commands
 abbrev pub state_after_all : List Cmd → StageState → StageState
@@ -145,20 +125,14 @@ pub record IsWithinLimits (state : StageState) : Type 0 where
 
 -- whether a command acts on the contents or on the waiting settings of a channel
 abbrev pub names_channel : Cmd → ℕ → Bool
-names_channel (Load at take) channel = at.channel == channel
-names_channel (LoadBg at take) channel = at.channel == channel
-names_channel (Play at) channel = at.channel == channel
-names_channel (PlayTake at take) channel = at.channel == channel
-names_channel (Pause at) channel = at.channel == channel
-names_channel (Resume at) channel = at.channel == channel
-names_channel (StopLayer at) channel = at.channel == channel
-names_channel (ClearLayer at) channel = at.channel == channel
-names_channel (ClearChannel cleared) channel = cleared == channel
-names_channel (SwapLayers a b transforms) channel = a.channel == channel || b.channel == channel
-names_channel (SwapChannels a b transforms) channel = a == channel || b == channel
-names_channel (Set setting) channel = setting.place.channel == channel
-names_channel (CommitMixer committed) channel = committed == channel
-names_channel (ResetLayer at) channel = false
-names_channel (ResetChannel reset) channel = false
-names_channel (Value at prop) channel = false
-names_channel Info channel = false
+names_channel cmd channel = elim (shape_of cmd) [
+  | shape.Take at take ↦ at.channel == channel
+  | shape.Change at ↦ at.channel == channel
+  | shape.ClearChannel cleared ↦ cleared == channel
+  | shape.SwapLayers a b transforms ↦ a.channel == channel || b.channel == channel
+  | shape.SwapChannels a b transforms ↦ a == channel || b == channel
+  | shape.Set setting ↦ setting.place.channel == channel
+  | shape.CommitMixer committed ↦ committed == channel
+  | shape.Reset target ↦ false
+  | shape.Ask query ↦ false
+]

@@ -6,8 +6,9 @@ use Rattle.play_types.specs.Setting.{is_same_prop}
 use Rattle.play_types.specs.declared.setting.TheConstants.{MICROS_PER_UNIT}
 use Rattle.play_types.specs.declared.setting.Prop.{Prop}
 use Rattle.play_types.specs.declared.setting.Prop.TheVariants.{Opacity, Fill, Clip, Volume, Keyer}
+use Rattle.play_types.specs.Shape.{shape_of}
 use Rattle.play_types.specs.declared.command.Cmd.{Cmd}
-use Rattle.play_types.specs.declared.command.Cmd.TheVariants.{Load, LoadBg, Play, PlayTake, Pause, Resume, StopLayer, ClearLayer, ClearChannel, SwapLayers, SwapChannels, Set, CommitMixer, ResetLayer, ResetChannel, Value, Info}
+use Rattle.play_types.specs.declared.shape.CommandShape.TheVariants as shape
 use Rattle.play_types.specs.declared.event.Event.{Event}
 use Rattle.history_model.specs.stage.Act.{Act}
 use Rattle.history_model.specs.stage.Trail.{tuning}
@@ -33,24 +34,17 @@ pub record Aim : Type 0 where
 
 -- what a command sets a property to: a reset sets the default at once
 abbrev pub aim_of : Cmd → Prop → Option Aim
-aim_of (Load place take) prop = None
-aim_of (LoadBg place take) prop = None
-aim_of (Play place) prop = None
-aim_of (PlayTake place take) prop = None
-aim_of (Pause place) prop = None
-aim_of (Resume place) prop = None
-aim_of (StopLayer place) prop = None
-aim_of (ClearLayer place) prop = None
-aim_of (ClearChannel channel) prop = None
-aim_of (SwapLayers a b transforms) prop = None
-aim_of (SwapChannels a b transforms) prop = None
-aim_of (Set setting) prop =
-    if is_same_prop setting.prop prop then Some (record { values = setting.values; duration = setting.duration }) else None
-aim_of (CommitMixer channel) prop = None
-aim_of (ResetLayer place) prop = Some (record { values = default_of prop; duration = 0 })
-aim_of (ResetChannel channel) prop = Some (record { values = default_of prop; duration = 0 })
-aim_of (Value place asked) prop = None
-aim_of Info prop = None
+aim_of cmd prop = elim (shape_of cmd) [
+  | shape.Take at take ↦ None
+  | shape.Change at ↦ None
+  | shape.ClearChannel channel ↦ None
+  | shape.SwapLayers a b transforms ↦ None
+  | shape.SwapChannels a b transforms ↦ None
+  | shape.Set setting ↦ if is_same_prop setting.prop prop then Some (record { values = setting.values; duration = setting.duration }) else None
+  | shape.CommitMixer channel ↦ None
+  | shape.Reset target ↦ Some (record { values = default_of prop; duration = 0 })
+  | shape.Ask query ↦ None
+]
 
 -- each number on its way, `ticks` ticks after the start
 abbrev pub all_along : List ℤ → List ℤ → ℕ → ℕ → List ℤ

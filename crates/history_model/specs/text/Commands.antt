@@ -20,8 +20,12 @@ use Rattle.play_types.specs.declared.transition.Curve.{Curve}
 use Rattle.play_types.specs.declared.transition.Curve.TheVariants.{Linear}
 use Rattle.play_types.specs.declared.setting.Prop.{Prop}
 use Rattle.play_types.specs.declared.setting.Prop.TheVariants as prop
+use Rattle.play_types.specs.Shape.{shape_of}
 use Rattle.play_types.specs.declared.command.Cmd.{Cmd}
-use Rattle.play_types.specs.declared.command.Cmd.TheVariants as cmd
+use Rattle.play_types.specs.declared.shape.CommandShape.TheVariants as shape
+use Rattle.play_types.specs.declared.shape.Target.{Target}
+use Rattle.play_types.specs.declared.shape.Target.TheVariants as target
+use Rattle.play_types.specs.declared.shape.Query.TheVariants as query
 use Rattle.history_model.specs.stage.Answer.{number_count}
 
 -- a word of a printed command: a word that stands as it is, or the name of a clip
@@ -49,6 +53,11 @@ place_text place = decimal place.channel ++ 45 ∷ decimal place.layer
 
 abbrev pub place_word : PlaceView → Word
 place_word place = Plain (place_text place)
+
+-- a place, or a channel
+abbrev pub target_word : Target → Word
+target_word (target.Layer place) = place_word place
+target_word (target.Channel channel) = number_word channel
 
 -- this word, where it is set
 abbrev pub flag_words : Bool → List ℕ → List Word
@@ -126,25 +135,18 @@ setting_words setting =
 
 -- the words after the name of a command
 abbrev pub arguments : List MediaNameView → Cmd → List Word
-arguments media (cmd.Load place take) = place_word place ∷ take_words media take
-arguments media (cmd.LoadBg place take) = place_word place ∷ take_words media take
-arguments media (cmd.Play place) = place_word place ∷ []
-arguments media (cmd.PlayTake place take) = place_word place ∷ take_words media take
-arguments media (cmd.Pause place) = place_word place ∷ []
-arguments media (cmd.Resume place) = place_word place ∷ []
-arguments media (cmd.StopLayer place) = place_word place ∷ []
-arguments media (cmd.ClearLayer place) = place_word place ∷ []
-arguments media (cmd.ClearChannel channel) = number_word channel ∷ []
-arguments media (cmd.SwapLayers one other transforms) =
-    place_word one ∷ place_word other ∷ flag_words transforms (codes "TRANSFORMS")
-arguments media (cmd.SwapChannels one other transforms) =
-    number_word one ∷ number_word other ∷ flag_words transforms (codes "TRANSFORMS")
-arguments media (cmd.Set setting) = place_word setting.place ∷ setting_words setting
-arguments media (cmd.CommitMixer channel) = number_word channel ∷ Plain (codes "COMMIT") ∷ []
-arguments media (cmd.ResetLayer place) = place_word place ∷ Plain (codes "CLEAR") ∷ []
-arguments media (cmd.ResetChannel channel) = number_word channel ∷ Plain (codes "CLEAR") ∷ []
-arguments media (cmd.Value place prop) = place_word place ∷ Plain (prop_text prop) ∷ []
-arguments media cmd.Info = []
+arguments media cmd = elim (shape_of cmd) [
+  | shape.Take place take ↦ place_word place ∷ take_words media take
+  | shape.Change place ↦ place_word place ∷ []
+  | shape.ClearChannel channel ↦ number_word channel ∷ []
+  | shape.SwapLayers one other transforms ↦ place_word one ∷ place_word other ∷ flag_words transforms (codes "TRANSFORMS")
+  | shape.SwapChannels one other transforms ↦ number_word one ∷ number_word other ∷ flag_words transforms (codes "TRANSFORMS")
+  | shape.Set setting ↦ place_word setting.place ∷ setting_words setting
+  | shape.CommitMixer channel ↦ number_word channel ∷ Plain (codes "COMMIT") ∷ []
+  | shape.Reset target ↦ target_word target ∷ Plain (codes "CLEAR") ∷ []
+  | shape.Ask (query.Value place prop) ↦ place_word place ∷ Plain (prop_text prop) ∷ []
+  | shape.Ask query.Status ↦ []
+]
 
 -- the words of a command, its name first
 abbrev pub command_words : List MediaNameView → Cmd → List Word

@@ -16,6 +16,7 @@ use Rattle.history_model.specs.stage.Act.{Act, act_after, acts_of}
 use Rattle.history_model.specs.stage.Acts.{acts, acts_back, channels, is_over, is_refused, with_command, with_commands}
 use Rattle.history_model.specs.stage.Live.{live_layers}
 use Rattle.history_model.specs.stage.Resolved.{waiting_settings}
+use Rattle.history_model.proofs.Listed.{waiting_settings-act}
 use Rattle.history_model.proofs.Events.{ticks-reverse}
 use Rattle.history_model.proofs.Liveness.{live_layers-ticks}
 
@@ -82,7 +83,9 @@ commit_within : (past : List Act) (t committed : ℕ) → some_over past t ≡ f
 commit_within past t committed within =
     none_of_fewer (is_over past t) (is_over (act_after t (CommitMixer committed) ∷ past) t)
     (λ channel each.
-    fewer_wait (nat_lt MAX_LIVE_LAYERS (length (live_layers past t channel))) (committed == channel) (waiting_settings past channel) each)
+    ap (λ (waiting : List SettingView). nat_lt MAX_LIVE_LAYERS (length (live_layers past t channel)) || nat_lt MAX_WAITING_SETTINGS (length waiting))
+    (waiting_settings-act (act_after t (CommitMixer committed)) past channel)
+    ∙ fewer_wait (nat_lt MAX_LIVE_LAYERS (length (live_layers past t channel))) (committed == channel) (waiting_settings past channel) each)
     (channels past) within
 
 entered_by : Bool → List Act → Option (List Act)

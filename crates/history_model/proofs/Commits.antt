@@ -9,11 +9,13 @@ use Rattle.play_types.specs.declared.command.Cmd.TheVariants.{Set, CommitMixer}
 use Rattle.history_model.specs.stage.Act.{Act, act_after}
 use Rattle.history_model.specs.stage.Group.{and_not_committed, at_once, is_deferred_of, with_group, without_waiting}
 use Rattle.history_model.specs.stage.Live.{layers}
-use Rattle.history_model.specs.stage.Resolved.{resolved_acts, settled_act, waiting_settings}
+use Rattle.history_model.specs.stage.Resolved.{settled_act, waiting_settings}
+use Rattle.history_model.specs.inner.WaitingList.{listed_acts, waiting_list}
 use Rattle.history_model.specs.stage.Timeline.{Entry, Did, Ticked, timeline_acts, timeline_ticks, timeline_value}
 use Rattle.history_model.specs.stage.Trail.{trail}
 use Rattle.history_model.specs.pictures.Media.{Setup}
 use Rattle.history_model.specs.pictures.TimelineFrame.{timeline_foregrounds, timeline_frames, timeline_pixel, timeline_sample, timeline_sounds, timeline_statuses}
+use Rattle.history_model.proofs.Listed.{waiting_settings-listed}
 use Rattle.history_model.proofs.Groups.{IsWithout, IsCut, IsCut-did, IsCut-ticked, pixel-same, sample-same, value-same, statuses-same, without-cut}
 
 -- settings that take place at once leave the ticks, and what was shown and sounded
@@ -40,18 +42,18 @@ kept_by_settings t look each (setting ∷ settings) rest =
     each setting (map (settled_act t) settings ++ rest) ∙ kept_by_settings t look each settings rest
 
 resolved_settings : (t : ℕ) (settings : List SettingView) (rest : List Act) →
-    resolved_acts (map (settled_act t) settings ++ rest) ≡ map (settled_act t) settings ++ resolved_acts rest
+    listed_acts (map (settled_act t) settings ++ rest) ≡ map (settled_act t) settings ++ listed_acts rest
 resolved_settings t [] rest = refl
 resolved_settings t (setting ∷ settings) rest = ap (λ past. settled_act t setting ∷ past) (resolved_settings t settings rest)
 
 -- what waits after the commit is what waits without the group
 waiting_then : (committed channel : ℕ) (own : Bool) (a b : List Act) → (committed == channel) ≡ own →
-    IsWithout (λ other. committed == other) a b → waiting_settings a channel ≡ (if own then [] else waiting_settings b channel)
+    IsWithout (λ other. committed == other) a b → waiting_list a channel ≡ (if own then [] else waiting_list b channel)
 waiting_then committed channel true a b is h = h.none channel is
 waiting_then committed channel false a b is h = h.others channel is
 
 -- the acts with the group in place of the commit
-IsWithout-group : (committed t u : ℕ) (settings : List SettingView) (a b : List Act) → t ≡ u → settings ≡ waiting_settings b committed →
+IsWithout-group : (committed t u : ℕ) (settings : List SettingView) (a b : List Act) → t ≡ u → settings ≡ waiting_list b committed →
     IsWithout (λ other. committed == other) a b →
     IsWithout (λ other. false) (map (settled_act t) settings ++ a) (act_after u (CommitMixer committed) ∷ b)
 IsWithout-group committed t u settings a b now group h = record {
@@ -62,7 +64,7 @@ IsWithout-group committed t u settings a b now group h = record {
       ∙ ap₂ {A = List Act} {B = List Act} {C = List Act} (λ first rest. first ++ rest)
       (ap₂ (λ n waiting. map (settled_act n) waiting) now group) h.resolved;
   others = λ channel off.
-      kept_by_settings t (λ past. waiting_settings past channel) (λ setting rest. refl) settings a
+      kept_by_settings t (λ past. waiting_list past channel) (λ setting rest. refl) settings a
       ∙ waiting_then committed channel (committed == channel) a b refl h;
   none = λ channel on. absurd (false≢true on);
 }
@@ -79,7 +81,8 @@ group-cut setup committed before =
       acts =
           subst (λ past. IsWithout (λ other. false) past (timeline_acts (Did (CommitMixer committed) ∷ before)))
           (sym (group_acts group kept))
-          (IsWithout-group committed (timeline_ticks kept) (timeline_ticks before) group (timeline_acts kept) (timeline_acts before) h.ticks refl h.acts);
+          (IsWithout-group committed (timeline_ticks kept) (timeline_ticks before) group (timeline_acts kept) (timeline_acts before) h.ticks
+          (waiting_settings-listed (timeline_acts before) committed) h.acts);
       ticks = group_ticks group kept ∙ h.ticks;
       foregrounds = kept_by_group timeline_foregrounds (λ setting rest. refl) group kept ∙ h.foregrounds;
       frames = kept_by_group (timeline_frames setup) (λ setting rest. refl) group kept ∙ h.frames;

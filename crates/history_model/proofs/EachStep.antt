@@ -32,7 +32,7 @@ All-filter_map {X = X} {Y = Y} P Q f (x ∷ xs) gives all =
     more (Some y) has rest = All-cons Q y (filter_map f xs) has rest
 
 -- what holds of each element holds of the one at a position
-one_of_all : {X : Type 0} (P : X → Type 0) (xs : List X) (k : ℕ) → All P xs → IfSome (slice_get xs k) P
+pub one_of_all : {X : Type 0} (P : X → Type 0) (xs : List X) (k : ℕ) → All P xs → IfSome (slice_get xs k) P
 one_of_all P [] k all = tt
 one_of_all P (x ∷ xs) zero all = All-head P x xs all
 one_of_all P (x ∷ xs) (suc k) all = one_of_all P xs k (All-tail P x xs all)

@@ -16,7 +16,8 @@ use Rattle.history_model.specs.stage.Answer.{channel_numbers, status_of}
 use Rattle.history_model.specs.stage.Group.{and_not_committed, is_deferred_of, without_waiting}
 use Rattle.history_model.specs.stage.Life.{Foreground, life, ready}
 use Rattle.history_model.specs.stage.Live.{foreground_at, layers, with_layers_of}
-use Rattle.history_model.specs.stage.Resolved.{resolved_act, resolved_acts, settled_act, waiting_after, waiting_settings}
+use Rattle.history_model.specs.stage.Resolved.{resolved_acts, settled_act, waiting_settings}
+use Rattle.history_model.specs.inner.WaitingList.{listed_acts, resolved_act, waiting_after, waiting_list}
 use Rattle.history_model.specs.stage.Timeline.{Entry, Did, Ticked, timeline_acts, timeline_ticks, timeline_value}
 use Rattle.history_model.specs.stage.Trail.{acts_on_content, content_origin, trail, tuning}
 use Rattle.history_model.specs.stage.Value.{tuned_value}
@@ -26,14 +27,15 @@ use Rattle.history_model.specs.pictures.Source.{source}
 use Rattle.history_model.specs.pictures.Frame.{scene_pixel}
 use Rattle.history_model.specs.pictures.Sound.{scene_sample}
 use Rattle.history_model.specs.pictures.TimelineFrame.{timeline_foregrounds, timeline_frames, timeline_pixel, timeline_sample, timeline_sounds, timeline_statuses}
+use Rattle.history_model.proofs.Listed.{resolved_acts-listed, waiting_settings-listed}
 
 -- the acts a have what the acts b have, without the settings that wait on the channels that pass the test
 pub record IsWithout (which : ℕ → Bool) (a b : List Act) : Type 0 where
   pub layers : layers a ≡ layers b
   pub trails : (place : PlaceView) → trail a place ≡ trail b place
-  pub resolved : resolved_acts a ≡ resolved_acts b
-  pub others : (channel : ℕ) → which channel ≡ false → waiting_settings a channel ≡ waiting_settings b channel
-  pub none : (channel : ℕ) → which channel ≡ true → waiting_settings a channel ≡ []
+  pub resolved : listed_acts a ≡ listed_acts b
+  pub others : (channel : ℕ) → which channel ≡ false → waiting_list a channel ≡ waiting_list b channel
+  pub none : (channel : ℕ) → which channel ≡ true → waiting_list a channel ≡ []
 
 -- a commit leaves none of its channel, and a channel that fails the test before it fails it after it
 committed_fails : (b : Bool) (channel : ℕ) → (b && not (channel == channel)) ≡ false
@@ -46,7 +48,7 @@ fails_still which cmd channel e = e
 
 -- what stands for a command depends on the waiting settings of the channel that it commits alone
 resolved_act-same : (which : ℕ → Bool) (cmd : Cmd) (t : ℕ) (a b : List Act) →
-    ((channel : ℕ) → and_not_committed which cmd channel ≡ false → waiting_settings a channel ≡ waiting_settings b channel) →
+    ((channel : ℕ) → and_not_committed which cmd channel ≡ false → waiting_list a channel ≡ waiting_list b channel) →
     resolved_act cmd t a ≡ resolved_act cmd t b
 resolved_act-same which (CommitMixer committed) t a b others =
     ap (map (settled_act t)) (others committed (committed_fails (which committed) committed))
@@ -67,13 +69,13 @@ none_after_commit passes true waiting on none = refl
 none_after_commit passes false waiting on none = none (ap (λ b. b && true) on)
 
 none_after : (which : ℕ → Bool) (cmd : Cmd) (channel : ℕ) (before : List Act) → is_deferred_of which cmd ≡ false → which channel ≡ true →
-    (and_not_committed which cmd channel ≡ true → waiting_settings before channel ≡ []) →
-    waiting_after cmd channel (waiting_settings before channel) ≡ []
+    (and_not_committed which cmd channel ≡ true → waiting_list before channel ≡ []) →
+    waiting_after cmd channel (waiting_list before channel) ≡ []
 none_after which (Set setting) channel before kept on none =
     ap (waiting_after (Set setting) channel) (none on)
     ∙ none_after_setting which setting channel setting.deferred (setting.place.channel == channel) refl kept on
 none_after which (CommitMixer committed) channel before kept on none =
-    none_after_commit (which channel) (committed == channel) (waiting_settings before channel) on none
+    none_after_commit (which channel) (committed == channel) (waiting_list before channel) on none
 none_after which cmd channel before kept on none = none on
 
 -- a deferred setting of a channel that passes the test is none of another channel
@@ -116,11 +118,11 @@ IsWithout-left which u setting a b out h = record {
   trails = h.trails;
   resolved =
       h.resolved
-      ∙ ap (λ (deferred : Bool). (if deferred then [] else settled_act u setting ∷ []) ++ resolved_acts b)
+      ∙ ap (λ (deferred : Bool). (if deferred then [] else settled_act u setting ∷ []) ++ listed_acts b)
       (sym (and_parts setting.deferred (which setting.place.channel) out).0);
   others = λ channel off.
       h.others channel off
-      ∙ sym (not_among which setting channel (waiting_settings b channel) setting.deferred (setting.place.channel == channel) refl out off);
+      ∙ sym (not_among which setting channel (waiting_list b channel) setting.deferred (setting.place.channel == channel) refl out off);
   none = h.none;
 }
 
@@ -153,6 +155,10 @@ IsCut-left setup which (Set setting) a b out h = record {
 }
 IsCut-left setup which cmd a b out h = absurd (false≢true out)
 
+-- and so the same settings take place
+resolved-same : (which : ℕ → Bool) (a b : List Act) → IsWithout which a b → resolved_acts a ≡ resolved_acts b
+resolved-same which a b h = resolved_acts-listed a ∙ h.resolved ∙ sym (resolved_acts-listed b)
+
 -- they show the same layers at the next tick
 foregrounds-same : (which : ℕ → Bool) (a b : List Act) (t u : ℕ) → IsWithout which a b → t ≡ u → foreground_at a t ≡ foreground_at b u
 foregrounds-same which a b t u h now = λ i. λ place. (ready (life (h.trails place i) (now i))).foreground
@@ -176,7 +182,7 @@ unfolding drawn_by
 scene-same which a b t u f g channel h now shown =
     λ i. filter_map
     (λ layer. let place : PlaceView = record { channel = channel; layer = layer } in
-    option_map (drawn_by (h.resolved i) (now i) (shown i) place) (ready (life (h.trails place i) (now i))).foreground) (h.layers i)
+    option_map (drawn_by (resolved-same which a b h i) (now i) (shown i) place) (ready (life (h.trails place i) (now i))).foreground) (h.layers i)
 
 frames-same : (setup : Setup) (which : ℕ → Bool) (a b : List Entry) → IsCut setup which a b →
     timeline_frames setup (Ticked ∷ a) ≡ timeline_frames setup (Ticked ∷ b)
@@ -218,7 +224,7 @@ sample-same setup which a b h channel pair side = λ i. sounds-same setup which 
 pub value-same : (setup : Setup) (which : ℕ → Bool) (a b : List Entry) → IsCut setup which a b → (place : PlaceView) (prop : Prop) (now : ℕ) →
     timeline_value a place prop now ≡ timeline_value b place prop now
 unfolding timeline_value
-value-same setup which a b h place prop now = ap (λ (past : List Act). tuned_value (tuning past place) prop now) h.acts.resolved
+value-same setup which a b h place prop now = ap (λ (past : List Act). tuned_value (tuning past place) prop now) (resolved-same which (timeline_acts a) (timeline_acts b) h.acts)
 
 pub statuses-same : (setup : Setup) (which : ℕ → Bool) (a b : List Entry) → IsCut setup which a b →
     timeline_statuses setup a ≡ timeline_statuses setup b
@@ -272,9 +278,13 @@ pub statuses-without : (setup : Setup) (which : ℕ → Bool) (entries : List En
     timeline_statuses setup (without_waiting which entries) ≡ timeline_statuses setup entries
 statuses-without setup which entries = statuses-same setup which (without_waiting which entries) entries (without-cut setup which entries)
 
+pub ticks-without : (which : ℕ → Bool) (entries : List Entry) → timeline_ticks (without_waiting which entries) ≡ timeline_ticks entries
+ticks-without which entries = (without-cut no_media which entries).ticks
+
 pub waiting-without : (which : ℕ → Bool) (entries : List Entry) (channel : ℕ) → which channel ≡ true →
     waiting_settings (timeline_acts (without_waiting which entries)) channel ≡ []
-waiting-without which entries channel on = (without-cut no_media which entries).acts.none channel on
+waiting-without which entries channel on =
+    waiting_settings-listed (timeline_acts (without_waiting which entries)) channel ∙ (without-cut no_media which entries).acts.none channel on
 
 -- what stands before a moment of it is what stood there without such settings
 cut_at : (out : Bool) (cmd : Cmd) (a later : List Entry) (before : List Entry) → (some : ℕ → Bool) × (a ≡ later ++ without_waiting some before) →

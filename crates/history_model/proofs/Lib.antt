@@ -6,7 +6,10 @@ pub mod Liveness
 pub mod Placing
 pub mod Silent
 pub mod Frames
+pub mod WrittenTicks
 pub mod Parts
+pub mod OneLines
+pub mod WithMemory
 pub mod Outputs
 pub mod Filled
 pub mod Scripts
@@ -17,6 +20,7 @@ pub mod Aiming
 pub mod EachStep
 pub mod AimedSteps
 pub mod Sessions
+pub mod Listed
 pub mod places
 pub mod stage
 pub mod Timelines

@@ -70,11 +70,11 @@ over_now config media given_up lines none ended = record {
   ended = ended;
 }
 
-last_step : (steps : List Step) (step : Step) → slice_get (steps ++ step ∷ []) (length steps) ≡ Some step
+pub last_step : (steps : List Step) (step : Step) → slice_get (steps ++ step ∷ []) (length steps) ≡ Some step
 last_step [] step = refl
 last_step (first ∷ steps) step = last_step steps step
 
-until_end-one : (step : Step) → until_end (step ∷ []) ≡ step ∷ []
+pub until_end-one : (step : Step) → until_end (step ∷ []) ≡ step ∷ []
 until_end-one step = elim (cases_Bool (is_end step)) [
   | inl ends ↦ rw ends refl
   | inr goes ↦ rw goes refl
@@ -95,7 +95,7 @@ next_step config media given_up lines line high goes =
     ∙ last_step before step
 
 -- it is a 500 where the line is given up
-given_up_here : (n : ℕ) → is_given_up (n ∷ []) n ≡ true
+pub given_up_here : (n : ℕ) → is_given_up (n ∷ []) n ≡ true
 given_up_here n = ap (λ (b : Bool). b || false) (eq-eqb n n refl)
 
 pub lost_step : (config : ConfigView) (media : List MediaNameView) (lines : List Line) (line : Line)

@@ -15,17 +15,17 @@ use Rattle.play_types.specs.declared.parsed.Parsed.{Parsed}
 use Rattle.play_types.specs.declared.parsed.Parsed.TheVariants.{Stage, Begin, Commit, Discard, Cls, Version, Bye, Kill}
 use Rattle.history_model.specs.sessions.Line.{LineMeaning, Blank, Wrong, Asks, asked_by}
 use Rattle.history_model.specs.sessions.Session.{Step, Local, Ask, AskBatch, KillServer, EndConnection, Skip, is_begin, is_closing, since_closing, is_open, batched, batch, step_after, step_commit, step_inside, step_of_meaning, step_outside}
-use Rattle.history_model.specs.scripts.Struck.{Refuses}
+use Rattle.history_model.specs.scripts.Struck.{ReportsNoChange}
 use Rattle.history_model.proofs.Sessions.{position_or_len-append}
 
--- the step of a line that is refused by its words or by the rules of a batch, or of a command that the stage is asked for
-abbrev pub IsRefusal : Step → Type 0
-IsRefusal (Local answer) = Refuses answer
-IsRefusal (Ask command) = Unit {0}
-IsRefusal (AskBatch commands) = ⊥
-IsRefusal KillServer = ⊥
-IsRefusal EndConnection = ⊥
-IsRefusal Skip = ⊥
+-- the step of a line that leaves the batch: a reply that says so, a command that the stage is asked for, or none
+abbrev pub LeavesBatch : Step → Type 0
+LeavesBatch (Local answer) = ReportsNoChange answer
+LeavesBatch (Ask command) = Unit {0}
+LeavesBatch (AskBatch commands) = ⊥
+LeavesBatch KillServer = ⊥
+LeavesBatch EndConnection = ⊥
+LeavesBatch Skip = Unit {0}
 
 -- what stands after the last element that passes, in a list with one more element at its end
 after_last-passes : {X : Type 0} (p : X → Bool) (xs : List X) (x : X) → p x ≡ true → after_last p (xs ++ x ∷ []) ≡ []
@@ -186,7 +186,7 @@ step-same a b Blank h = refl
 step-same a b (Wrong answer) h = refl
 step-same a b (Asks ask) h = step_by (is_open a) a b ask refl h
 
--- an ask that is refused, or asks the stage where no batch is open, leaves the batch
+-- an ask with such a step leaves the batch
 closed_still : (a : List Parsed) (ask : Parsed) → is_open a ≡ false → is_open (a ++ ask ∷ []) ≡ false → IsSameBatch (a ++ ask ∷ []) a
 closed_still a ask was now = record {
   opened = now ∙ sym was;
@@ -197,13 +197,13 @@ no_begin : (a : List Parsed) (ask : Parsed) → is_open a ≡ false → is_closi
 no_begin a ask was other none =
     closed_still a ask was (is_open-other a ask other ∙ ap (λ o. o || list_any is_begin (ask ∷ [])) was ∙ none)
 
-outside_left : (a : List Parsed) (ask : Parsed) → is_open a ≡ false → IsRefusal (step_outside ask) → IsSameBatch (a ++ ask ∷ []) a
+outside_left : (a : List Parsed) (ask : Parsed) → is_open a ≡ false → LeavesBatch (step_outside ask) → IsSameBatch (a ++ ask ∷ []) a
 outside_left a (Stage command) was refused = no_begin a (Stage command) was refl refl
 outside_left a Begin was refused = absurd refused
 outside_left a Commit was refused = closed_still a Commit was (is_open-closing a Commit refl)
 outside_left a Discard was refused = closed_still a Discard was (is_open-closing a Discard refl)
-outside_left a Cls was refused = absurd refused
-outside_left a Version was refused = absurd refused
+outside_left a Cls was refused = no_begin a Cls was refl refl
+outside_left a Version was refused = no_begin a Version was refl refl
 outside_left a Bye was refused = absurd refused
 outside_left a Kill was refused = absurd refused
 
@@ -214,18 +214,18 @@ open_still a ask was other same = record {
 }
 
 refused_waiting : (commands : List Cmd) (command : Cmd) (query room : Bool) →
-    IsRefusal (cond query (Local (reply.Refused 403 (command_name command)))
+    LeavesBatch (cond query (Local (reply.Refused 403 (command_name command)))
     (cond room (Local (reply.Done (command_name command))) (Local (reply.Refused 403 (command_name command))))) →
     cond query commands (cond room (commands ++ command ∷ []) commands) ≡ commands
 refused_waiting commands command true room refused = refl
 refused_waiting commands command false true refused = absurd refused
 refused_waiting commands command false false refused = refl
 
-refused_commit : (commands : List Cmd) → IsRefusal (step_commit commands) → ⊥
+refused_commit : (commands : List Cmd) → LeavesBatch (step_commit commands) → ⊥
 refused_commit [] refused = refused
 refused_commit (command ∷ commands) refused = refused
 
-inside_left : (a : List Parsed) (ask : Parsed) → is_open a ≡ true → IsRefusal (step_inside (batch a) ask) → IsSameBatch (a ++ ask ∷ []) a
+inside_left : (a : List Parsed) (ask : Parsed) → is_open a ≡ true → LeavesBatch (step_inside (batch a) ask) → IsSameBatch (a ++ ask ∷ []) a
 inside_left a (Stage command) was refused =
     open_still a (Stage command) was refl
     (batch-command a command was ∙ refused_waiting (batch a) command (is_query command) (nat_lt (length (batch a)) MAX_BATCH_COMMANDS) refused)
@@ -238,15 +238,15 @@ inside_left a Bye was refused = open_still a Bye was refl (batch-same a Bye refl
 inside_left a Kill was refused = open_still a Kill was refl (batch-same a Kill refl was refl)
 
 left_by : (open_now : Bool) (a : List Parsed) (ask : Parsed) → is_open a ≡ open_now →
-    IsRefusal (cond open_now (step_inside (batch a) ask) (step_outside ask)) → IsSameBatch (a ++ ask ∷ []) a
+    LeavesBatch (cond open_now (step_inside (batch a) ask) (step_outside ask)) → IsSameBatch (a ++ ask ∷ []) a
 left_by true a ask is refused = inside_left a ask is refused
 left_by false a ask is refused = outside_left a ask is refused
 
-same_batch : (a : List Parsed) → IsSameBatch a a
+pub same_batch : (a : List Parsed) → IsSameBatch a a
 same_batch a = record { opened = refl; commands = λ opens. refl }
 
--- so does a line that is refused
-pub refused-left : (a : List Parsed) (meaning : LineMeaning) → IsRefusal (step_of_meaning a meaning) → IsSameBatch (a ++ cons_option (asked_by meaning) []) a
-refused-left a Blank refused = absurd refused
-refused-left a (Wrong answer) refused = rw (append-nil a) (same_batch a)
-refused-left a (Asks ask) refused = left_by (is_open a) a ask refl refused
+-- so does a line with such a step
+pub batch-left : (a : List Parsed) (meaning : LineMeaning) → LeavesBatch (step_of_meaning a meaning) → IsSameBatch (a ++ cons_option (asked_by meaning) []) a
+batch-left a Blank refused = rw (append-nil a) (same_batch a)
+batch-left a (Wrong answer) refused = rw (append-nil a) (same_batch a)
+batch-left a (Asks ask) refused = left_by (is_open a) a ask refl refused

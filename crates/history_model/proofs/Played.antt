@@ -1,20 +1,21 @@
 -- A script of one connection, line by line: what it did and wrote so far, and what the next line does and writes.
-use Rattle.std.proofs.Common.{◌≡◌, ℕ, true, false, cond, ◌||◌, List, [], ◌∷◌, ◌++◌, replicate, refl, ap, ◌∙◌}
+use Rattle.std.proofs.Common.{◌≡◌, ℕ, true, false, cond, ◌||◌, List, [], ◌∷◌, ◌++◌, replicate, refl, ap, ◌∙◌, if◌then◌else◌}
 use Rattle.std.specs.Prelude.{Some, None}
 use Rattle.std.specs.List.{cons_option, list_any}
-use Rattle.amcp_text.specs.Lines.{is_line_end, line_of_text, lines_of}
+use Rattle.amcp_text.specs.Lines.{is_line_end, line_of_text}
 use Rattle.play_types.specs.declared.event.Event.{Event}
 use Rattle.play_types.specs.declared.event.Event.TheVariants as event
 use Rattle.play_types.specs.declared.event.Tag.{Tag}
 use Rattle.play_types.specs.declared.parsed.Parsed.{Parsed}
+use Rattle.play_types.specs.declared.reply.Reply.TheVariants as reply
 use Rattle.history_model.specs.sessions.Line.{LineMeaning, asked_by, line_meaning}
 use Rattle.history_model.specs.sessions.Session.{Step, Local, Ask, AskBatch, KillServer, EndConnection, Skip, asks, is_end, line_steps, step_of_meaning}
 use Rattle.history_model.specs.scripts.Line.{ScriptLine, Said, Ticks}
-use Rattle.history_model.specs.scripts.History.{PlayedLine, Playout, Turn, ends_at, events_at, goes_on, is_kill, said_step, script_events, step_events, stream_of, text_by, texts_of, turn_of}
+use Rattle.history_model.specs.scripts.History.{PlayedLine, Playout, Turn, ends_at, events_at, given_up_of, goes_on, is_kill, said_step, script_events, step_events, stream_of, text_by, texts_of, turn_of}
 use Rattle.history_model.specs.scripts.Output.{output_at, reply_output, script_output, step_reply, ticks_output}
 use Rattle.history_model.proofs.Outputs.{goes_on-none, goes_on-snoc, script_events-none, script_events-snoc, script_output-none, script_output-snoc}
+use Rattle.history_model.proofs.Besides.{same_asks, same_ended}
 use Rattle.history_model.proofs.Sides.{Side, Side-none, Side-other, Side-said, asked_of, asked_of-said, has_ended, has_ended-said, own_step, said_step-own}
-use Rattle.history_model.proofs.Streams.{stream_of-other}
 use Rattle.history_model.proofs.Tags.{text_by-own}
 
 -- what the connection asked for so far, and what the script did and wrote
@@ -37,7 +38,7 @@ abbrev pub nothing : Progress
 nothing = record { asked = []; events = []; output = [] }
 
 pub run_none : (playout : Playout) (tag : Tag) → HasRun playout tag [] nothing
-unfolding stream_of texts_of asks line_steps
+unfolding stream_of texts_of given_up_of asks line_steps
 run_none playout tag = record {
   goes = goes_on-none playout;
   events = script_events-none playout;
@@ -78,9 +79,10 @@ module _ (playout : Playout) (tag : Tag) (lines : List PlayedLine) (so_far : Pro
   run_said text meaning says one kept means goes =
       let said = text_by-own tag line text says in
       let step : Step = step_then so_far meaning in
-      let own : own_step playout tag lines text ≡ step = λ i. step_of_meaning (h.asked i) (means i) in
+      let own : own_step playout tag lines text line.given_up ≡ step =
+      λ i. if kept i then Local reply.NoMemory else step_of_meaning (h.asked i) (means i) in
       let found : said_step playout lines line tag ≡ Some step =
-      said_step-own playout tag lines line text said one kept h.side ∙ (λ i. cond (h.ended i) None (Some (own i))) in
+      said_step-own playout tag lines line text said one h.side ∙ (λ i. cond (h.ended i) None (Some (own i))) in
       record {
         goes = goes_on-snoc playout lines line h.goes (ap (ends_at playout lines line) says ∙ ap is_kill found ∙ no_kill step goes);
         events =
@@ -91,10 +93,10 @@ module _ (playout : Playout) (tag : Tag) (lines : List PlayedLine) (so_far : Pro
             script_output-snoc playout lines line h.goes
             ∙ ap (λ (l : ScriptLine). script_output playout lines ++ output_at playout lines line l) says
             ∙ (λ i. h.output i ++ reply_output playout tag (step_reply (turn_of playout (h.events i) line tag) (found i)));
-        side = Side-said tag lines line text said one kept h.side;
+        side = Side-said tag lines line text said one h.side;
         asked =
             asked_of-said playout tag lines line text said one h.side
-            ∙ (λ i. h.asked i ++ cons_option (asked_by (means i)) []);
+            ∙ (λ i. h.asked i ++ cons_option (if kept i then None else asked_by (means i)) []);
         ended =
             has_ended-said playout tag lines line text said one h.side
             ∙ (λ i. h.ended i || is_end (own i)) ∙ goes;
@@ -110,7 +112,6 @@ module _ (playout : Playout) (tag : Tag) (lines : List PlayedLine) (so_far : Pro
       })
   run_ticks count is =
       let other = ap (text_by tag) is in
-      let stream = stream_of-other tag lines line other in
       record {
         goes = goes_on-snoc playout lines line h.goes (ap (ends_at playout lines line) is);
         events =
@@ -122,6 +123,6 @@ module _ (playout : Playout) (tag : Tag) (lines : List PlayedLine) (so_far : Pro
             ∙ ap (λ (l : ScriptLine). script_output playout lines ++ output_at playout lines line l) is
             ∙ (λ i. h.output i ++ ticks_output playout (h.events i) count);
         side = Side-other tag lines line other h.side;
-        asked = ap (λ st. asks playout.config playout.names [] (lines_of st)) stream ∙ h.asked;
-        ended = ap (λ st. list_any is_end (line_steps playout.config playout.names [] (lines_of st))) stream ∙ h.ended;
+        asked = same_asks playout tag lines line other ∙ h.asked;
+        ended = same_ended playout tag lines line other ∙ h.ended;
       }

@@ -1,6 +1,6 @@
 -- Two runs of equal lines that memory does not disturb are equal: each is the run of its lines without marks.
-use Rattle.std.proofs.Common.{◌≡◌, ℕ, Bool, true, false, cond, inl, inr, List, [], ◌∷◌, ◌++◌, length, map, refl, sym, ap, ◌∙◌, subst, append_assoc, if◌then◌else◌}
-use Rattle.std.specs.Prelude.{Option, Some, None, codes}
+use Rattle.std.proofs.Common.{◌≡◌, ℕ, Bool, true, false, cond, inl, inr, List, [], ◌∷◌, ◌++◌, length, map, refl, sym, ap, ◌∙◌, subst, if◌then◌else◌}
+use Rattle.std.specs.Prelude.{Option, Some, None}
 use Rattle.play_types.specs.Commands.{command_name}
 use Rattle.play_types.specs.declared.answer.Answer.{Answer}
 use Rattle.play_types.specs.declared.event.Event.TheVariants as event
@@ -11,101 +11,65 @@ use Rattle.play_types.specs.declared.reply.Reply.TheVariants as reply
 use Rattle.history_model.specs.stage.Acts.{is_refused}
 use Rattle.history_model.specs.stage.Answer.{command_answer, outcome_of}
 use Rattle.history_model.specs.sessions.Session.{Step, Local, Ask, AskBatch, KillServer, EndConnection, Skip}
-use Rattle.history_model.specs.text.Replies.{code_line}
 use Rattle.history_model.specs.scripts.Line.{ScriptLine, Comment, Ticks, Said, Stop, Rejected}
 use Rattle.history_model.specs.scripts.History.{Playout, PlayedLine, Past, Turn, Verdict, JournalFull, OutOfMemory, Taken, ends_at, events_after, events_at, goes_on, is_full, is_kill, said_step, same_tag, script_events, setup_of, step_events, text_by, turn_of, verdict, verdict_events}
-use Rattle.history_model.specs.scripts.Output.{output_after, output_at, reply_line, reply_output, script_output, step_reply, tagged_lines, ticks_output, verdict_reply}
-use Rattle.history_model.specs.scripts.Memory.{AreLines, IsOneLine, IsWithoutWant, StandsIn, lines_played}
+use Rattle.history_model.specs.scripts.Output.{output_after, output_at, reply_output, script_output, step_reply, ticks_output, verdict_reply}
+use Rattle.history_model.specs.scripts.Memory.{AreLines, HasMemory, HasMemoryAfter, IsNoneOrOfMemory, IsOfMemory, IsOneLine, UnlessEnded, lines_played, reply_at}
 use Rattle.history_model.proofs.Outputs.{goes_on-none, goes_on-snoc, script_events-snoc}
 use Rattle.history_model.proofs.Tags.{same_tag-equal, text_by-else, text_by-own}
 use Rattle.history_model.proofs.Unmarked.{Keeps, Keeps-none, Keeps-other, Outcome, outcome, unmarked, unmarked-append}
 
--- what stands in a part of an output stands in it
-stands_first : (text here rest : List ℕ) → StandsIn text here → StandsIn text (here ++ rest)
-stands_first text here rest (before, after, e) =
-    (before, after ++ rest, ap (λ l. l ++ rest) e ∙ append_assoc (before ++ text) after rest)
-
-stands_later : (text here rest : List ℕ) → StandsIn text rest → StandsIn text (here ++ rest)
-stands_later text here rest (before, after, e) = (
-  here ++ before,
-  after,
-  ap (λ l. here ++ l) e ∙ sym (append_assoc here (before ++ text) after) ∙ ap (λ l. l ++ after) (sym (append_assoc here before text)),
-)
-
-first_without : (here rest : List ℕ) → IsWithoutWant (here ++ rest) → IsWithoutWant here
-first_without here rest h = record {
-  lines = λ tag stands. h.lines tag (stands_first (reply_line tag (codes "500 FAILED")) here rest stands);
-  commands = λ tag command stands. h.commands tag command (stands_first (reply_line tag (code_line 501 command (codes "FAILED"))) here rest stands);
-}
-
-rest_without : (here rest : List ℕ) → IsWithoutWant (here ++ rest) → IsWithoutWant rest
-rest_without here rest h = record {
-  lines = λ tag stands. h.lines tag (stands_later (reply_line tag (codes "500 FAILED")) here rest stands);
-  commands = λ tag command stands. h.commands tag command (stands_later (reply_line tag (code_line 501 command (codes "FAILED"))) here rest stands);
-}
-
--- a reply of one line stands in its output
-one_reply : (tag : Tag) (text : List ℕ) → StandsIn (reply_line tag text) (tagged_lines tag (text ∷ []))
-unfolding tagged_lines
-one_reply tag text = ([], [], refl)
-
 -- a line that is answered 500 says so
-no_500 : (playout : Playout) (turn : Turn) (tag : Tag) (found : Option Step) → found ≡ Some (Local reply.NoMemory) →
-    IsWithoutWant (reply_output playout tag (step_reply turn found)) → ⊥
-no_500 playout turn tag found is h =
-    h.lines tag (subst (λ f. StandsIn (reply_line tag (codes "500 FAILED")) (reply_output playout tag (step_reply turn f))) (sym is)
-    (one_reply tag (codes "500 FAILED")))
+no_500 : (turn : Turn) (found : Option Step) → found ≡ Some (Local reply.NoMemory) → IsNoneOrOfMemory (step_reply turn found) → ⊥
+no_500 turn found is h = subst (λ f. IsNoneOrOfMemory (step_reply turn f)) is h
 
 -- and so does a command or a batch that is answered 501: else what becomes of it is what becomes of it with memory
 verdict_by : Bool → Bool → Verdict
 verdict_by full no_memory = if full then JournalFull else if no_memory then OutOfMemory else Taken
 
-with_memory_by : (playout : Playout) (tag : Tag) (asked : Name) (found : Answer) (full no_memory : Bool) →
-    IsWithoutWant (reply_output playout tag (Some (verdict_reply asked found (verdict_by full no_memory)))) →
-    verdict_by full no_memory ≡ verdict_by full false
+with_memory_by : (asked : Name) (found : Answer) (full no_memory : Bool) →
+    IsOfMemory (verdict_reply asked found (verdict_by full no_memory)) → verdict_by full no_memory ≡ verdict_by full false
 unfolding verdict_by
-with_memory_by playout tag asked found true no_memory h = refl
-with_memory_by playout tag asked found false false h = refl
-with_memory_by playout tag asked found false true h = absurd (h.commands tag asked (one_reply tag (code_line 501 asked (codes "FAILED"))))
+with_memory_by asked found true no_memory h = refl
+with_memory_by asked found false false h = refl
+with_memory_by asked found false true h = absurd (h refl)
 
 -- when the stage is asked, with memory
 abbrev with_memory : Turn → Turn
 with_memory turn = record { playout = turn.playout; events = turn.events; tag = turn.tag; no_memory = false }
 
-verdict-with_memory : (playout : Playout) (turn : Turn) (tag : Tag) (asked : Name) (found : Answer) (commands : ℕ) →
-    IsWithoutWant (reply_output playout tag (Some (verdict_reply asked found (verdict turn commands)))) →
-    verdict turn commands ≡ verdict (with_memory turn) commands
+verdict-with_memory : (turn : Turn) (asked : Name) (found : Answer) (commands : ℕ) →
+    IsOfMemory (verdict_reply asked found (verdict turn commands)) → verdict turn commands ≡ verdict (with_memory turn) commands
 unfolding verdict_by
-verdict-with_memory playout turn tag asked found commands h =
-    with_memory_by playout tag asked found (is_full turn.playout turn.events commands) turn.no_memory h
+verdict-with_memory turn asked found commands h =
+    with_memory_by asked found (is_full turn.playout turn.events commands) turn.no_memory h
 
 -- the reply and the events of a step are those with memory
 record IsWithMemory (turn : Turn) (found : Option Step) : Type 0 where
   reply : step_reply turn found ≡ step_reply (with_memory turn) found
   events : step_events turn found ≡ step_events (with_memory turn) found
 
-step-with_memory : (playout : Playout) (turn : Turn) (tag : Tag) (found : Option Step) →
-    IsWithoutWant (reply_output playout tag (step_reply turn found)) → IsWithMemory turn found
-step-with_memory playout turn tag None h = record { reply = refl; events = refl }
-step-with_memory playout turn tag (Some (Local answer)) h = record { reply = refl; events = refl }
-step-with_memory playout turn tag (Some (Ask command)) h =
+step-with_memory : (turn : Turn) (found : Option Step) → IsNoneOrOfMemory (step_reply turn found) → IsWithMemory turn found
+step-with_memory turn None h = record { reply = refl; events = refl }
+step-with_memory turn (Some (Local answer)) h = record { reply = refl; events = refl }
+step-with_memory turn (Some (Ask command)) h =
     let asked : Name = command_name command in
     let found : Answer = command_answer (setup_of turn.playout) turn.events (is_refused turn.events (event.Do turn.tag command)) command in
-    let same = verdict-with_memory playout turn tag asked found 1 h in
+    let same = verdict-with_memory turn asked found 1 h in
     record {
       reply = ap (λ v. Some (verdict_reply asked found v)) same;
       events = ap (verdict_events (event.Do turn.tag command)) same;
     }
-step-with_memory playout turn tag (Some (AskBatch commands)) h =
+step-with_memory turn (Some (AskBatch commands)) h =
     let found : Answer = outcome_of (is_refused turn.events (event.Batch turn.tag commands)) in
-    let same = verdict-with_memory playout turn tag name.Commit found (length commands) h in
+    let same = verdict-with_memory turn name.Commit found (length commands) h in
     record {
       reply = ap (λ v. Some (verdict_reply name.Commit found v)) same;
       events = ap (verdict_events (event.Batch turn.tag commands)) same;
     }
-step-with_memory playout turn tag (Some KillServer) h = record { reply = refl; events = refl }
-step-with_memory playout turn tag (Some EndConnection) h = record { reply = refl; events = refl }
-step-with_memory playout turn tag (Some Skip) h = record { reply = refl; events = refl }
+step-with_memory turn (Some KillServer) h = record { reply = refl; events = refl }
+step-with_memory turn (Some EndConnection) h = record { reply = refl; events = refl }
+step-with_memory turn (Some Skip) h = record { reply = refl; events = refl }
 
 -- after these lines the run goes on, with marks and without, and made equal events
 record At (playout : Playout) (before : List PlayedLine) : Type 0 where
@@ -134,13 +98,13 @@ keeps_by playout before line tag other text false says is was now =
     Keeps-other playout other before line (text_by-else tag other line text says is) was
 
 said_like : (playout : Playout) (before : List PlayedLine) (line : PlayedLine) (tag : Tag) (text : List ℕ) → line.line ≡ Said tag text →
-    At playout before → IsWithoutWant (output_at playout before line (Said tag text)) → Outcome playout tag before line →
+    At playout before → IsNoneOrOfMemory (reply_at playout before line (Said tag text)) → Outcome playout tag before line →
     IsLike playout before line (Said tag text)
 said_like playout before line tag text says h without (inl lost) =
-    absurd (no_500 playout (turn_of playout (script_events playout before) line tag) tag (said_step playout before line tag) lost without)
+    absurd (no_500 (turn_of playout (script_events playout before) line tag) (said_step playout before line tag) lost without)
 said_like playout before line tag text says h without (inr (same, now)) =
     let turn = turn_of playout (script_events playout before) line tag in
-    let like = step-with_memory playout turn tag (said_step playout before line tag) without in
+    let like = step-with_memory turn (said_step playout before line tag) without in
     record {
       output = ap (reply_output playout tag)
           (like.reply ∙ λ i. step_reply (record { playout = playout; events = h.events i; tag = tag; no_memory = false }) (same i));
@@ -150,7 +114,7 @@ said_like playout before line tag text says h without (inr (same, now)) =
     }
 
 line_like : (playout : Playout) (before : List PlayedLine) (line : PlayedLine) (says : ScriptLine) → line.line ≡ says → At playout before →
-    IsOneLine says → IsWithoutWant (output_at playout before line says) → IsLike playout before line says
+    IsOneLine says → IsNoneOrOfMemory (reply_at playout before line says) → IsLike playout before line says
 line_like playout before line Comment is h one without = record {
   output = refl;
   events = refl;
@@ -257,24 +221,22 @@ like_going playout before line lines h like is later =
 
 like_by : (playout : Playout) (before : List PlayedLine) (line : PlayedLine) (lines : List PlayedLine) (ends : Bool) →
     ends_at playout before line line.line ≡ ends → At playout before → IsLike playout before line line.line →
-    IsWithoutWant (cond (ends_at playout before line line.line) [] (output_after playout (before ++ line ∷ []) lines)) →
-    (At playout (before ++ line ∷ []) → IsWithoutWant (output_after playout (before ++ line ∷ []) lines) → AreLike playout (before ++ line ∷ []) lines) →
+    UnlessEnded (ends_at playout before line line.line) (HasMemoryAfter playout (before ++ line ∷ []) lines) →
+    (At playout (before ++ line ∷ []) → HasMemoryAfter playout (before ++ line ∷ []) lines → AreLike playout (before ++ line ∷ []) lines) →
     AreLike playout before (line ∷ lines)
 like_by playout before line lines true is h like without each = like_ended playout before line lines h like is
 like_by playout before line lines false is h like without each =
     like_going playout before line lines h like is
     (each (At-next playout before line h like is)
-    (subst (λ (b : Bool). IsWithoutWant (cond b [] (output_after playout (before ++ line ∷ []) lines))) is without))
+    (subst (λ (b : Bool). UnlessEnded b (HasMemoryAfter playout (before ++ line ∷ []) lines)) is without))
 
 all_like : (playout : Playout) (before lines : List PlayedLine) → At playout before → AreLines (lines_played lines) →
-    IsWithoutWant (output_after playout before lines) → AreLike playout before lines
+    HasMemoryAfter playout before lines → AreLike playout before lines
 unfolding output_after events_after
 all_like playout before [] h one without = record { output = refl; events = h.events }
 all_like playout before (line ∷ lines) h one without =
-    let here = output_at playout before line line.line in
-    let rest = cond (ends_at playout before line line.line) [] (output_after playout (before ++ line ∷ []) lines) in
-    let like = line_like playout before line line.line refl h one.0 (first_without here rest without) in
-    like_by playout before line lines (ends_at playout before line line.line) refl h like (rest_without here rest without)
+    let like = line_like playout before line line.line refl h one.0 without.0 in
+    like_by playout before line lines (ends_at playout before line line.line) refl h like without.1
     (λ at later. all_like playout (before ++ line ∷ []) lines at one.1 later)
 
 -- a run that memory does not disturb is the run of its lines without marks
@@ -286,12 +248,12 @@ start playout = record {
   keeps = λ tag. Keeps-none playout tag;
 }
 
-pub output-unmarked : (playout : Playout) (lines : List PlayedLine) → AreLines (lines_played lines) → IsWithoutWant (script_output playout lines) →
+pub output-unmarked : (playout : Playout) (lines : List PlayedLine) → AreLines (lines_played lines) → HasMemory playout lines →
     script_output playout lines ≡ script_output playout (map unmarked lines)
 unfolding script_output
 output-unmarked playout lines one without = (all_like playout [] lines (start playout) one without).output
 
-pub events-unmarked : (playout : Playout) (lines : List PlayedLine) → AreLines (lines_played lines) → IsWithoutWant (script_output playout lines) →
+pub events-unmarked : (playout : Playout) (lines : List PlayedLine) → AreLines (lines_played lines) → HasMemory playout lines →
     script_events playout lines ≡ script_events playout (map unmarked lines)
 unfolding script_output script_events events_after
 events-unmarked playout lines one without = (all_like playout [] lines (start playout) one without).events
@@ -309,14 +271,14 @@ unmarked-equal : (one other : List PlayedLine) → lines_played one ≡ lines_pl
 unmarked-equal one other same = unmarked-lines one ∙ ap (map played_as) same ∙ sym (unmarked-lines other)
 
 pub output-equal : (playout : Playout) (one other : List PlayedLine) → AreLines (lines_played one) → lines_played one ≡ lines_played other →
-    IsWithoutWant (script_output playout one) → IsWithoutWant (script_output playout other) →
+    HasMemory playout one → HasMemory playout other →
     script_output playout one ≡ script_output playout other
 output-equal playout one other lines same without without' =
     output-unmarked playout one lines without ∙ ap (script_output playout) (unmarked-equal one other same)
     ∙ sym (output-unmarked playout other (subst AreLines same lines) without')
 
 pub events-equal : (playout : Playout) (one other : List PlayedLine) → AreLines (lines_played one) → lines_played one ≡ lines_played other →
-    IsWithoutWant (script_output playout one) → IsWithoutWant (script_output playout other) →
+    HasMemory playout one → HasMemory playout other →
     script_events playout one ≡ script_events playout other
 events-equal playout one other lines same without without' =
     events-unmarked playout one lines without ∙ ap (script_events playout) (unmarked-equal one other same)

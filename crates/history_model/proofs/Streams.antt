@@ -67,7 +67,7 @@ length-marks tag [] = refl
 length-marks tag (one ∷ played) =
     length-marks_by (text_by tag one.line) one.given_up (marks tag played) (texts_of tag played) (length-marks tag played)
 
-given_up_of-more : (tag : Tag) (played : List PlayedLine) (line : PlayedLine) (text : List ℕ) → text_by tag line.line ≡ Some text
+pub given_up_of-more : (tag : Tag) (played : List PlayedLine) (line : PlayedLine) (text : List ℕ) → text_by tag line.line ≡ Some text
     → given_up_of tag (played ++ line ∷ []) ≡ given_up_of tag played ++ filter_map number_given_up ((length (texts_of tag played), line.given_up) ∷ [])
 unfolding given_up_of
 given_up_of-more tag played line text said =

@@ -1,4 +1,4 @@
--- A script without a line that was refused: the rest of what it writes and does is the same.
+-- A script without a line that changes nothing: the rest of what it writes and does is the same.
 use Rattle.std.proofs.Common.{◌≡◌, ℕ, Bool, true, false, cond, List, [], ◌∷◌, ◌++◌, refl, sym, ap, ◌∙◌, subst, append_assoc, append-nil, if◌then◌else◌}
 use Rattle.std.specs.Prelude.{Some, None}
 use Rattle.std.specs.List.{list_any}
@@ -8,13 +8,13 @@ use Rattle.play_types.specs.declared.event.Tag.{Tag}
 use Rattle.history_model.specs.scripts.Line.{ScriptLine, Comment, Ticks, Said, Stop, Rejected}
 use Rattle.history_model.specs.scripts.History.{Playout, PlayedLine, Past, ends_at, events_after, events_at, goes_on, goes_on_after, is_kill, said_step, same_tag, script_events, step_events, text_by, turn_of}
 use Rattle.history_model.specs.scripts.Output.{output_after, output_at, reply_output, script_output, step_reply, ticks_output}
-use Rattle.history_model.specs.scripts.Memory.{IsOneLine}
-use Rattle.history_model.specs.scripts.Struck.{AreKept, IsRefusedLine, IsRefusedStep}
-use Rattle.history_model.proofs.OpenBatch.{IsRefusal}
+use Rattle.history_model.specs.scripts.Memory.{AreLines, IsOneLine, lines_played}
+use Rattle.history_model.specs.scripts.Struck.{ChangesNothing, IsIdleLine}
+use Rattle.history_model.proofs.OpenBatch.{LeavesBatch}
 use Rattle.history_model.proofs.Outputs.{goes_on-snoc, script_events-snoc}
 use Rattle.history_model.proofs.Sides.{Side, Side-none, Side-other, Side-said, has_ended, own_step, said_step-own}
 use Rattle.history_model.proofs.Tags.{same_tag-equal, text_by-else, text_by-own}
-use Rattle.history_model.proofs.Besides.{Beside, Beside-other, Beside-said, Beside-struck, Beside-untouched, no_events, no_kill, own_refusal, own_step-same}
+use Rattle.history_model.proofs.Besides.{Beside, Beside-other, Beside-said, Beside-struck, Beside-untouched, no_events, no_kill, own_idle, said_step-same}
 
 -- after both the runs go on and made equal events
 record AtBoth (playout : Playout) (a b : List PlayedLine) : Type 0 where
@@ -41,46 +41,37 @@ beside_by playout a b line tag other text true says is was now =
 beside_by playout a b line tag other text false says is was now =
     Beside-other playout other a b line (text_by-else tag other line text says is) was
 
-said_same : (playout : Playout) (a b : List PlayedLine) (line : PlayedLine) (tag : Tag) (text : List ℕ) → line.line ≡ Said tag text →
-    list_any is_line_end text ≡ false → line.given_up ≡ false → Beside playout tag a b →
-    said_step playout a line tag ≡ said_step playout b line tag
-said_same playout a b line tag text says one kept h =
-    let said = text_by-own tag line text says in
-    said_step-own playout tag a line text said one kept h.long
-    ∙ (λ i. cond (h.ended i) None (Some (own_step-same playout tag a b text h i)))
-    ∙ sym (said_step-own playout tag b line text said one kept h.short)
-
 line_like : (playout : Playout) (a b : List PlayedLine) (line : PlayedLine) (says : ScriptLine) → line.line ≡ says → AtBoth playout a b →
-    line.given_up ≡ false → IsOneLine says → IsLike playout a b line says
-line_like playout a b line Comment is h kept one = record {
+    IsOneLine says → IsLike playout a b line says
+line_like playout a b line Comment is h one = record {
   output = refl;
   events = refl;
   ends = refl;
   beside = λ tag. Beside-other playout tag a b line (ap (text_by tag) is) (h.beside tag);
 }
-line_like playout a b line (Ticks count) is h kept one = record {
+line_like playout a b line (Ticks count) is h one = record {
   output = ap (λ events. ticks_output playout events count) h.events;
   events = refl;
   ends = refl;
   beside = λ tag. Beside-other playout tag a b line (ap (text_by tag) is) (h.beside tag);
 }
-line_like playout a b line (Said tag text) is h kept one =
-    let same = said_same playout a b line tag text is one kept (h.beside tag) in
+line_like playout a b line (Said tag text) is h one =
+    let same = said_step-same playout tag a b line text (text_by-own tag line text is) one (h.beside tag) in
     record {
       output = λ i. reply_output playout tag (step_reply (turn_of playout (h.events i) line tag) (same i));
       events = λ i. step_events (turn_of playout (h.events i) line tag) (same i);
       ends = ap is_kill same;
       beside = λ other.
           beside_by playout a b line tag other text (same_tag other tag) is refl (h.beside other)
-          (Beside-said playout tag a b line text (text_by-own tag line text is) one kept (h.beside tag));
+          (Beside-said playout tag a b line text (text_by-own tag line text is) one (h.beside tag));
     }
-line_like playout a b line Stop is h kept one = record {
+line_like playout a b line Stop is h one = record {
   output = refl;
   events = refl;
   ends = refl;
   beside = λ tag. Beside-other playout tag a b line (ap (text_by tag) is) (h.beside tag);
 }
-line_like playout a b line Rejected is h kept one = record {
+line_like playout a b line Rejected is h one = record {
   output = refl;
   events = refl;
   ends = refl;
@@ -154,50 +145,50 @@ like_by playout a b line lines true is h like each = like_ended playout a b line
 like_by playout a b line lines false is h like each =
     like_going playout a b line lines h like is (each (AtBoth-next playout a b line h like is))
 
-all_like : (playout : Playout) (a b lines : List PlayedLine) → AtBoth playout a b → AreKept lines → AreLike playout a b lines
+all_like : (playout : Playout) (a b lines : List PlayedLine) → AtBoth playout a b → AreLines (lines_played lines) → AreLike playout a b lines
 unfolding output_after events_after
-all_like playout a b [] h kept = record { output = refl; events = h.events }
-all_like playout a b (line ∷ lines) h kept =
-    let like = line_like playout a b line line.line refl h kept.0 kept.1 in
+all_like playout a b [] h whole = record { output = refl; events = h.events }
+all_like playout a b (line ∷ lines) h whole =
+    let like = line_like playout a b line line.line refl h whole.0 in
     like_by playout a b line lines (ends_at playout a line line.line) refl h like
-    (λ at. all_like playout (a ++ line ∷ []) (b ++ line ∷ []) lines at kept.2)
+    (λ at. all_like playout (a ++ line ∷ []) (b ++ line ∷ []) lines at whole.1)
 
 -- each connection after the lines before the struck one
 side_by : (other tag : Tag) (before : List PlayedLine) (line : PlayedLine) (text : List ℕ) (same : Bool) → line.line ≡ Said tag text →
-    same_tag other tag ≡ same → list_any is_line_end text ≡ false → line.given_up ≡ false → Side other before → Side other (before ++ line ∷ [])
-side_by other tag before line text true says is one kept h =
-    Side-said other before line text (ap (text_by other) says ∙ ap (λ (b : Bool). if b then Some text else None) is) one kept h
-side_by other tag before line text false says is one kept h = Side-other other before line (text_by-else tag other line text says is) h
+    same_tag other tag ≡ same → list_any is_line_end text ≡ false → Side other before → Side other (before ++ line ∷ [])
+side_by other tag before line text true says is one h =
+    Side-said other before line text (ap (text_by other) says ∙ ap (λ (b : Bool). if b then Some text else None) is) one h
+side_by other tag before line text false says is one h = Side-other other before line (text_by-else tag other line text says is) h
 
-side_after : (other : Tag) (before : List PlayedLine) (line : PlayedLine) (says : ScriptLine) → line.line ≡ says → line.given_up ≡ false →
+side_after : (other : Tag) (before : List PlayedLine) (line : PlayedLine) (says : ScriptLine) → line.line ≡ says →
     IsOneLine says → Side other before → Side other (before ++ line ∷ [])
-side_after other before line Comment is kept one h = Side-other other before line (ap (text_by other) is) h
-side_after other before line (Ticks count) is kept one h = Side-other other before line (ap (text_by other) is) h
-side_after other before line (Said tag text) is kept one h = side_by other tag before line text (same_tag other tag) is refl one kept h
-side_after other before line Stop is kept one h = Side-other other before line (ap (text_by other) is) h
-side_after other before line Rejected is kept one h = Side-other other before line (ap (text_by other) is) h
+side_after other before line Comment is one h = Side-other other before line (ap (text_by other) is) h
+side_after other before line (Ticks count) is one h = Side-other other before line (ap (text_by other) is) h
+side_after other before line (Said tag text) is one h = side_by other tag before line text (same_tag other tag) is refl one h
+side_after other before line Stop is one h = Side-other other before line (ap (text_by other) is) h
+side_after other before line Rejected is one h = Side-other other before line (ap (text_by other) is) h
 
-sides : (tag : Tag) (before lines : List PlayedLine) → Side tag before → AreKept lines → Side tag (before ++ lines)
-sides tag before [] h kept = subst (Side tag) (sym (append-nil before)) h
-sides tag before (line ∷ lines) h kept =
+sides : (tag : Tag) (before lines : List PlayedLine) → Side tag before → AreLines (lines_played lines) → Side tag (before ++ lines)
+sides tag before [] h whole = subst (Side tag) (sym (append-nil before)) h
+sides tag before (line ∷ lines) h whole =
     subst (Side tag) (append_assoc before (line ∷ []) lines)
-    (sides tag (before ++ line ∷ []) lines (side_after tag before line line.line refl kept.0 kept.1 h) kept.2)
+    (sides tag (before ++ line ∷ []) lines (side_after tag before line line.line refl whole.0 h) whole.1)
 
--- the lines before and after one, and the line itself, are kept
-kept_parts : (before : List PlayedLine) (line : PlayedLine) (later : List PlayedLine) → AreKept (before ++ line ∷ later) →
-    AreKept before × AreKept (line ∷ later)
-kept_parts [] line later kept = (tt, kept)
-kept_parts (first ∷ before) line later kept =
-    let rest = kept_parts before line later kept.2 in ((kept.0, kept.1, rest.0), rest.1)
+-- the lines before and after one, and the line itself, are lines
+line_parts : (before : List PlayedLine) (line : PlayedLine) (later : List PlayedLine) → AreLines (lines_played (before ++ line ∷ later)) →
+    AreLines (lines_played before) × AreLines (lines_played (line ∷ later))
+line_parts [] line later whole = (tt, whole)
+line_parts (first ∷ before) line later whole = let rest = line_parts before line later whole.1 in ((whole.0, rest.0), rest.1)
 
 -- the struck line and what follows it
 struck_by : (playout : Playout) (before : List PlayedLine) (line : PlayedLine) (tag other : Tag) (text : List ℕ) (same : Bool) →
-    line.line ≡ Said tag text → same_tag other tag ≡ same → list_any is_line_end text ≡ false → line.given_up ≡ false →
-    IsRefusal (own_step playout tag before text) → Side tag before → Side other before → Beside playout other (before ++ line ∷ []) before
-struck_by playout before line tag other text true says is one kept refused own h =
+    line.line ≡ Said tag text → same_tag other tag ≡ same → list_any is_line_end text ≡ false →
+    (has_ended playout tag before ≡ false → LeavesBatch (own_step playout tag before text line.given_up)) →
+    Side tag before → Side other before → Beside playout other (before ++ line ∷ []) before
+struck_by playout before line tag other text true says is one idle own h =
     subst (λ t. Beside playout t (before ++ line ∷ []) before) (sym (same_tag-equal other tag is))
-    (Beside-struck playout tag before line text (text_by-own tag line text says) one kept refused own)
-struck_by playout before line tag other text false says is one kept refused own h =
+    (Beside-struck playout tag before line text (text_by-own tag line text says) one idle own)
+struck_by playout before line tag other text false says is one idle own h =
     Beside-untouched playout other before line (text_by-else tag other line text says is) h
 
 -- what is known of a struck line
@@ -206,14 +197,14 @@ record IsStruck (playout : Playout) (before : List PlayedLine) (line : PlayedLin
   goes : ends_at playout before line line.line ≡ false
 
 struck_said : (playout : Playout) (before : List PlayedLine) (line : PlayedLine) (tag : Tag) (text : List ℕ) → line.line ≡ Said tag text →
-    goes_on playout before ≡ true → list_any is_line_end text ≡ false → line.given_up ≡ false → ((one : Tag) → Side one before) →
-    IsRefusedStep (turn_of playout (script_events playout before) line tag) (said_step playout before line tag) → IsStruck playout before line
-struck_said playout before line tag text says goes one kept each refused =
+    goes_on playout before ≡ true → list_any is_line_end text ≡ false → ((one : Tag) → Side one before) →
+    ChangesNothing (turn_of playout (script_events playout before) line tag) (said_step playout before line tag) → IsStruck playout before line
+struck_said playout before line tag text says goes one each idle =
     let turn = turn_of playout (script_events playout before) line tag in
-    let own = said_step-own playout tag before line text (text_by-own tag line text says) one kept (each tag) in
-    let still : ends_at playout before line line.line ≡ false = ap (ends_at playout before line) says ∙ no_kill turn (said_step playout before line tag) refused in
+    let own = said_step-own playout tag before line text (text_by-own tag line text says) one (each tag) in
+    let still : ends_at playout before line line.line ≡ false = ap (ends_at playout before line) says ∙ no_kill turn (said_step playout before line tag) idle in
     let none : events_at playout (past_of playout before) line line.line ≡ [] =
-    ap (events_at playout (past_of playout before) line) says ∙ no_events turn (said_step playout before line tag) refused in
+    ap (events_at playout (past_of playout before) line) says ∙ no_events turn (said_step playout before line tag) idle in
     record {
       at = record {
         long = goes_on-snoc playout before line goes still;
@@ -222,21 +213,39 @@ struck_said playout before line tag text says goes one kept each refused =
             script_events-snoc playout before line goes ∙ ap (λ events. script_events playout before ++ events) none
             ∙ append-nil (script_events playout before);
         beside = λ other.
-            struck_by playout before line tag other text (same_tag other tag) says refl one kept
-            (own_refusal turn (has_ended playout tag before) (own_step playout tag before text) (subst (IsRefusedStep turn) own refused))
+            struck_by playout before line tag other text (same_tag other tag) says refl one
+            (own_idle turn (has_ended playout tag before) (own_step playout tag before text line.given_up) (subst (ChangesNothing turn) own idle))
             (each tag) (each other);
       };
       goes = still;
     }
 
+-- a comment leaves every connection
+struck_comment : (playout : Playout) (before : List PlayedLine) (line : PlayedLine) → line.line ≡ Comment →
+    goes_on playout before ≡ true → ((one : Tag) → Side one before) → IsStruck playout before line
+struck_comment playout before line says goes each =
+    let still : ends_at playout before line line.line ≡ false = ap (ends_at playout before line) says in
+    record {
+      at = record {
+        long = goes_on-snoc playout before line goes still;
+        short = goes;
+        events =
+            script_events-snoc playout before line goes
+            ∙ ap (λ says. script_events playout before ++ events_at playout (past_of playout before) line says) says
+            ∙ append-nil (script_events playout before);
+        beside = λ other. Beside-untouched playout other before line (ap (text_by other) says) (each other);
+      };
+      goes = still;
+    }
+
 struck : (playout : Playout) (before : List PlayedLine) (line : PlayedLine) (says : ScriptLine) → line.line ≡ says →
-    goes_on playout before ≡ true → IsOneLine says → line.given_up ≡ false → ((one : Tag) → Side one before) →
-    IsRefusedLine playout before line says → IsStruck playout before line
-struck playout before line Comment is goes one kept each refused = absurd refused
-struck playout before line (Ticks count) is goes one kept each refused = absurd refused
-struck playout before line (Said tag text) is goes one kept each refused = struck_said playout before line tag text is goes one kept each refused
-struck playout before line Stop is goes one kept each refused = absurd refused
-struck playout before line Rejected is goes one kept each refused = absurd refused
+    goes_on playout before ≡ true → IsOneLine says → ((one : Tag) → Side one before) →
+    IsIdleLine playout before line says → IsStruck playout before line
+struck playout before line Comment is goes one each idle = struck_comment playout before line is goes each
+struck playout before line (Ticks count) is goes one each idle = absurd idle
+struck playout before line (Said tag text) is goes one each idle = struck_said playout before line tag text is goes one each idle
+struck playout before line Stop is goes one each idle = absurd idle
+struck playout before line Rejected is goes one each idle = absurd idle
 
 -- the output and the events of lines after which the run goes on, and of lines after them
 goes_first : (b more : Bool) → cond b false more ≡ true → (b ≡ false) × (more ≡ true)
@@ -272,23 +281,23 @@ events-parts playout past (line ∷ lines) later on =
     ∙ ap (λ (ends : Bool). events_after playout (record { lines = past.lines ++ line ∷ lines; events = cond ends next.events (events_after playout next lines) }) later)
     (sym parts.0)
 
-after_struck : (playout : Playout) (before : List PlayedLine) (line : PlayedLine) (later : List PlayedLine) → AreKept (before ++ line ∷ later) →
-    goes_on playout before ≡ true → IsRefusedLine playout before line line.line →
+after_struck : (playout : Playout) (before : List PlayedLine) (line : PlayedLine) (later : List PlayedLine) → AreLines (lines_played (before ++ line ∷ later)) →
+    goes_on playout before ≡ true → IsIdleLine playout before line line.line →
     IsStruck playout before line × AreLike playout (before ++ line ∷ []) before later
-after_struck playout before line later kept goes refused =
-    let parts = kept_parts before line later kept in
-    let is : IsStruck playout before line = struck playout before line line.line refl goes parts.1.1 parts.1.0
-    (λ tag. sides tag [] before (Side-none tag) parts.0) refused in
-    (is, all_like playout (before ++ line ∷ []) before later is.at parts.1.2)
+after_struck playout before line later whole goes idle =
+    let parts = line_parts before line later whole in
+    let is : IsStruck playout before line = struck playout before line line.line refl goes parts.1.0
+    (λ tag. sides tag [] before (Side-none tag) parts.0) idle in
+    (is, all_like playout (before ++ line ∷ []) before later is.at parts.1.1)
 
-pub output-struck : (playout : Playout) (before : List PlayedLine) (line : PlayedLine) (later : List PlayedLine) → AreKept (before ++ line ∷ later) →
-    goes_on playout before ≡ true → IsRefusedLine playout before line line.line →
+pub output-struck : (playout : Playout) (before : List PlayedLine) (line : PlayedLine) (later : List PlayedLine) → AreLines (lines_played (before ++ line ∷ later)) →
+    goes_on playout before ≡ true → IsIdleLine playout before line line.line →
     (rest : List ℕ)
     × (script_output playout (before ++ line ∷ later) ≡ script_output playout before ++ output_at playout before line line.line ++ rest)
     × (script_output playout (before ++ later) ≡ script_output playout before ++ rest)
 unfolding script_output output_after goes_on
-output-struck playout before line later kept goes refused =
-    let (is, like) = after_struck playout before line later kept goes refused in
+output-struck playout before line later whole goes idle =
+    let (is, like) = after_struck playout before line later whole goes idle in
     let here = output_at playout before line line.line in (
       output_after playout before later,
       output-parts playout [] before (line ∷ later) goes
@@ -298,12 +307,12 @@ output-struck playout before line later kept goes refused =
       output-parts playout [] before later goes,
     )
 
-pub events-struck : (playout : Playout) (before : List PlayedLine) (line : PlayedLine) (later : List PlayedLine) → AreKept (before ++ line ∷ later) →
-    goes_on playout before ≡ true → IsRefusedLine playout before line line.line →
+pub events-struck : (playout : Playout) (before : List PlayedLine) (line : PlayedLine) (later : List PlayedLine) → AreLines (lines_played (before ++ line ∷ later)) →
+    goes_on playout before ≡ true → IsIdleLine playout before line line.line →
     script_events playout (before ++ line ∷ later) ≡ script_events playout (before ++ later)
 unfolding script_events goes_on
-events-struck playout before line later kept goes refused =
-    let (is, like) = after_struck playout before line later kept goes refused in
+events-struck playout before line later whole goes idle =
+    let (is, like) = after_struck playout before line later whole goes idle in
     let start : Past = record { lines = []; events = [] } in
     ap (events_after playout start) (sym (append_assoc before (line ∷ []) later))
     ∙ events-parts playout start (before ++ line ∷ []) later is.at.long

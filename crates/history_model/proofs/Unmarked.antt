@@ -41,7 +41,7 @@ no_numbers tag [] n = refl
 no_numbers tag (line ∷ lines) n =
     no_number (text_by tag line.line) n (filter_map (given_up_by tag) (map unmarked lines)) (no_numbers tag lines)
 
-given_up-unmarked : (tag : Tag) (lines : List PlayedLine) → given_up_of tag (map unmarked lines) ≡ []
+pub given_up-unmarked : (tag : Tag) (lines : List PlayedLine) → given_up_of tag (map unmarked lines) ≡ []
 unfolding given_up_of
 given_up-unmarked tag lines = no_numbers tag lines 0
 

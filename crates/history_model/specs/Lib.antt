@@ -5,3 +5,4 @@ pub mod sessions
 pub mod text
 pub mod scripts
 pub mod Worked
+pub mod inner

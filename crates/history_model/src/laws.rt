@@ -9,6 +9,7 @@ pub mod places;
 pub mod placing;
 pub mod script_outputs;
 pub mod scripts;
+pub mod settings;
 pub mod stage;
 pub mod timelines;
 pub mod trails;

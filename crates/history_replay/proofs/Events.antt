@@ -27,9 +27,11 @@ use Rattle.history_model.specs.scripts.Output.{reply_output, verdict_reply}
 use Rattle.history_model.proofs.OpenBatch.{batch-begin, batch-waits, is_open-closing, is_open-other}
 use Rattle.history_model.proofs.Sides.{asked_of, own_step}
 use Rattle.history_model.proofs.Tags.{text_by-else}
-use Rattle.history_replay.specs.Replay.{IsAskedFor, IsBatchedCommand, IsPlayout, with_memory}
+use Rattle.history_model.specs.scripts.Memory.{with_memory}
+use Rattle.history_model.proofs.Besides.{same_asks}
+use Rattle.history_replay.specs.Replay.{IsAskedFor, IsBatchedCommand, IsPlayout}
 use Rattle.history_replay.specs.ReplayOutput.{event_output, waiting_output}
-use Rattle.history_replay.proofs.Playing.{At, At-as, At-said, asked_more, asked_of-other, each_tag, own_step-asks}
+use Rattle.history_replay.proofs.Playing.{At, At-as, At-said, asked_more, each_tag, own_step-asks}
 use Rattle.history_replay.proofs.Spoken.{begin_asked, begin_spoken, command_asked, command_spoken, commit_asked, commit_spoken}
 use Rattle.history_replay.proofs.Tagged.{IsSpoken}
 
@@ -57,14 +59,14 @@ pub record IsInBatch (playout : Playout) (before : List PlayedLine) (tag : Tag) 
 -- what a line asks for where a batch is open, and where none is
 step_open : (playout : Playout) (tag : Tag) (before : List PlayedLine) (text : List ℕ) (ask : Parsed)
     → line_meaning playout.config playout.names (line_of_text text) ≡ Asks ask → is_open (asked_of playout tag before) ≡ true
-    → own_step playout tag before text ≡ step_inside (batch (asked_of playout tag before)) ask
+    → own_step playout tag before text false ≡ step_inside (batch (asked_of playout tag before)) ask
 step_open playout tag before text ask meant opened =
     own_step-asks playout tag before text ask meant
     ∙ ap (λ (b : Bool). cond b (step_inside (batch (asked_of playout tag before)) ask) (step_outside ask)) opened
 
 pub step_closed : (playout : Playout) (tag : Tag) (before : List PlayedLine) (text : List ℕ) (ask : Parsed)
     → line_meaning playout.config playout.names (line_of_text text) ≡ Asks ask → is_open (asked_of playout tag before) ≡ false
-    → own_step playout tag before text ≡ step_outside ask
+    → own_step playout tag before text false ≡ step_outside ask
 step_closed playout tag before text ask meant closed =
     own_step-asks playout tag before text ask meant
     ∙ ap (λ (b : Bool). cond b (step_inside (batch (asked_of playout tag before)) ask) (step_outside ask)) closed
@@ -78,7 +80,7 @@ module _ (playout : Playout) (before : List PlayedLine) (events : List Event) (o
       → is_open (asked_of playout other (after text)) ≡ false
   others_left text other differ closed =
       let line = with_memory (Said tag text) in
-      ap is_open (asked_of-other playout other before line (text_by-else tag other line text refl differ)) ∙ closed
+      ap is_open (same_asks playout other before line (text_by-else tag other line text refl differ)) ∙ closed
 
   -- what the connection asks for next
   is_open-asked : (text : List ℕ) (ask : Parsed) → list_any is_line_end text ≡ false → line_meaning playout.config playout.names (line_of_text text) ≡ Asks ask

@@ -19,7 +19,8 @@ use Rattle.history_model.specs.scripts.Line.{ScriptLine, Said, Ticks, meaning}
 use Rattle.history_model.specs.scripts.Line as line
 use Rattle.history_model.specs.scripts.History.{Playout, PlayedLine, is_full, same_tag, server}
 use Rattle.history_model.specs.scripts.Output.{tick_output, ticks_output}
-use Rattle.history_replay.specs.Replay.{IsAccepted, IsAskedFor, IsBatchedCommand, IsConnection, IsPlayout, IsReplayable, IsWritten, script_of, with_memory}
+use Rattle.history_model.specs.scripts.Memory.{with_memory}
+use Rattle.history_replay.specs.Replay.{IsAccepted, IsAskedFor, IsBatchedCommand, IsConnection, IsPlayout, IsReplayable, IsWritten, script_of}
 use Rattle.history_replay.specs.ReplayOutput.{event_output, events_output, history_output}
 use Rattle.history_replay.proofs.Events.{none_open, batch_says, command_line_spoken, command_says}
 use Rattle.history_replay.proofs.Lines.{Says-ticks, tick_says}

@@ -10,10 +10,10 @@ use Rattle.cmd_print.proofs.Numbers.{IsBetween, number_within-between}
 use Rattle.history_model.specs.declared.limits.TheConstants.{MAX_SCRIPT_LINE_BYTES, MAX_SESSION, MAX_TICKS_PER_LINE, MAX_WORKER}
 use Rattle.history_model.specs.scripts.Line.{Comment, Rejected, addressed_parts, after_t, after_x, meaning, said_by, said_line, short_meaning, tag_of, ticks_line}
 use Rattle.history_model.specs.scripts.History.{PlayedLine, Playout, script_events}
-use Rattle.history_model.specs.scripts.Memory.{lines_played}
+use Rattle.history_model.specs.scripts.Memory.{lines_played, with_memory}
 use Rattle.history_model.proofs.Scripts.{script_kept}
 use Rattle.history_model.specs.text.History.{history_text}
-use Rattle.history_replay.specs.Replay.{IsConnection, IsPlayout, IsReplayable, NamesConnection, script_of, with_memory}
+use Rattle.history_replay.specs.Replay.{IsConnection, IsPlayout, IsReplayable, NamesConnection, script_of}
 use Rattle.history_replay.proofs.Histories.{text_plays}
 use Rattle.history_replay.proofs.Written.{script_events-written}
 

@@ -23,7 +23,7 @@ use Rattle.history_model.specs.scripts.History.{Playout}
 use Rattle.history_model.specs.scripts.Output.{reply_output}
 use Rattle.history_model.specs.sessions.Line.{LineMeaning, Blank, Wrong, Asks, asked_by, line_meaning, meaning_of_parsed, meaning_of_words, refusal_reply}
 use Rattle.history_model.specs.sessions.Session.{Step, Local, Skip, asked_by_line, asks, batch, is_begin, is_closing, is_given_up, is_open, line_steps, step_after, step_inside, step_of_meaning, step_outside, step_waiting}
-use Rattle.history_model.proofs.OpenBatch.{IsRefusal, IsSameBatch, batch-begin, batch-waits, is_open-closing, is_open-other, refused-left}
+use Rattle.history_model.proofs.OpenBatch.{IsSameBatch, LeavesBatch, batch-begin, batch-left, batch-waits, is_open-closing, is_open-other}
 use Rattle.history_model.proofs.Sessions.{asks-append, line_steps-snoc}
 use Rattle.history_replay.specs.ReplayOutput.{local_output, waiting_output}
 
@@ -79,10 +79,10 @@ module _ (playout : Playout) (tag : Tag) where
   }
 
   -- a line that is refused leaves the batch
-  left : (asked : List Parsed) (ask : Parsed) → is_open asked ≡ true → IsRefusal (step_inside (batch asked) ask) → batch (asked ++ ask ∷ []) ≡ batch asked
+  left : (asked : List Parsed) (ask : Parsed) → is_open asked ≡ true → LeavesBatch (step_inside (batch asked) ask) → batch (asked ++ ask ∷ []) ≡ batch asked
   left asked ask is refused =
       let same : IsSameBatch (asked ++ ask ∷ []) asked =
-      refused-left asked (Asks ask) (subst (λ (b : Bool). IsRefusal (cond b (step_inside (batch asked) ask) (step_outside ask))) (sym is) refused) in
+      batch-left asked (Asks ask) (subst (λ (b : Bool). LeavesBatch (cond b (step_inside (batch asked) ask) (step_outside ask))) (sym is) refused) in
       same.commands (same.opened ∙ is)
 
   closes : (asked : List Parsed) (ask : Parsed) → is_closing ask ≡ true → is_open (asked ++ ask ∷ []) ≡ true → ⊥
@@ -95,7 +95,7 @@ module _ (playout : Playout) (tag : Tag) where
     where
       refused : step_waiting (batch asked) command ≡ Local (reply.Refused 403 (command_name command)) → OpenedBy (asked ++ Stage command ∷ []) (steps ++ step_waiting (batch asked) command ∷ [])
       refused step_is =
-          let same : batch (asked ++ Stage command ∷ []) ≡ batch asked = left asked (Stage command) is (subst IsRefusal (sym step_is) tt) in
+          let same : batch (asked ++ Stage command ∷ []) ≡ batch asked = left asked (Stage command) is (subst LeavesBatch (sym step_is) tt) in
           subst (λ (s : Step). OpenedBy (asked ++ Stage command ∷ []) (steps ++ s ∷ [])) (sym step_is)
           (goes_on asked (asked ++ Stage command ∷ []) steps (Local (reply.Refused 403 (command_name command))) refl same h)
 

@@ -8,17 +8,18 @@ use Rattle.play_types.specs.declared.event.Event.{Event}
 use Rattle.play_types.specs.declared.event.Event.TheVariants as event
 use Rattle.play_types.specs.declared.event.Tag.{Tag}
 use Rattle.play_types.specs.declared.parsed.Parsed.{Parsed}
+use Rattle.history_model.specs.scripts.Memory.{with_memory}
 use Rattle.history_model.specs.sessions.Line.{Asks, line_meaning, asked_by}
 use Rattle.history_model.specs.sessions.Session.{Step, asks, is_end, line_steps, step_after, step_of_meaning}
 use Rattle.history_model.specs.scripts.Line.{Ticks, Said}
-use Rattle.history_model.specs.scripts.History.{Playout, PlayedLine, goes_on, is_kill, said_step, same_tag, script_events, step_events, stream_of, text_by, texts_of, turn_of}
+use Rattle.history_model.specs.scripts.History.{given_up_of, Playout, PlayedLine, goes_on, is_kill, said_step, same_tag, script_events, step_events, stream_of, text_by, texts_of, turn_of}
 use Rattle.history_model.specs.scripts.Output.{reply_output, script_output, step_reply, tick_output, ticks_output}
 use Rattle.history_model.proofs.Played.{no_kill}
 use Rattle.history_model.proofs.Outputs.{goes_on-none, goes_on-snoc, script_events-none, script_events-snoc, script_output-none, script_output-snoc}
+use Rattle.history_model.proofs.Besides.{same_ended}
 use Rattle.history_model.proofs.Sides.{Side, Side-none, Side-other, Side-said, asked_of, asked_of-said, has_ended, has_ended-said, own_step, said_step-own}
 use Rattle.history_model.proofs.Streams.{stream_of-other}
 use Rattle.history_model.proofs.Tags.{same_tag-equal, text_by-else, text_by-own}
-use Rattle.history_replay.specs.Replay.{with_memory}
 
 -- after these lines the run goes on, they made these events, this was written, and no connection has ended
 pub record At (playout : Playout) (before : List PlayedLine) (events : List Event) (output : List ℕ) : Type 0 where
@@ -29,7 +30,7 @@ pub record At (playout : Playout) (before : List PlayedLine) (events : List Even
   pub running : (tag : Tag) → has_ended playout tag before ≡ false
 
 none_ended : (playout : Playout) (tag : Tag) → has_ended playout tag [] ≡ false
-unfolding line_steps stream_of texts_of
+unfolding line_steps stream_of texts_of given_up_of
 none_ended playout tag = refl
 
 pub At-none : (playout : Playout) → At playout [] [] []
@@ -45,17 +46,6 @@ pub At-as : (playout : Playout) (before : List PlayedLine) (events same : List E
     → At playout before events output → At playout before same text
 At-as playout before events same output text e o h = subst₂ (At playout before) e o h
 
--- a line of no connection leaves what was asked for
-pub asked_of-other : (playout : Playout) (tag : Tag) (before : List PlayedLine) (line : PlayedLine) → text_by tag line.line ≡ None
-    → asked_of playout tag (before ++ line ∷ []) ≡ asked_of playout tag before
-asked_of-other playout tag before line other =
-    ap (λ st. asks playout.config playout.names [] (lines_of st)) (stream_of-other tag before line other)
-
-has_ended-other : (playout : Playout) (tag : Tag) (before : List PlayedLine) (line : PlayedLine) → text_by tag line.line ≡ None
-    → has_ended playout tag (before ++ line ∷ []) ≡ has_ended playout tag before
-has_ended-other playout tag before line other =
-    ap (λ st. list_any is_end (line_steps playout.config playout.names [] (lines_of st))) (stream_of-other tag before line other)
-
 -- ticks of one line
 pub At-ticks : (playout : Playout) (before : List PlayedLine) (events : List Event) (output : List ℕ) (count : ℕ) → At playout before events output
     → At playout (before ++ with_memory (Ticks count) ∷ []) (events ++ replicate count event.Tick) (output ++ ticks_output playout events count)
@@ -66,7 +56,7 @@ At-ticks playout before events output count h =
       made = script_events-snoc playout before line h.goes ∙ ap (λ es. es ++ replicate count event.Tick) h.made;
       wrote = script_output-snoc playout before line h.goes ∙ (λ i. h.wrote i ++ ticks_output playout (h.made i) count);
       sides = λ tag. Side-other tag before line refl (h.sides tag);
-      running = λ tag. has_ended-other playout tag before line refl ∙ h.running tag;
+      running = λ tag. same_ended playout tag before line refl ∙ h.running tag;
     }
 
 -- what is so for a connection and for each other one is so for all
@@ -77,15 +67,15 @@ each_tag P tag other false is own else_ = else_ is
 -- a connection's line
 module _ (playout : Playout) (before : List PlayedLine) (events : List Event) (output : List ℕ) (h : At playout before events output) where
   -- its step, where it is one
-  pub step_said : (tag : Tag) (text : List ℕ) (step : Step) → list_any is_line_end text ≡ false → own_step playout tag before text ≡ step
+  pub step_said : (tag : Tag) (text : List ℕ) (step : Step) → list_any is_line_end text ≡ false → own_step playout tag before text false ≡ step
       → said_step playout before (with_memory (Said tag text)) tag ≡ Some step
   step_said tag text step one is =
       let line = with_memory (Said tag text) in
-      said_step-own playout tag before line text (text_by-own tag line text refl) one refl (h.sides tag)
-      ∙ ap (λ (b : Bool). cond b None (Some (own_step playout tag before text))) (h.running tag)
+      said_step-own playout tag before line text (text_by-own tag line text refl) one (h.sides tag)
+      ∙ ap (λ (b : Bool). cond b None (Some (own_step playout tag before text false))) (h.running tag)
       ∙ ap Some is
 
-  pub At-said : (tag : Tag) (text : List ℕ) (step : Step) → list_any is_line_end text ≡ false → own_step playout tag before text ≡ step → is_end step ≡ false
+  pub At-said : (tag : Tag) (text : List ℕ) (step : Step) → list_any is_line_end text ≡ false → own_step playout tag before text false ≡ step → is_end step ≡ false
       → At playout (before ++ with_memory (Said tag text) ∷ [])
       (events ++ step_events (turn_of playout events (with_memory (Said tag text)) tag) (Some step))
       (output ++ reply_output playout tag (step_reply (turn_of playout events (with_memory (Said tag text)) tag) (Some step)))
@@ -100,13 +90,13 @@ module _ (playout : Playout) (before : List PlayedLine) (events : List Event) (o
             script_output-snoc playout before line h.goes
             ∙ (λ i. h.wrote i ++ reply_output playout tag (step_reply (turn_of playout (h.made i) line tag) (own i)));
         sides = λ other.
-            each_tag (λ t. Side t (before ++ line ∷ [])) tag other (same_tag other tag) refl (Side-said tag before line text said one refl (h.sides tag))
+            each_tag (λ t. Side t (before ++ line ∷ [])) tag other (same_tag other tag) refl (Side-said tag before line text said one (h.sides tag))
             (λ differ. Side-other other before line (text_by-else tag other line text refl differ) (h.sides other));
         running = λ other.
             each_tag (λ t. has_ended playout t (before ++ line ∷ []) ≡ false) tag other (same_tag other tag) refl
             (has_ended-said playout tag before line text said one (h.sides tag)
             ∙ (λ i. h.running tag i || is_end (is i)) ∙ goes)
-            (λ differ. has_ended-other playout other before line (text_by-else tag other line text refl differ) ∙ h.running other);
+            (λ differ. same_ended playout other before line (text_by-else tag other line text refl differ) ∙ h.running other);
       }
 
   -- what the connection asked for then
@@ -119,7 +109,7 @@ module _ (playout : Playout) (before : List PlayedLine) (events : List Event) (o
       ∙ ap (λ m. asked_of playout tag before ++ cons_option (asked_by m) []) meant
 
 pub own_step-asks : (playout : Playout) (tag : Tag) (before : List PlayedLine) (text : List ℕ) (ask : Parsed)
-    → line_meaning playout.config playout.names (line_of_text text) ≡ Asks ask → own_step playout tag before text ≡ step_after (asked_of playout tag before) ask
+    → line_meaning playout.config playout.names (line_of_text text) ≡ Asks ask → own_step playout tag before text false ≡ step_after (asked_of playout tag before) ask
 own_step-asks playout tag before text ask meant = ap (step_of_meaning (asked_of playout tag before)) meant
 
 -- ticks in two parts

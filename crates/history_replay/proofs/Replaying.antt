@@ -19,11 +19,13 @@ use Rattle.history_model.specs.text.Commands.{command_text}
 use Rattle.history_model.specs.scripts.Line.{Said, Ticks}
 use Rattle.history_model.specs.scripts.History.{Playout, PlayedLine, is_full}
 use Rattle.history_model.specs.scripts.Output.{reply_output, ticks_output}
-use Rattle.history_replay.specs.Replay.{IsAskedFor, IsBatchedCommand, IsPlayout, with_memory}
+use Rattle.history_model.specs.scripts.Memory.{with_memory}
+use Rattle.history_model.proofs.Besides.{same_asks}
+use Rattle.history_replay.specs.Replay.{IsAskedFor, IsBatchedCommand, IsPlayout}
 use Rattle.history_replay.specs.ReplayOutput.{event_output, waiting_output}
 use Rattle.history_replay.proofs.Events.{At-begin, At-command, At-commit, IsClosed, all_wait, batch_says, closed-command, closed-commit, command_line_asked, command_line_spoken, command_says, open-begin}
 use Rattle.history_replay.proofs.Lines.{tick_says}
-use Rattle.history_replay.proofs.Playing.{At, At-full_lines, At-ticks, asked_of-other, ticks_output-add}
+use Rattle.history_replay.proofs.Playing.{At, At-full_lines, At-ticks, ticks_output-add}
 
 -- the run goes on after these lines, and no batch is open
 pub record AtRest (playout : Playout) (before : List PlayedLine) (events : List Event) (output : List ℕ) : Type 0 where
@@ -33,7 +35,7 @@ pub record AtRest (playout : Playout) (before : List PlayedLine) (events : List 
 -- lines of ticks open no batch
 closed-ticks : (playout : Playout) (before : List PlayedLine) (count : ℕ) → IsClosed playout before → IsClosed playout (before ++ with_memory (Ticks count) ∷ [])
 closed-ticks playout before count h = record {
-  each = λ tag. ap is_open (asked_of-other playout tag before (with_memory (Ticks count)) refl) ∙ h.each tag;
+  each = λ tag. ap is_open (same_asks playout tag before (with_memory (Ticks count)) refl) ∙ h.each tag;
 }
 
 closed-full_lines : (playout : Playout) (before : List PlayedLine) (most times : ℕ) → IsClosed playout before

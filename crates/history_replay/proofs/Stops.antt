@@ -15,7 +15,8 @@ use Rattle.history_model.specs.scripts.History.{Playout, PlayedLine, ends_at, go
 use Rattle.history_model.specs.scripts.Output.{reply_output, script_output, step_reply}
 use Rattle.history_model.specs.text.History.{stop_line}
 use Rattle.history_model.proofs.Outputs.{script_events-snoc, script_output-snoc}
-use Rattle.history_replay.specs.Replay.{IsConnection, with_memory}
+use Rattle.history_model.specs.scripts.Memory.{with_memory}
+use Rattle.history_replay.specs.Replay.{IsConnection}
 use Rattle.history_replay.specs.ReplayOutput.{event_output}
 use Rattle.history_replay.proofs.Events.{step_closed}
 use Rattle.history_replay.proofs.Lines.{Says-stop}

@@ -15,7 +15,7 @@ use Rattle.play_types.specs.declared.event.Tag.{Tag}
 use Rattle.play_types.specs.declared.parsed.Parsed.TheVariants.{Stage}
 use Rattle.history_model.specs.commands.Command.{parsed}
 use Rattle.history_model.specs.declared.limits.TheConstants.{MAX_SESSION, MAX_WORKER}
-use Rattle.history_model.specs.scripts.History.{PlayedLine, Playout, server}
+use Rattle.history_model.specs.scripts.History.{Playout, server}
 use Rattle.history_model.specs.scripts.Line.{ScriptLine, Comment, Ticks, Said, Rejected, meaning}
 use Rattle.history_model.specs.scripts.Line as line
 use Rattle.history_model.specs.sessions.Session.{Step, Local, Ask, AskBatch, KillServer, EndConnection, Skip}
@@ -70,10 +70,6 @@ pub record IsReplayable (playout : Playout) (history : List Event) : Type 0 wher
   pub written : All (IsWritten playout) history
   -- the journal has a place for each command
   pub within : held history ≤ playout.config.journal_limit
-
--- a line that is played with memory for what it asks
-abbrev pub with_memory : ScriptLine → PlayedLine
-with_memory said = record { line = said; given_up = false; no_memory = false }
 
 -- what the lines of a text say
 abbrev pub script_of : List ℕ → List ScriptLine

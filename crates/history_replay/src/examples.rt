@@ -5,7 +5,8 @@ ghost use Rattle.history_model.specs.Worked.{one_pixel};
 ghost use Rattle.history_model.specs.scripts.History.{script_events};
 ghost use Rattle.history_model.specs.scripts.Output.{script_output};
 ghost use Rattle.history_model.specs.text.History.{history_text};
-ghost use Rattle.history_replay.specs.Replay.{script_of, with_memory};
+ghost use Rattle.history_model.specs.scripts.Memory.{with_memory};
+ghost use Rattle.history_replay.specs.Replay.{script_of};
 ghost use Rattle.history_replay.specs.Worked.{worked_history, worked_text};
 
 /// The text of the history, and the history of the text: a red picture, whose opacity of one half waits for the commit while two

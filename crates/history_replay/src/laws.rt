@@ -4,11 +4,11 @@ ghost use Rattle.std.specs.List.{list_any};
 ghost use Rattle.play_types.specs.History.{is_stop};
 ghost use Rattle.play_types.specs.declared.event.Event.{Event};
 ghost use Rattle.history_model.specs.scripts.History.{PlayedLine, Playout, goes_on, script_events};
-ghost use Rattle.history_model.specs.scripts.Memory.{IsWithoutWant, lines_played};
+ghost use Rattle.history_model.specs.scripts.Memory.{HasMemory, lines_played, with_memory};
 ghost use Rattle.history_model.specs.scripts.Output.{script_output};
 ghost use Rattle.history_model.specs.sessions.Session.{steps};
 ghost use Rattle.history_model.specs.text.History.{history_text};
-ghost use Rattle.history_replay.specs.Replay.{IsAccepted, IsPlayout, IsReplayable, IsWrittenStep, NamesConnection, script_of, with_memory};
+ghost use Rattle.history_replay.specs.Replay.{IsAccepted, IsPlayout, IsReplayable, IsWrittenStep, NamesConnection, script_of};
 ghost use Rattle.history_replay.specs.ReplayOutput.{history_output};
 
 /// The text of a history that a server can have written is a script with this history.
@@ -26,17 +26,19 @@ pub fn text_plays_its_history()
         goes_on playout (map with_memory (script_of (history_text playout.names history))) ≡ not (list_any is_stop history) }
 {}
 
-/// So does each run of the text in whose output nothing says that memory ran out.
+/// So does each run of the text of which no reply says that memory ran out. There is such a run: the one with memory for all that is
+/// asked.
 ///
 /// Which lines a session gives up, and which commands the stage has no memory for, is free where memory runs out: such a line is
 /// answered 500, and such a command 501.
 pub fn replays_have_the_history()
     ensures history { (playout : Playout) (history : List Event) (played : List PlayedLine) → IsReplayable playout history →
-        lines_played played ≡ script_of (history_text playout.names history) → IsWithoutWant (script_output playout played) →
+        lines_played played ≡ script_of (history_text playout.names history) → HasMemory playout played →
         script_events playout played ≡ history }
     ensures output { (playout : Playout) (history : List Event) (played : List PlayedLine) → IsReplayable playout history →
-        lines_played played ≡ script_of (history_text playout.names history) → IsWithoutWant (script_output playout played) →
+        lines_played played ≡ script_of (history_text playout.names history) → HasMemory playout played →
         script_output playout played ≡ history_output playout history }
+    ensures some { (playout : Playout) (text : List ℕ) → HasMemory playout (map with_memory (script_of text)) }
 {}
 
 /// Each history that a script makes can be played again from its text, whatever memory did: what a connection asks the stage for,

@@ -1,6 +1,6 @@
 //! Two threads that share a stage, with ample memory.
 ghost use Rattle.std.specs.Prelude.{◌≡◌, IfOk, IfSome, length};
-ghost use Rattle.stage_core.specs.Served.{IsServed};
+ghost use Rattle.history_model.specs.commands.Channels.{IsServed};
 
 use crate::config::one_channel;
 use play_types::{Cmd, Event, Place, Spec, Take, Trans};

@@ -1,6 +1,6 @@
 //! Two channels over two pulses, with ample memory. The bytes were worked out by hand.
 ghost use Rattle.std.specs.Prelude.{◌≡◌, [], IfOk, IfSome, length, vec_len};
-ghost use Rattle.stage_core.specs.Served.{IsServed};
+ghost use Rattle.history_model.specs.commands.Channels.{IsServed};
 ghost use Rattle.play_ticker.specs.Frames.{AreBlank};
 
 use band_render::Renderer;

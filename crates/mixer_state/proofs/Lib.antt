@@ -1,4 +1,7 @@
 pub mod Numbers
-pub mod Places
-pub mod Courses
+pub mod Exchanged
+pub mod Ways
+pub mod Tables
+pub mod Swaps
+pub mod Kept
 pub mod Pasts

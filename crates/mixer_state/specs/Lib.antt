@@ -1,5 +1,5 @@
 pub mod Course
+pub mod Entries
 pub mod Mixer
 pub mod Past
-pub mod Kept
 pub mod inner

@@ -3,7 +3,8 @@ use Rattle.std.specs.Prelude.{◌≡◌, ℕ, ◌-◌, ◌≤◌, List, [], ℤ,
 use Rattle.play_types.specs.Place.{PlaceView}
 use Rattle.play_types.specs.Setting.{SettingView}
 use Rattle.play_types.specs.declared.setting.Prop.{Prop}
-use Rattle.mixer_state.specs.Course.{Tuned, course_in, numbers_at}
+use Rattle.mixer_state.specs.Course.{numbers_at}
+use Rattle.mixer_state.specs.Entries.{Entries, course_at, table_of}
 
 -- the mixer values of all places of a number of channels, and the settings that wait
 pub record MixerView : Type 0 where
@@ -13,14 +14,14 @@ pub record MixerView : Type 0 where
   pub spare : ℕ
   -- the ticks at the latest set or commit, 0 before the first
   pub latest : ℕ
-  -- the properties of places that were set and not reset
-  pub tuned : List Tuned
+  -- the places that were set and not reset, with the courses of their properties
+  pub tuned : Entries
   -- for each channel the settings that wait, the last one first
   pub waiting : List (List SettingView)
 
 -- the value of a property of a place after `t` ticks, which are not below the latest, in millionths
 unfoldable pub values_of : MixerView → PlaceView → Prop → ℕ → List ℤ
-values_of mixer place prop t = numbers_at (course_in mixer.tuned place prop) t
+values_of mixer place prop t = numbers_at (course_at (table_of mixer.tuned) place prop) t
 
 -- the settings of a channel that wait, the last one first
 abbrev pub waiting_on : MixerView → ℕ → List SettingView

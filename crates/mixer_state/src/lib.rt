@@ -7,9 +7,11 @@
 #![tactic(auto)]
 
 mod course;
-mod kept;
+mod courses;
 pub mod laws;
+mod layers;
 mod mixer;
+mod places;
 mod waiting;
 
 pub use mixer::Mixer;

@@ -12,8 +12,8 @@ ghost use Rattle.history_model.specs.stage.Value.{value_at};
 ghost use Rattle.mixer_state.specs.Mixer.{IsAsBefore, UsesNoMemory, values_of, waiting_on};
 ghost use Rattle.mixer_state.specs.Past.{Represents, TakesCommand};
 
-use crate::course::{number_count, value_of};
-use crate::kept::{KeptSetting, push_all, swap_channels, swap_layers};
+use crate::courses::number_count;
+use crate::places::Places;
 use crate::waiting::WaitingList;
 use play_types::{MAX_WAITING_SETTINGS, Micros, Place, Prop, Setting};
 use std::alloc::{AllocError, Global};
@@ -29,8 +29,7 @@ use std::marker::Model;
 /// [`Mixer::swap_layers`] may use it, and only where it is used up do they give an [`AllocError`].
 #[derive(Debug, Drop)]
 pub struct Mixer {
-    // The settings that took place and were not reset, in the order in which they came.
-    settings: Vec<KeptSetting>,
+    places: Places,
     // One list for each channel.
     waiting: Vec<WaitingList>,
     // The ticks at the latest set or commit.
@@ -38,16 +37,16 @@ pub struct Mixer {
 }
 
 impl Model for Mixer {
-    ghost use Rattle.std.specs.Prelude.{◌-◌, length};
-    ghost use Rattle.std.specs.Vec.{vec_capacity, vec_len};
+    ghost use Rattle.std.specs.Prelude.{length};
     ghost use Rattle.mixer_state.specs.Mixer.{MixerView};
-    ghost use Rattle.mixer_state.specs.Kept.{AreKept, tuned_by, waiting_lists};
+    ghost use Rattle.mixer_state.specs.Entries.{waiting_lists};
+    ghost use Rattle.mixer_state.specs.inner.Kept.{IsKept};
 
     ghost Value = { MixerView };
 
-    ghost view = { λ m. record { channels = length m.waiting.items; spare = vec_capacity m.settings - vec_len m.settings; latest = m.latest; tuned = tuned_by m.settings.items; waiting = waiting_lists m.waiting.items } };
+    ghost view = { λ m. record { channels = length m.waiting.items; spare = m.places.spare; latest = m.latest; tuned = m.places.entries; waiting = waiting_lists m.waiting.items } };
 
-    ghost invariant = { λ m. AreKept 0 m.settings.items m.latest };
+    ghost invariant = { λ m. IsKept m.places m.latest m.waiting.items };
 }
 
 impl Mixer {
@@ -57,12 +56,13 @@ impl Mixer {
         ensures channels { IfOk result (λ mixer. mixer.channels ≡ channels) }
         ensures acts { IfOk result (λ mixer. (ticks : ℕ) → Represents mixer [] ticks) }
     {
+        let places = Places::new(alloc, channels)?;
         let mut waiting = Vec::with_capacity(alloc, usize::from(channels))?;
         for _channel in 0..channels {
             waiting.push(WaitingList::new(alloc)?)?;
         }
         Ok(Mixer {
-            settings: Vec::new(alloc),
+            places,
             waiting,
             latest: 0,
         })
@@ -82,7 +82,7 @@ impl Mixer {
         ensures memory { 0 < self.old.spare → IsOk result }
         ensures spare { self.old.spare ≤ self.new.spare + 1 }
     {
-        self.settings.push(KeptSetting::new(*setting, ticks))?;
+        self.places.start(setting, ticks)?;
         self.latest = ticks;
         Ok(())
     }
@@ -122,7 +122,7 @@ impl Mixer {
         ensures spare { self.old.spare ≤ self.new.spare + length (waiting_on self.old channel) }
     {
         let waiting = &mut self.waiting[usize::from(channel) - 1];
-        push_all(&mut self.settings, waiting.as_slice(), ticks)?;
+        self.places.start_all(channel, waiting.as_slice(), ticks)?;
         waiting.clear();
         self.latest = ticks;
         Ok(())
@@ -135,7 +135,7 @@ impl Mixer {
         ensures acts { (ticks : ℕ) → TakesCommand (ResetLayer place) ticks self.old self.new }
         ensures memory { UsesNoMemory self.old self.new }
     {
-        self.settings.retain(|kept| !kept.is_at(place));
+        self.places.remove(place);
     }
 
     /// Sets all values of the places of a channel to their defaults at once. What waits stays. The channel is one of the
@@ -145,7 +145,7 @@ impl Mixer {
         ensures acts { (ticks : ℕ) → TakesCommand (ResetChannel channel) ticks self.old self.new }
         ensures memory { UsesNoMemory self.old self.new }
     {
-        self.settings.retain(|kept| kept.channel != channel);
+        self.places.clear(channel);
     }
 
     /// Exchanges the values of two places. What waits stays where it is. The channels are the mixer's. Where memory runs
@@ -161,8 +161,7 @@ impl Mixer {
         ensures memory { 0 < self.old.spare → IsOk result }
         ensures spare { self.old.spare ≤ self.new.spare + 1 }
     {
-        swap_layers(self.settings.as_mut_slice(), a, b);
-        Ok(())
+        self.places.swap(a, b)
     }
 
     /// Exchanges the values of all places of two channels. What waits stays where it is. The channels are the mixer's. It
@@ -173,7 +172,7 @@ impl Mixer {
         ensures acts { (ticks : ℕ) → TakesCommand (SwapChannels a b true) ticks self.old self.new }
         ensures memory { UsesNoMemory self.old self.new }
     {
-        swap_channels(self.settings.as_mut_slice(), a, b);
+        self.places.swap_channels(a, b);
     }
 
     /// Returns the value of a property of a place after `ticks` ticks, in millionths and in the property's range. The
@@ -187,7 +186,7 @@ impl Mixer {
         ensures range { AreValues prop result.values }
         ensures four { length (values_of self.now place prop ticks) ≡ 4 }
     {
-        let values = value_of(self.settings.as_slice(), place, prop, ticks);
+        let values = self.places.course(place, prop).value(prop, ticks);
         Micros::new(values, number_count(prop)).unwrap()
     }
 
@@ -208,6 +207,6 @@ impl Mixer {
         ensures same { IsAsBefore self.old self.new }
         ensures spare { self.old.spare ≤ self.new.spare }
     {
-        self.settings.reserve(places as usize)
+        self.places.reserve(places as usize)
     }
 }

@@ -7,7 +7,7 @@ ghost use Rattle.play_outside.specs.declared.devices.Devices.{Devices};
 ghost use Rattle.play_outside.specs.declared.sink.Sent.TheVariants as sent;
 ghost use Rattle.clip_format.specs.Table.{media_names};
 ghost use Rattle.history_model.specs.scripts.History.{PlayedLine, script_events};
-ghost use Rattle.history_model.specs.scripts.Memory.{IsWithoutWant, lines_played};
+ghost use Rattle.history_model.specs.scripts.Memory.{HasMemory, lines_played};
 ghost use Rattle.history_model.specs.scripts.Output.{script_output};
 ghost use Rattle.history_model.specs.text.History.{history_text};
 ghost use Rattle.history_replay.specs.Replay.{IsPlayout, IsReplayable, script_of};
@@ -29,8 +29,7 @@ use play_outside::{Clock, Listener, Sink};
 ///
 /// There are as many doors as the configuration has connections, and each name of a clip can be printed. The text is what the
 /// output for the history has taken, where it was new and did not fail. Each run of the text as a script on the same configuration
-/// and clips, in whose output nothing says that memory ran out, has the history of the first run, and writes its answers and its
-/// frames.
+/// and clips, of which no reply says that memory ran out, has the history of the first run, and writes its answers and its frames.
 pub fn runs_are_played_again<C: Clock, D: Listener, O: Sink>()
     ensures replayable { (program : Program) (end : ServeEnd) (devices : Devices C D O × Devices C D O) (digests : Bool)
         (run : HasRun (record { clock = C.state; door = D.state; out = O.state }) D.Line.state program end devices) →
@@ -44,13 +43,13 @@ pub fn runs_are_played_again<C: Clock, D: Listener, O: Sink>()
         (run : HasRun (record { clock = C.state; door = D.state; out = O.state }) D.Line.state program end devices) →
         length devices.0.doors.items ≡ program.config.connections → IsPlayout (playout_of program digests) →
         (played : List PlayedLine) → lines_played played ≡ script_of (history_text (media_names program.media) run.history) →
-        IsWithoutWant (script_output (playout_of program digests) played) →
+        HasMemory (playout_of program digests) played →
         script_events (playout_of program digests) played ≡ run.history }
     ensures output { (program : Program) (end : ServeEnd) (devices : Devices C D O × Devices C D O) (digests : Bool)
         (run : HasRun (record { clock = C.state; door = D.state; out = O.state }) D.Line.state program end devices) →
         length devices.0.doors.items ≡ program.config.connections → IsPlayout (playout_of program digests) →
         (played : List PlayedLine) → lines_played played ≡ script_of (history_text (media_names program.media) run.history) →
-        IsWithoutWant (script_output (playout_of program digests) played) →
+        HasMemory (playout_of program digests) played →
         script_output (playout_of program digests) played ≡ history_output (playout_of program digests) run.history }
 {}
 
@@ -84,8 +83,8 @@ pub fn frames_are_written_again()
 /// So it is with each run of the program that ends with status 0.
 ///
 /// The site gave a door for each connection, and a new output for the history. Where this output tells its bytes, it holds the text
-/// of the history. Each run of the text as a script on the same configuration and clips, in whose output nothing says that memory ran
-/// out, has the history of the run, and writes its answers and its frames.
+/// of the history. Each run of the text as a script on the same configuration and clips, of which no reply says that memory ran out,
+/// has the history of the run, and writes its answers and its frames.
 pub fn programs_are_played_again<C: Clock, D: Listener, O: Sink>()
     ensures text { (line : List (List ℕ)) (moments : AtSite C D O × AtSite C D O)
         (run : HasServedClients (record { clock = C.state; door = D.state; out = O.state }) D.Line.state line serve.Ended moments) →
@@ -95,12 +94,12 @@ pub fn programs_are_played_again<C: Clock, D: Listener, O: Sink>()
         (run : HasServedClients (record { clock = C.state; door = D.state; out = O.state }) D.Line.state line serve.Ended moments) →
         IsPlayout (playout_of (program_of run.setup) digests) →
         (played : List PlayedLine) → lines_played played ≡ script_of (history_text (media_names run.setup.media) run.served.serves.history) →
-        IsWithoutWant (script_output (playout_of (program_of run.setup) digests) played) →
+        HasMemory (playout_of (program_of run.setup) digests) played →
         script_events (playout_of (program_of run.setup) digests) played ≡ run.served.serves.history }
     ensures output { (line : List (List ℕ)) (moments : AtSite C D O × AtSite C D O) (digests : Bool)
         (run : HasServedClients (record { clock = C.state; door = D.state; out = O.state }) D.Line.state line serve.Ended moments) →
         IsPlayout (playout_of (program_of run.setup) digests) →
         (played : List PlayedLine) → lines_played played ≡ script_of (history_text (media_names run.setup.media) run.served.serves.history) →
-        IsWithoutWant (script_output (playout_of (program_of run.setup) digests) played) →
+        HasMemory (playout_of (program_of run.setup) digests) played →
         script_output (playout_of (program_of run.setup) digests) played ≡ history_output (playout_of (program_of run.setup) digests) run.served.serves.history }
 {}

@@ -25,7 +25,7 @@ use Rattle.play_session.specs.declared.step.Step.{Step}
 use Rattle.play_session.specs.declared.step.Step.TheVariants as step
 use Rattle.run_script.specs.declared.clients.Client.{Client}
 use Rattle.run_script.specs.inner.Clients.{IsServed, ServesConnection, NextText, played_text, gave_up, kept_session, progress_of, session_batch, ClientTakesLine}
-use Rattle.run_script.proofs.OneLine.{IsOneLine}
+use Rattle.history_model.proofs.OneLines.{HasNoLineEnd}
 
 -- a tag is the same as itself
 pub same_number : (n : ℕ) → (n == n) ≡ true
@@ -40,7 +40,7 @@ text_by-said tag text = ap (λ (b : Bool). cond b (Some text) None) (same_tag-re
 text_by-other : (tag other : Tag) (text : List ℕ) → same_tag tag other ≡ false → text_by tag (Said other text) ≡ None
 text_by-other tag other text differ = ap (λ (b : Bool). cond b (Some text) None) differ
 
-lines_more : (stream text : List ℕ) → IsEnded stream → IsOneLine text → lines_of ((stream ++ text) ++ 13 ∷ 10 ∷ []) ≡ lines_of stream ++ line_of_text text ∷ []
+lines_more : (stream text : List ℕ) → IsEnded stream → HasNoLineEnd text → lines_of ((stream ++ text) ++ 13 ∷ 10 ∷ []) ≡ lines_of stream ++ line_of_text text ∷ []
 lines_more stream text whole none =
     ap lines_of (append_assoc stream text (13 ∷ 10 ∷ []))
     ∙ lines_of-append stream (text ++ 13 ∷ 10 ∷ []) whole
@@ -119,7 +119,7 @@ step_kept step.Skip now = refl
 step_kept step.NeedMore now = refl
 
 -- a line was taken, and its step was given
-pub spoken : (next : NextText) (client new : Client) (found : Step) (now : SessionState) → ServesConnection next.playout client next.played → IsOneLine next.text
+pub spoken : (next : NextText) (client new : Client) (found : Step) (now : SessionState) → ServesConnection next.playout client next.played → HasNoLineEnd next.text
     → Gives next.playout.config next.playout.names found now (record (progress_of client.tag next.played) { stream = (stream_of client.tag next.played ++ next.text) ++ 13 ∷ 10 ∷ [] })
     → IsBetweenLines now → now.ended ≡ ends found → client.tag ≡ next.tag → new.tag ≡ next.tag → new.session ≡ kept_session (ends found) now
     → ClientTakesLine next (Some found) new
@@ -159,7 +159,7 @@ spoken next client new found now was none gives between ended old_tag new_tag ke
     }
 
 -- a line of a connection that has ended is passed over
-pub passed_over : (next : NextText) (client new : Client) → client.tag ≡ next.tag → new.tag ≡ next.tag → IsOneLine next.text → ServesConnection next.playout client next.played
+pub passed_over : (next : NextText) (client new : Client) → client.tag ≡ next.tag → new.tag ≡ next.tag → HasNoLineEnd next.text → ServesConnection next.playout client next.played
     → client.session ≡ None → new.session ≡ None → ClientTakesLine next None new
 unfolding said_step steps
 passed_over next client new own new_tag none serves over over_now =

@@ -1,6 +1,6 @@
 -- What a tick draws, place by place.
 use Rattle.std.proofs.Common.{◌≡◌, ℕ, ◌+◌, ◌-◌, ◌<◌, ◌≤◌, List, [], ◌∷◌, ◌++◌, length, get_or, set, take, drop, map, refl, sym, ap, ◌∙◌, arith, add-one, append_assoc, drop-cons, get_or-set_same, set-set, replicate, zero, suc}
-use Rattle.std.proofs.lemmas.List.{length-append, length-drop, length-map, length-replicate, length-take-le, get_or-append_right, get_or-drop}
+use Rattle.std.proofs.lemmas.List.{length-append, length-drop, length-map, length-replicate, length-take-le, get_or_default, get_or-append_right, get_or-drop}
 use Rattle.std.proofs.lemmas.List.Edits.{map_over_more}
 use Rattle.play_types.specs.Scene.{scene_at, with_layer}
 use Rattle.play_types.specs.declared.drawn.Drawn.{Drawn}
@@ -24,6 +24,15 @@ element_left f xs ys i d within so_far =
     ap (λ zs. get_or zs i d) so_far
     ∙ get_or-append_right (map f (take i xs)) (drop i xs) i i d count (omega arith)
     ∙ get_or-drop i xs (i - i) d ∙ ap (λ (n : ℕ). get_or xs n d) here
+
+-- and it is what is read there, however often
+module _ {X : Type 0} (f : X → X) (xs ys : List X) (at : ℕ) (within : at < length xs) (kept : length ys ≡ length xs)
+    (so_far : ys ≡ map f (take at xs) ++ drop at xs) where
+  pub read_again : (d e : X) → get_or ys at e ≡ get_or ys at d
+  read_again d e = get_or_default ys at e d (omega (arith, within, kept))
+
+  pub read_here : (d : X) → get_or xs at (get_or ys at d) ≡ get_or ys at d
+  read_here d = sym (read_again (get_or ys at d) d ∙ element_left f xs ys at (get_or ys at d) within so_far)
 
 -- one layer more in the scene of a channel
 pub with_layers-more : (channel : ℕ) (layers : List Drawn) (drawn : Drawn) (scenes : List (List Drawn)) → channel - 1 < length scenes →

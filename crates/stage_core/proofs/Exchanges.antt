@@ -13,8 +13,8 @@ use Rattle.history_model.specs.stage.Life.{Life}
 use Rattle.history_model.specs.stage.Live.{is_live}
 use Rattle.history_model.specs.stage.Places.{ArePlaces, Places, in_front, is_over_limit, standing, with_place}
 use Rattle.history_model.proofs.places.Lists.{ArePlaces-with_place, same_places, standing-with_place, with_place-at, with_place-before, with_place-behind}
-use Rattle.stage_core.specs.Board.{Channels, is_some_over, life_at, places_of, with_exchanged, with_life}
-use Rattle.stage_core.proofs.Boards.{length-with_life, places_of-with_life}
+use Rattle.stage_core.specs.LiveState.{Channels, is_some_over, life_at, places_of, with_exchanged, with_life}
+use Rattle.stage_core.proofs.LiveStates.{length-with_life, places_of-with_life}
 
 -- where no channel has too many, none of them has
 pub one_within : (channels : Channels) → is_some_over channels ≡ false → (i : ℕ) → i < length channels → is_over_limit (get_or channels i []) ≡ false
@@ -127,11 +127,15 @@ module _ (channels : Channels) (a b : PlaceView) (first : IsConfigured (length c
       (second.0, omega (arith, second.1, count))
 
   -- an exchange is undone, one place after the other
-  pub half_undone : ArePlaces (places_of b.channel channels) →
+  half_undone : ArePlaces (places_of b.channel channels) →
       with_life b (life_at b channels) (with_exchanged a b channels) ≡ with_life a (life_at b channels) channels
   half_undone q =
       ap (λ (s : Life). with_life b s (with_life b (life_at a channels) (with_life a (life_at b channels) channels))) (sym (life_at-middle q))
       ∙ put_back_at (with_life a (life_at b channels) channels) b (life_at a channels) configured-middle (ArePlaces-middle q)
+
+  pub undone : ArePlaces (places_of b.channel channels) →
+      with_life a (life_at a channels) (with_life b (life_at b channels) (with_exchanged a b channels)) ≡ channels
+  undone q = ap (with_life a (life_at a channels)) (half_undone q) ∙ put_back_at channels a (life_at b channels) first p
 
   pub room_between : is_some_over channels ≡ false → length (places_of b.channel (with_life a (life_at b channels) channels)) ≤ MAX_LIVE_LAYERS + 1
   room_between none =
@@ -158,3 +162,11 @@ room_after channels at life c none =
     let one : length (with_place places at.layer life) ≤ length places + 1 = length-one_more places at.layer life in
     let few : length places ≤ MAX_LIVE_LAYERS = few_at channels at.channel none c in
     omega (arith, here, one, few)
+
+-- so has one where half of an exchange is undone
+pub room_half_undone : (channels : Channels) (a b : PlaceView) → IsConfigured (length channels) a.channel → IsConfigured (length channels) b.channel →
+    ArePlaces (places_of a.channel channels) → ArePlaces (places_of b.channel channels) → is_some_over channels ≡ false →
+    length (places_of a.channel (with_life b (life_at b channels) (with_exchanged a b channels))) ≤ MAX_LIVE_LAYERS + 2
+room_half_undone channels a b first second p q none =
+    subst (λ (after : Channels). length (places_of a.channel after) ≤ MAX_LIVE_LAYERS + 2) (sym (half_undone channels a b first second p q))
+    (room_after channels a (life_at b channels) first none)

@@ -1,4 +1,4 @@
--- What a board keeps through each event.
+-- What a live state keeps through each event.
 use Rattle.std.proofs.Common.{◌≡◌, ℕ, ◌≤◌, Bool, true, false, ◌||◌, inl, inr, List, [], ◌∷◌, ◌++◌, length, refl, sym, ap, ◌∙◌, subst, arith}
 use Rattle.std.proofs.lemmas.Bool.{cases_Bool, cond-true, cond-false, false≢true}
 use Rattle.play_types.specs.History.{ticks}
@@ -12,9 +12,9 @@ use Rattle.history_model.specs.stage.Act.{Act, acts_of}
 use Rattle.history_model.specs.stage.Acts.{acts, is_refused}
 use Rattle.history_model.specs.stage.StageState.{IsWithinLimits, StageState, acts_after_all, is_refused_by, some_is_refused, stage_state, state_after, state_after_all}
 use Rattle.history_model.specs.stage.StageHistory.{stage_after}
-use Rattle.stage_core.specs.Served.{IsServed}
-use Rattle.stage_core.specs.Board.{BoardView, ShowsStage, board_after, board_after_all, is_refused_on, some_is_refused_on}
-use Rattle.stage_core.specs.Kept.{AreServed, IsBoardOf}
+use Rattle.history_model.specs.commands.Channels.{IsServed}
+use Rattle.stage_core.specs.LiveState.{LiveView, ShowsStage, live_with, live_with_all, is_refused_on, some_is_refused_on}
+use Rattle.stage_core.specs.Kept.{AreServed, IsLiveStateOf}
 use Rattle.history_model.proofs.stage.Changes.{stage_state-command}
 use Rattle.history_model.proofs.stage.Histories.{IsWithinLimits-history, acts-batch, acts-command, acts-stop, is_refused-batch, is_refused-command, stage_after-acts, stage_after-batch, stage_after-command, stage_after-stop}
 use Rattle.history_model.proofs.stage.Refusals.{IsWithinLimits-command}
@@ -50,142 +50,142 @@ AreServed-all n t [] acts h k = k
 AreServed-all n t (cmd ∷ cmds) acts h k = AreServed-all n t cmds (acts_of t cmd ++ acts) h.1 (AreServed-more n t cmd acts h.0 k)
 
 -- a command after acts that leave the stage within its limits
-tried : (n t : ℕ) (cmd : Cmd) (acts : List Act) (board : BoardView) → n ≤ MAX_CHANNELS → IsServed n cmd → IsWithinLimits (stage_state acts t) →
-    ShowsStage n board (stage_state acts t) → IsTried n board (stage_state acts t) cmd
-tried n t cmd acts board few h within shows =
+tried : (n t : ℕ) (cmd : Cmd) (acts : List Act) (live : LiveView) → n ≤ MAX_CHANNELS → IsServed n cmd → IsWithinLimits (stage_state acts t) →
+    ShowsStage n live (stage_state acts t) → IsTried n live (stage_state acts t) cmd
+tried n t cmd acts live few h within shows =
     record { shows = shows; few_channels = few; served = h; within = IsWithinLimits-command acts t cmd within }
 
--- a list of commands is refused by the board where the stage refuses it, and is shown where it does not
-pub record IsJudged (n t : ℕ) (cmds : List Cmd) (acts : List Act) (board : BoardView) : Type 0 where
-  pub refused : some_is_refused_on cmds board ≡ some_is_refused cmds (stage_state acts t)
-  pub shows : some_is_refused cmds (stage_state acts t) ≡ false → ShowsStage n (board_after_all cmds board) (state_after_all cmds (stage_state acts t))
+-- a list of commands is refused by the live state where the stage refuses it, and is shown where it does not
+pub record IsJudged (n t : ℕ) (cmds : List Cmd) (acts : List Act) (live : LiveView) : Type 0 where
+  pub refused : some_is_refused_on cmds live ≡ some_is_refused cmds (stage_state acts t)
+  pub shows : some_is_refused cmds (stage_state acts t) ≡ false → ShowsStage n (live_with_all cmds live) (state_after_all cmds (stage_state acts t))
 
-judged : (n t : ℕ) (cmds : List Cmd) (acts : List Act) (board : BoardView) → n ≤ MAX_CHANNELS → AllServed n cmds → IsWithinLimits (stage_state acts t) →
-    ShowsStage n board (stage_state acts t) → IsJudged n t cmds acts board
-judged n t [] earlier board few h within shows = record { refused = refl; shows = λ e. shows }
-judged n t (cmd ∷ cmds) acts board few h within shows =
-    let one = tried n t cmd acts board few h.0 within shows in
-    let same : is_refused_on cmd board ≡ is_refused_by cmd (stage_state acts t) = is_refused-same cmd n board (stage_state acts t) one in
+judged : (n t : ℕ) (cmds : List Cmd) (acts : List Act) (live : LiveView) → n ≤ MAX_CHANNELS → AllServed n cmds → IsWithinLimits (stage_state acts t) →
+    ShowsStage n live (stage_state acts t) → IsJudged n t cmds acts live
+judged n t [] earlier live few h within shows = record { refused = refl; shows = λ e. shows }
+judged n t (cmd ∷ cmds) acts live few h within shows =
+    let one = tried n t cmd acts live few h.0 within shows in
+    let same : is_refused_on cmd live ≡ is_refused_by cmd (stage_state acts t) = is_refused-same cmd n live (stage_state acts t) one in
     let now : stage_state (acts_of t cmd ++ acts) t ≡ state_after cmd (stage_state acts t) = stage_state-command acts t cmd in
     elim (cases_Bool (is_refused_by cmd (stage_state acts t))) [
       | inl e ↦ record {
         refused =
-            ap (λ (b : Bool). b || some_is_refused_on cmds (board_after cmd board)) (same ∙ e)
+            ap (λ (b : Bool). b || some_is_refused_on cmds (live_with cmd live)) (same ∙ e)
             ∙ sym (ap (λ (b : Bool). b || some_is_refused cmds (state_after cmd (stage_state acts t))) e);
         shows = λ none. absurd (false≢true (sym none ∙ ap (λ (b : Bool). b || some_is_refused cmds (state_after cmd (stage_state acts t))) e));
       }
       | inr e ↦
-          let more : IsJudged n t cmds (acts_of t cmd ++ acts) (board_after cmd board) =
-          judged n t cmds (acts_of t cmd ++ acts) (board_after cmd board) few h.1
+          let more : IsJudged n t cmds (acts_of t cmd ++ acts) (live_with cmd live) =
+          judged n t cmds (acts_of t cmd ++ acts) (live_with cmd live) few h.1
           (subst IsWithinLimits (sym now) (IsWithinLimits-command acts t cmd within e))
-          (subst (ShowsStage n (board_after cmd board)) (sym now) (ShowsStage-after cmd n board (stage_state acts t) one e)) in
+          (subst (ShowsStage n (live_with cmd live)) (sym now) (ShowsStage-after cmd n live (stage_state acts t) one e)) in
           record {
             refused =
-                ap (λ (b : Bool). b || some_is_refused_on cmds (board_after cmd board)) (same ∙ e)
+                ap (λ (b : Bool). b || some_is_refused_on cmds (live_with cmd live)) (same ∙ e)
                 ∙ more.refused ∙ ap (some_is_refused cmds) now
                 ∙ sym (ap (λ (b : Bool). b || some_is_refused cmds (state_after cmd (stage_state acts t))) e);
             shows = λ none.
                 let rest : some_is_refused cmds (stage_state (acts_of t cmd ++ acts) t) ≡ false =
                 ap (some_is_refused cmds) now ∙ sym (ap (λ (b : Bool). b || some_is_refused cmds (state_after cmd (stage_state acts t))) e) ∙ none in
-                subst (λ (s : StageState). ShowsStage n (board_after_all cmds (board_after cmd board)) (state_after_all cmds s)) now (more.shows rest);
+                subst (λ (s : StageState). ShowsStage n (live_with_all cmds (live_with cmd live)) (state_after_all cmds s)) now (more.shows rest);
           }
     ]
 
 -- the number of channels stays through all commands
-pub length-all : (cmds : List Cmd) (board : BoardView) → length (board_after_all cmds board).places ≡ length board.places
-length-all [] board = refl
-length-all (cmd ∷ cmds) board = length-all cmds (board_after cmd board) ∙ length-places cmd board
+pub length-all : (cmds : List Cmd) (live : LiveView) → length (live_with_all cmds live).places ≡ length live.places
+length-all [] live = refl
+length-all (cmd ∷ cmds) live = length-all cmds (live_with cmd live) ∙ length-places cmd live
 
--- a board of some number of channels
-pub board_of : (events : List Event) (board : BoardView) (n : ℕ) → length board.places ≡ n → 1 ≤ n → n ≤ MAX_CHANNELS → AreServed n (acts events) →
-    ShowsStage n board (stage_after events) → IsBoardOf events board
-board_of events board n count some few served shows = record {
+-- a live state of some number of channels
+pub live_state_of : (events : List Event) (live : LiveView) (n : ℕ) → length live.places ≡ n → 1 ≤ n → n ≤ MAX_CHANNELS → AreServed n (acts events) →
+    ShowsStage n live (stage_after events) → IsLiveStateOf events live
+live_state_of events live n count some few served shows = record {
   some_channels = omega (arith, count);
   channels = omega (arith, count);
   served = subst (λ (m : ℕ). AreServed m (acts events)) (sym count) served;
-  shows = subst (λ (m : ℕ). ShowsStage m board (stage_after events)) (sym count) shows;
+  shows = subst (λ (m : ℕ). ShowsStage m live (stage_after events)) (sym count) shows;
 }
 
-module _ (events : List Event) (tag : Tag) (board : BoardView) (h : IsBoardOf events board) where
-  shows_now : ShowsStage (length board.places) board (stage_state (acts events) (ticks events))
-  shows_now = subst (ShowsStage (length board.places) board) (stage_after-acts events) h.shows
+module _ (events : List Event) (tag : Tag) (live : LiveView) (h : IsLiveStateOf events live) where
+  shows_now : ShowsStage (length live.places) live (stage_state (acts events) (ticks events))
+  shows_now = subst (ShowsStage (length live.places) live) (stage_after-acts events) h.shows
 
   within_now : IsWithinLimits (stage_state (acts events) (ticks events))
   within_now = subst IsWithinLimits (stage_after-acts events) (IsWithinLimits-history events)
 
-  tried_now : (cmd : Cmd) → IsServed (length board.places) cmd → IsTried (length board.places) board (stage_after events) cmd
+  tried_now : (cmd : Cmd) → IsServed (length live.places) cmd → IsTried (length live.places) live (stage_after events) cmd
   tried_now cmd served =
-      subst (λ (s : StageState). IsTried (length board.places) board s cmd) (sym (stage_after-acts events))
-      (tried (length board.places) (ticks events) cmd (acts events) board h.channels served within_now shows_now)
+      subst (λ (s : StageState). IsTried (length live.places) live s cmd) (sym (stage_after-acts events))
+      (tried (length live.places) (ticks events) cmd (acts events) live h.channels served within_now shows_now)
 
-  judged_now : (cmds : List Cmd) → AllServed (length board.places) cmds → IsJudged (length board.places) (ticks events) cmds (acts events) board
-  judged_now cmds served = judged (length board.places) (ticks events) cmds (acts events) board h.channels served within_now shows_now
+  judged_now : (cmds : List Cmd) → AllServed (length live.places) cmds → IsJudged (length live.places) (ticks events) cmds (acts events) live
+  judged_now cmds served = judged (length live.places) (ticks events) cmds (acts events) live h.channels served within_now shows_now
 
   -- whether a command is refused
-  pub refused-command : (cmd : Cmd) → IsServed (length board.places) cmd → is_refused events (Do tag cmd) ≡ is_refused_on cmd board
+  pub refused-command : (cmd : Cmd) → IsServed (length live.places) cmd → is_refused events (Do tag cmd) ≡ is_refused_on cmd live
   refused-command cmd served =
-      is_refused-command events tag cmd ∙ sym (is_refused-same cmd (length board.places) board (stage_after events) (tried_now cmd served))
+      is_refused-command events tag cmd ∙ sym (is_refused-same cmd (length live.places) live (stage_after events) (tried_now cmd served))
 
-  pub refused_by : (cmd : Cmd) → IsServed (length board.places) cmd → is_refused_by cmd (stage_after events) ≡ is_refused_on cmd board
-  refused_by cmd served = sym (is_refused-same cmd (length board.places) board (stage_after events) (tried_now cmd served))
+  pub refused_by : (cmd : Cmd) → IsServed (length live.places) cmd → is_refused_by cmd (stage_after events) ≡ is_refused_on cmd live
+  refused_by cmd served = sym (is_refused-same cmd (length live.places) live (stage_after events) (tried_now cmd served))
 
   -- after a command that is refused
-  pub acts-refused : (cmd : Cmd) → IsServed (length board.places) cmd → is_refused_on cmd board ≡ true → acts (events ++ Do tag cmd ∷ []) ≡ acts events
+  pub acts-refused : (cmd : Cmd) → IsServed (length live.places) cmd → is_refused_on cmd live ≡ true → acts (events ++ Do tag cmd ∷ []) ≡ acts events
   acts-refused cmd served e = acts-command events tag cmd ∙ cond-true _ _ _ (refused_by cmd served ∙ e)
 
-  pub IsBoardOf-refused : (cmd : Cmd) → IsServed (length board.places) cmd → is_refused_on cmd board ≡ true → IsBoardOf (events ++ Do tag cmd ∷ []) board
-  IsBoardOf-refused cmd served e =
-      board_of (events ++ Do tag cmd ∷ []) board (length board.places) refl h.some_channels h.channels
-      (subst (AreServed (length board.places)) (sym (acts-refused cmd served e)) h.served)
-      (subst (ShowsStage (length board.places) board) (sym (stage_after-command events tag cmd ∙ cond-true _ _ _ (refused_by cmd served ∙ e))) h.shows)
+  pub IsLiveStateOf-refused : (cmd : Cmd) → IsServed (length live.places) cmd → is_refused_on cmd live ≡ true → IsLiveStateOf (events ++ Do tag cmd ∷ []) live
+  IsLiveStateOf-refused cmd served e =
+      live_state_of (events ++ Do tag cmd ∷ []) live (length live.places) refl h.some_channels h.channels
+      (subst (AreServed (length live.places)) (sym (acts-refused cmd served e)) h.served)
+      (subst (ShowsStage (length live.places) live) (sym (stage_after-command events tag cmd ∙ cond-true _ _ _ (refused_by cmd served ∙ e))) h.shows)
 
   -- after a command that is not
-  pub acts-taken : (cmd : Cmd) → IsServed (length board.places) cmd → is_refused_on cmd board ≡ false →
+  pub acts-taken : (cmd : Cmd) → IsServed (length live.places) cmd → is_refused_on cmd live ≡ false →
       acts (events ++ Do tag cmd ∷ []) ≡ acts_of (ticks events) cmd ++ acts events
   acts-taken cmd served e = acts-command events tag cmd ∙ cond-false _ _ _ (refused_by cmd served ∙ e)
 
-  pub IsBoardOf-taken : (cmd : Cmd) → IsServed (length board.places) cmd → is_refused_on cmd board ≡ false →
-      IsBoardOf (events ++ Do tag cmd ∷ []) (board_after cmd board)
-  IsBoardOf-taken cmd served e =
-      board_of (events ++ Do tag cmd ∷ []) (board_after cmd board) (length board.places) (length-places cmd board) h.some_channels h.channels
-      (subst (AreServed (length board.places)) (sym (acts-taken cmd served e)) (AreServed-more (length board.places) (ticks events) cmd (acts events) served h.served))
-      (subst (ShowsStage (length board.places) (board_after cmd board)) (sym (stage_after-command events tag cmd ∙ cond-false _ _ _ (refused_by cmd served ∙ e)))
-      (ShowsStage-after cmd (length board.places) board (stage_after events) (tried_now cmd served) (refused_by cmd served ∙ e)))
+  pub IsLiveStateOf-taken : (cmd : Cmd) → IsServed (length live.places) cmd → is_refused_on cmd live ≡ false →
+      IsLiveStateOf (events ++ Do tag cmd ∷ []) (live_with cmd live)
+  IsLiveStateOf-taken cmd served e =
+      live_state_of (events ++ Do tag cmd ∷ []) (live_with cmd live) (length live.places) (length-places cmd live) h.some_channels h.channels
+      (subst (AreServed (length live.places)) (sym (acts-taken cmd served e)) (AreServed-more (length live.places) (ticks events) cmd (acts events) served h.served))
+      (subst (ShowsStage (length live.places) (live_with cmd live)) (sym (stage_after-command events tag cmd ∙ cond-false _ _ _ (refused_by cmd served ∙ e)))
+      (ShowsStage-after cmd (length live.places) live (stage_after events) (tried_now cmd served) (refused_by cmd served ∙ e)))
 
   -- whether a batch is refused
-  pub some_refused_by : (cmds : List Cmd) → AllServed (length board.places) cmds → some_is_refused cmds (stage_after events) ≡ some_is_refused_on cmds board
+  pub some_refused_by : (cmds : List Cmd) → AllServed (length live.places) cmds → some_is_refused cmds (stage_after events) ≡ some_is_refused_on cmds live
   some_refused_by cmds served = ap (some_is_refused cmds) (stage_after-acts events) ∙ sym (judged_now cmds served).refused
 
-  pub refused-batch : (cmds : List Cmd) → AllServed (length board.places) cmds → is_refused events (Batch tag cmds) ≡ some_is_refused_on cmds board
+  pub refused-batch : (cmds : List Cmd) → AllServed (length live.places) cmds → is_refused events (Batch tag cmds) ≡ some_is_refused_on cmds live
   refused-batch cmds served = is_refused-batch events tag cmds ∙ some_refused_by cmds served
 
-  pub acts-batch_refused : (cmds : List Cmd) → AllServed (length board.places) cmds → some_is_refused_on cmds board ≡ true →
+  pub acts-batch_refused : (cmds : List Cmd) → AllServed (length live.places) cmds → some_is_refused_on cmds live ≡ true →
       acts (events ++ Batch tag cmds ∷ []) ≡ acts events
   acts-batch_refused cmds served e = acts-batch events tag cmds ∙ cond-true _ _ _ (some_refused_by cmds served ∙ e)
 
-  pub IsBoardOf-batch_refused : (cmds : List Cmd) → AllServed (length board.places) cmds → some_is_refused_on cmds board ≡ true →
-      IsBoardOf (events ++ Batch tag cmds ∷ []) board
-  IsBoardOf-batch_refused cmds served e =
-      board_of (events ++ Batch tag cmds ∷ []) board (length board.places) refl h.some_channels h.channels
-      (subst (AreServed (length board.places)) (sym (acts-batch_refused cmds served e)) h.served)
-      (subst (ShowsStage (length board.places) board) (sym (stage_after-batch events tag cmds ∙ cond-true _ _ _ (some_refused_by cmds served ∙ e))) h.shows)
+  pub IsLiveStateOf-batch_refused : (cmds : List Cmd) → AllServed (length live.places) cmds → some_is_refused_on cmds live ≡ true →
+      IsLiveStateOf (events ++ Batch tag cmds ∷ []) live
+  IsLiveStateOf-batch_refused cmds served e =
+      live_state_of (events ++ Batch tag cmds ∷ []) live (length live.places) refl h.some_channels h.channels
+      (subst (AreServed (length live.places)) (sym (acts-batch_refused cmds served e)) h.served)
+      (subst (ShowsStage (length live.places) live) (sym (stage_after-batch events tag cmds ∙ cond-true _ _ _ (some_refused_by cmds served ∙ e))) h.shows)
 
-  pub acts-batch_taken : (cmds : List Cmd) → AllServed (length board.places) cmds → some_is_refused_on cmds board ≡ false →
+  pub acts-batch_taken : (cmds : List Cmd) → AllServed (length live.places) cmds → some_is_refused_on cmds live ≡ false →
       acts (events ++ Batch tag cmds ∷ []) ≡ acts_after_all (ticks events) cmds (acts events)
   acts-batch_taken cmds served e = acts-batch events tag cmds ∙ cond-false _ _ _ (some_refused_by cmds served ∙ e)
 
-  pub IsBoardOf-batch_taken : (cmds : List Cmd) → AllServed (length board.places) cmds → some_is_refused_on cmds board ≡ false →
-      IsBoardOf (events ++ Batch tag cmds ∷ []) (board_after_all cmds board)
-  IsBoardOf-batch_taken cmds served e =
-      board_of (events ++ Batch tag cmds ∷ []) (board_after_all cmds board) (length board.places) (length-all cmds board) h.some_channels h.channels
-      (subst (AreServed (length board.places)) (sym (acts-batch_taken cmds served e)) (AreServed-all (length board.places) (ticks events) cmds (acts events) served h.served))
-      (subst (ShowsStage (length board.places) (board_after_all cmds board))
+  pub IsLiveStateOf-batch_taken : (cmds : List Cmd) → AllServed (length live.places) cmds → some_is_refused_on cmds live ≡ false →
+      IsLiveStateOf (events ++ Batch tag cmds ∷ []) (live_with_all cmds live)
+  IsLiveStateOf-batch_taken cmds served e =
+      live_state_of (events ++ Batch tag cmds ∷ []) (live_with_all cmds live) (length live.places) (length-all cmds live) h.some_channels h.channels
+      (subst (AreServed (length live.places)) (sym (acts-batch_taken cmds served e)) (AreServed-all (length live.places) (ticks events) cmds (acts events) served h.served))
+      (subst (ShowsStage (length live.places) (live_with_all cmds live))
       (ap (state_after_all cmds) (sym (stage_after-acts events)) ∙ sym (stage_after-batch events tag cmds ∙ cond-false _ _ _ (some_refused_by cmds served ∙ e)))
       ((judged_now cmds served).shows (sym (judged_now cmds served).refused ∙ e)))
 
   -- after a stop
-  pub IsBoardOf-stop : IsBoardOf (events ++ Stop tag ∷ []) board
-  IsBoardOf-stop =
-      board_of (events ++ Stop tag ∷ []) board (length board.places) refl h.some_channels h.channels
-      (subst (AreServed (length board.places)) (sym (acts-stop events tag)) h.served)
-      (subst (ShowsStage (length board.places) board) (sym (stage_after-stop events tag)) h.shows)
+  pub IsLiveStateOf-stop : IsLiveStateOf (events ++ Stop tag ∷ []) live
+  IsLiveStateOf-stop =
+      live_state_of (events ++ Stop tag ∷ []) live (length live.places) refl h.some_channels h.channels
+      (subst (AreServed (length live.places)) (sym (acts-stop events tag)) h.served)
+      (subst (ShowsStage (length live.places) live) (sym (stage_after-stop events tag)) h.shows)

@@ -1,8 +1,9 @@
+pub mod Shapes
 pub mod Found
 pub mod Sets
 pub mod Drawing
 pub mod Routing
-pub mod Boards
+pub mod LiveStates
 pub mod Refusals
 pub mod Exchanges
 pub mod Kept

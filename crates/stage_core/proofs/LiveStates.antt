@@ -1,19 +1,20 @@
--- A board that shows a stage shows it after each command too, and refuses what the stage refuses.
+-- A live state that shows a stage shows it after each command too, and refuses what the stage refuses.
 use Rattle.std.proofs.Common.{◌≡◌, ℕ, ◌+◌, ◌-◌, ◌<◌, ◌≤◌, eqb, Bool, true, false, ◌&&◌, ◌⊎◌, inl, inr, List, [], length, get_or, set, refl, sym, ap, ◌∙◌, arith, eq-eqb, ne_eqb, length-set, if◌then◌else◌}
 use Rattle.std.proofs.lemmas.Bool.{cases_eq, cond-true, cond-false}
 use Rattle.std.proofs.lemmas.List.{get_or-set_same, get_or-set_other}
 use Rattle.std.proofs.lemmas.List.Edits.{swap_is}
 use Rattle.std.specs.List.{swap}
+use Rattle.play_types.specs.ChannelItems.{with_channel_item}
 use Rattle.play_types.specs.Place.{PlaceView}
 use Rattle.play_types.specs.Scene.{IsConfigured}
 use Rattle.play_types.specs.Setting.{SettingView}
 use Rattle.play_types.specs.declared.command.Cmd.{Cmd}
 use Rattle.play_types.specs.declared.command.Cmd.TheVariants.{Load, LoadBg, Play, PlayTake, Pause, Resume, StopLayer, ClearLayer, ClearChannel, SwapLayers, SwapChannels, Set, CommitMixer, ResetLayer, ResetChannel, Value, Info}
-use Rattle.history_model.specs.stage.Life.{Life}
-use Rattle.history_model.specs.stage.Places.{Places, changed_at, standing, taken, with_place}
+use Rattle.history_model.specs.stage.Life.{Life, effect}
+use Rattle.history_model.specs.stage.Places.{Places, changed_at, standing, with_place}
 use Rattle.history_model.specs.stage.StageState.{exchanged, exchanged_channel, live_after, placed_at, waiting_count_after}
-use Rattle.stage_core.specs.Served.{IsServed}
-use Rattle.stage_core.specs.Board.{BoardView, Channels, board_after, changed_place, count_of, life_at, places_of, with_count, with_exchanged, with_life}
+use Rattle.history_model.specs.commands.Channels.{IsServed}
+use Rattle.stage_core.specs.LiveState.{LiveView, Channels, live_with, changed_place, count_of, life_at, places_of, with_exchanged, with_life}
 
 -- an element of a list that is written over, and the others
 pub at_one : {X : Type 0} (xs : List X) (x d : X) (at k : ℕ) → IsConfigured (length xs) at → IsConfigured (length xs) k →
@@ -51,13 +52,13 @@ module _ (channels : Channels) where
   places_of-changed : (at : PlaceView) (cmd : Cmd) (k : ℕ) → IsConfigured (length channels) at.channel → IsConfigured (length channels) k →
       places_of k (changed_place at cmd channels) ≡ changed_at at cmd k (places_of k channels)
   places_of-changed at cmd k a c =
-      places_of-with_life at (taken cmd (life_at at channels)) k a c
+      places_of-with_life at (effect cmd (life_at at channels)) k a c
       ∙ elim (cases_eq at.channel k) [
         | inl e ↦
-            ap (λ (n : ℕ). placed_at at (taken cmd (standing (places_of n channels) at.layer)) k (places_of k channels)) e
+            ap (λ (n : ℕ). placed_at at (effect cmd (standing (places_of n channels) at.layer)) k (places_of k channels)) e
         | inr apart ↦
-            cond-false (eqb at.channel k) (with_place (places_of k channels) at.layer (taken cmd (life_at at channels))) (places_of k channels) (ne_eqb at.channel k apart)
-            ∙ sym (cond-false (eqb at.channel k) (with_place (places_of k channels) at.layer (taken cmd (standing (places_of k channels) at.layer))) (places_of k channels)
+            cond-false (eqb at.channel k) (with_place (places_of k channels) at.layer (effect cmd (life_at at channels))) (places_of k channels) (ne_eqb at.channel k apart)
+            ∙ sym (cond-false (eqb at.channel k) (with_place (places_of k channels) at.layer (effect cmd (standing (places_of k channels) at.layer))) (places_of k channels)
             (ne_eqb at.channel k apart))
       ]
 
@@ -113,20 +114,20 @@ places_of-swap channels a b k first second c =
         ∙ ap (λ n. places_of n channels) (sym (cond-false (eqb k a) b (if eqb k b then a else k) (ne_eqb k a g) ∙ cond-false (eqb k b) a k (ne_eqb k b h)))
 
 -- the places after a command, channel by channel
-module _ (board : BoardView) (k : ℕ) (c : IsConfigured (length board.places) k) where
-  pub places_after : (cmd : Cmd) → IsServed (length board.places) cmd →
-      places_of k (board_after cmd board).places ≡ live_after cmd (λ n. places_of n board.places) k
-  places_after (Load at take) h = places_of-changed board.places at (Load at take) k h.0 c
-  places_after (LoadBg at take) h = places_of-changed board.places at (LoadBg at take) k h.0 c
-  places_after (Play at) h = places_of-changed board.places at (Play at) k h c
-  places_after (PlayTake at take) h = places_of-changed board.places at (PlayTake at take) k h.0 c
-  places_after (Pause at) h = places_of-changed board.places at (Pause at) k h c
-  places_after (Resume at) h = places_of-changed board.places at (Resume at) k h c
-  places_after (StopLayer at) h = places_of-changed board.places at (StopLayer at) k h c
-  places_after (ClearLayer at) h = places_of-changed board.places at (ClearLayer at) k h c
-  places_after (ClearChannel cleared) h = at_one board.places [] [] cleared k h c
-  places_after (SwapLayers a b transforms) h = places_of-exchanged board.places a b k h.0 h.1 c
-  places_after (SwapChannels a b transforms) h = places_of-swap board.places a b k h.0 h.1 c
+module _ (live : LiveView) (k : ℕ) (c : IsConfigured (length live.places) k) where
+  pub places_after : (cmd : Cmd) → IsServed (length live.places) cmd →
+      places_of k (live_with cmd live).places ≡ live_after cmd (λ n. places_of n live.places) k
+  places_after (Load at take) h = places_of-changed live.places at (Load at take) k h.0 c
+  places_after (LoadBg at take) h = places_of-changed live.places at (LoadBg at take) k h.0 c
+  places_after (Play at) h = places_of-changed live.places at (Play at) k h c
+  places_after (PlayTake at take) h = places_of-changed live.places at (PlayTake at take) k h.0 c
+  places_after (Pause at) h = places_of-changed live.places at (Pause at) k h c
+  places_after (Resume at) h = places_of-changed live.places at (Resume at) k h c
+  places_after (StopLayer at) h = places_of-changed live.places at (StopLayer at) k h c
+  places_after (ClearLayer at) h = places_of-changed live.places at (ClearLayer at) k h c
+  places_after (ClearChannel cleared) h = at_one live.places [] [] cleared k h c
+  places_after (SwapLayers a b transforms) h = places_of-exchanged live.places a b k h.0 h.1 c
+  places_after (SwapChannels a b transforms) h = places_of-swap live.places a b k h.0 h.1 c
   places_after (Set setting) h = refl
   places_after (CommitMixer committed) h = refl
   places_after (ResetLayer at) h = refl
@@ -136,7 +137,7 @@ module _ (board : BoardView) (k : ℕ) (c : IsConfigured (length board.places) k
 
 -- the numbers of waiting settings after a command
 setting_counted : (setting : SettingView) (deferred : Bool) (waiting : List ℕ) (k : ℕ) → IsConfigured (length waiting) setting.place.channel → IsConfigured (length waiting) k →
-    count_of k (if deferred then with_count setting.place.channel (count_of setting.place.channel waiting + 1) waiting else waiting)
+    count_of k (if deferred then with_channel_item setting.place.channel (count_of setting.place.channel waiting + 1) waiting else waiting)
     ≡ (if deferred && eqb setting.place.channel k then 1 + count_of k waiting else count_of k waiting)
 setting_counted setting false waiting k a c = refl
 setting_counted setting true waiting k a c =
@@ -151,22 +152,22 @@ setting_counted setting true waiting k a c =
           ∙ sym (cond-false (eqb at k) (1 + count_of k waiting) (count_of k waiting) (ne_eqb at k apart))
     ]
 
-pub waiting_after : (cmd : Cmd) (board : BoardView) (n k : ℕ) → n ≤ length board.waiting → IsServed n cmd → IsConfigured (length board.waiting) k →
-    count_of k (board_after cmd board).waiting ≡ waiting_count_after cmd k (count_of k board.waiting)
-waiting_after (Load at take) board n k few h c = refl
-waiting_after (LoadBg at take) board n k few h c = refl
-waiting_after (Play at) board n k few h c = refl
-waiting_after (PlayTake at take) board n k few h c = refl
-waiting_after (Pause at) board n k few h c = refl
-waiting_after (Resume at) board n k few h c = refl
-waiting_after (StopLayer at) board n k few h c = refl
-waiting_after (ClearLayer at) board n k few h c = refl
-waiting_after (ClearChannel cleared) board n k few h c = refl
-waiting_after (SwapLayers a b transforms) board n k few h c = refl
-waiting_after (SwapChannels a b transforms) board n k few h c = refl
-waiting_after (Set setting) board n k few h c = setting_counted setting setting.deferred board.waiting k (h.0, omega (arith, h.1)) c
-waiting_after (CommitMixer committed) board n k few h c = at_one board.waiting 0 0 committed k (h.0, omega (arith, h.1)) c
-waiting_after (ResetLayer at) board n k few h c = refl
-waiting_after (ResetChannel reset) board n k few h c = refl
-waiting_after (Value at prop) board n k few h c = refl
-waiting_after Info board n k few h c = refl
+pub waiting_after : (cmd : Cmd) (live : LiveView) (n k : ℕ) → n ≤ length live.waiting → IsServed n cmd → IsConfigured (length live.waiting) k →
+    count_of k (live_with cmd live).waiting ≡ waiting_count_after cmd k (count_of k live.waiting)
+waiting_after (Load at take) live n k few h c = refl
+waiting_after (LoadBg at take) live n k few h c = refl
+waiting_after (Play at) live n k few h c = refl
+waiting_after (PlayTake at take) live n k few h c = refl
+waiting_after (Pause at) live n k few h c = refl
+waiting_after (Resume at) live n k few h c = refl
+waiting_after (StopLayer at) live n k few h c = refl
+waiting_after (ClearLayer at) live n k few h c = refl
+waiting_after (ClearChannel cleared) live n k few h c = refl
+waiting_after (SwapLayers a b transforms) live n k few h c = refl
+waiting_after (SwapChannels a b transforms) live n k few h c = refl
+waiting_after (Set setting) live n k few h c = setting_counted setting setting.deferred live.waiting k (h.0, omega (arith, h.1)) c
+waiting_after (CommitMixer committed) live n k few h c = at_one live.waiting 0 0 committed k (h.0, omega (arith, h.1)) c
+waiting_after (ResetLayer at) live n k few h c = refl
+waiting_after (ResetChannel reset) live n k few h c = refl
+waiting_after (Value at prop) live n k few h c = refl
+waiting_after Info live n k few h c = refl

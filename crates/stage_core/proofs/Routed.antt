@@ -27,9 +27,9 @@ use Rattle.layer_state.specs.Shown.{old_picture_of, shown_of}
 use Rattle.route_graph.specs.Past.{KeepsForegrounds, LeadsWithin}
 use Rattle.route_graph.specs.Shown.{ShownLayers, shown_at, shown_on}
 use Rattle.route_graph.proofs.Past.{source_of_tick}
-use Rattle.stage_core.specs.Board.{Channels, places_of}
+use Rattle.stage_core.specs.LiveState.{Channels, places_of}
 use Rattle.stage_core.specs.Kept.{AreServed}
-use Rattle.stage_core.specs.Served.{IsRouted, IsServed}
+use Rattle.history_model.specs.commands.Channels.{IsRouted, IsServed}
 use Rattle.stage_core.specs.inner.Drawn.{IsRoutedPicture, IsShown, drawn_next, drawn_shown, next_of, shown_layer, still_of}
 use Rattle.stage_core.proofs.Routing.{shown_on-places}
 use Rattle.stage_core.proofs.Takes.{OfActs, OfCommand, OfForeground, OfOutgoing, OfPlace, OfPlace-ready, OfPlace-state}

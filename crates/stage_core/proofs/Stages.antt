@@ -44,13 +44,13 @@ use Rattle.layer_state.proofs.Pasts.{IsPast-along}
 use Rattle.route_graph.specs.Past.{KeepsForegrounds}
 use Rattle.route_graph.specs.Routes.{RoutesView, next_tick, no_ticks}
 use Rattle.route_graph.specs.Shown.{shown_at}
-use Rattle.stage_core.specs.Served.{IsRouted, IsServed}
-use Rattle.stage_core.specs.Board.{BoardView, Channels, ShowsStage, board_after, board_after_all, board_one_tick_later, is_refused_on, is_some_over, places_of, some_is_refused_on}
+use Rattle.history_model.specs.commands.Channels.{IsRouted, IsServed}
+use Rattle.stage_core.specs.LiveState.{LiveView, Channels, ShowsStage, live_with, live_with_all, live_one_tick_later, is_refused_on, is_some_over, places_of, some_is_refused_on}
 use Rattle.stage_core.specs.inner.Drawn.{drawn_next, mixed_values, scene_next, shown_layer, with_present}
 use Rattle.stage_core.specs.Kept.{AreServed, IsMixed, IsShownBefore, IsStage}
 use Rattle.stage_core.specs.inner.Settled.{CanTake}
 use Rattle.stage_core.specs.inner.Shown.{CanShow, HasOwnRoutes, HasTicksLeft}
-use Rattle.stage_core.proofs.Kept.{AllServed, IsBoardOf-batch_refused, IsBoardOf-batch_taken, IsBoardOf-refused, IsBoardOf-stop, IsBoardOf-taken, acts-batch_refused, acts-batch_taken, acts-refused, acts-taken, board_of, length-all, refused-batch, refused-command, refused_by, some_refused_by}
+use Rattle.stage_core.proofs.Kept.{AllServed, IsLiveStateOf-batch_refused, IsLiveStateOf-batch_taken, IsLiveStateOf-refused, IsLiveStateOf-stop, IsLiveStateOf-taken, acts-batch_refused, acts-batch_taken, acts-refused, acts-taken, live_state_of, length-all, refused-batch, refused-command, refused_by, some_refused_by}
 use Rattle.stage_core.proofs.Exchanges.{one_within}
 use Rattle.stage_core.proofs.Refusals.{length-places}
 use Rattle.stage_core.proofs.Routed.{IsShown-routed, OfPlace-routed, drawn_places, keeps_next, same_on_range}
@@ -105,17 +105,17 @@ module _ (n : ℕ) (before after : List Event) (routes : RoutesView) (same : las
   pub IsShownBefore-same : IsShownBefore n before routes → IsShownBefore n after routes
   IsShownBefore-same h = record { count = h.count; shown = subst (KeepsForegrounds n routes.present) (sym same) h.shown }
 
-pub IsStage-new : (n : ℕ) (board saved : BoardView) (mixer : MixerView) (routes : RoutesView) → 1 ≤ n → n ≤ MAX_CHANNELS →
-    board ≡ record { places = replicate n []; waiting = replicate MAX_CHANNELS 0 } →
+pub IsStage-new : (n : ℕ) (live saved : LiveView) (mixer : MixerView) (routes : RoutesView) → 1 ≤ n → n ≤ MAX_CHANNELS →
+    live ≡ record { places = replicate n []; waiting = replicate MAX_CHANNELS 0 } →
     saved ≡ record { places = replicate n []; waiting = replicate MAX_CHANNELS 0 } → mixer.channels ≡ n →
-    Represents mixer [] 0 → routes ≡ no_ticks n → IsStage [] board saved mixer routes
-IsStage-new n board saved mixer routes some few e f channels represents r =
-    let count : length board.places ≡ n = ap (λ (b : BoardView). length b.places) e ∙ length-replicate n [] in
-    let other : length saved.places ≡ n = ap (λ (b : BoardView). length b.places) f ∙ length-replicate n [] in
+    Represents mixer [] 0 → routes ≡ no_ticks n → IsStage [] live saved mixer routes
+IsStage-new n live saved mixer routes some few e f channels represents r =
+    let count : length live.places ≡ n = ap (λ (b : LiveView). length b.places) e ∙ length-replicate n [] in
+    let other : length saved.places ≡ n = ap (λ (b : LiveView). length b.places) f ∙ length-replicate n [] in
     record {
-      board =
-          board_of [] board n count some few (subst (AreServed n) (sym no_acts) tt)
-          (subst (ShowsStage n board) (sym stage_after-start) (subst (λ (b : BoardView). ShowsStage n b empty_stage) (sym e) (ShowsStage-empty n few)));
+      live =
+          live_state_of [] live n count some few (subst (AreServed n) (sym no_acts) tt)
+          (subst (ShowsStage n live) (sym stage_after-start) (subst (λ (b : LiveView). ShowsStage n b empty_stage) (sym e) (ShowsStage-empty n few)));
       saved = other ∙ sym count;
       mixed = record {
         count = channels ∙ sym count;
@@ -125,49 +125,49 @@ IsStage-new n board saved mixer routes some few e f channels represents r =
           (record { count = refl; shown = subst (KeepsForegrounds n None) (sym last_shown-start) tt }));
     }
 
-module _ (events : List Event) (tag : Tag) (cmd : Cmd) (board saved : BoardView) (mixer : MixerView) (routes : RoutesView) (h : IsStage events board saved mixer routes)
-    (served : IsServed (length board.places) cmd) where
+module _ (events : List Event) (tag : Tag) (cmd : Cmd) (live saved : LiveView) (mixer : MixerView) (routes : RoutesView) (h : IsStage events live saved mixer routes)
+    (served : IsServed (length live.places) cmd) where
   -- where it is not refused, the mixer can take it
   pub served_by_mixer : IsServed mixer.channels cmd
   served_by_mixer = subst (λ (n : ℕ). IsServed n cmd) (sym h.mixed.count) served
 
-  pub can_take_one : is_refused_on cmd board ≡ false → CanTake (cmd ∷ []) (ticks events) mixer
-  can_take_one e = can_take (length board.places) events mixer h.mixed cmd (refused_by events tag board h.board cmd served ∙ e)
+  pub can_take_one : is_refused_on cmd live ≡ false → CanTake (cmd ∷ []) (ticks events) mixer
+  can_take_one e = can_take (length live.places) events mixer h.mixed cmd (refused_by events tag live h.live cmd served ∙ e)
 
   -- after a command that is refused
-  pub IsStage-refused : is_refused_on cmd board ≡ true → IsStage (events ++ Do tag cmd ∷ []) board saved mixer routes
+  pub IsStage-refused : is_refused_on cmd live ≡ true → IsStage (events ++ Do tag cmd ∷ []) live saved mixer routes
   IsStage-refused e = record {
-    board = IsBoardOf-refused events tag board h.board cmd served e;
+    live = IsLiveStateOf-refused events tag live h.live cmd served e;
     saved = h.saved;
     mixed =
-        IsMixed-event (length board.places) events (Do tag cmd) mixer (acts events) refl h.mixed.count
-        (acts-refused events tag board h.board cmd served e) h.mixed.past;
-    shown = IsShownBefore-same (length board.places) events (events ++ Do tag cmd ∷ []) routes (last_shown-command events tag cmd) h.shown;
+        IsMixed-event (length live.places) events (Do tag cmd) mixer (acts events) refl h.mixed.count
+        (acts-refused events tag live h.live cmd served e) h.mixed.past;
+    shown = IsShownBefore-same (length live.places) events (events ++ Do tag cmd ∷ []) routes (last_shown-command events tag cmd) h.shown;
   }
 
   -- and after one that is not
   pub IsStage-taken : (after : MixerView) → after.channels ≡ mixer.channels →
       ((earlier : List Act) → Represents mixer earlier (ticks events) → Represents after (acts_of (ticks events) cmd ++ earlier) (ticks events)) →
-      is_refused_on cmd board ≡ false → IsStage (events ++ Do tag cmd ∷ []) (board_after cmd board) saved after routes
+      is_refused_on cmd live ≡ false → IsStage (events ++ Do tag cmd ∷ []) (live_with cmd live) saved after routes
   IsStage-taken after count past e = record {
-    board = IsBoardOf-taken events tag board h.board cmd served e;
-    saved = h.saved ∙ sym (length-places cmd board);
+    live = IsLiveStateOf-taken events tag live h.live cmd served e;
+    saved = h.saved ∙ sym (length-places cmd live);
     mixed =
-        IsMixed-event (length (board_after cmd board).places) events (Do tag cmd) after (acts_of (ticks events) cmd ++ acts events) refl
-        (count ∙ h.mixed.count ∙ sym (length-places cmd board)) (acts-taken events tag board h.board cmd served e) (past (acts events) h.mixed.past);
+        IsMixed-event (length (live_with cmd live).places) events (Do tag cmd) after (acts_of (ticks events) cmd ++ acts events) refl
+        (count ∙ h.mixed.count ∙ sym (length-places cmd live)) (acts-taken events tag live h.live cmd served e) (past (acts events) h.mixed.past);
     shown =
-        subst (λ (m : ℕ). IsShownBefore m (events ++ Do tag cmd ∷ []) routes) (sym (length-places cmd board))
-        (IsShownBefore-same (length board.places) events (events ++ Do tag cmd ∷ []) routes (last_shown-command events tag cmd) h.shown);
+        subst (λ (m : ℕ). IsShownBefore m (events ++ Do tag cmd ∷ []) routes) (sym (length-places cmd live))
+        (IsShownBefore-same (length live.places) events (events ++ Do tag cmd ∷ []) routes (last_shown-command events tag cmd) h.shown);
   }
 
   -- their answers
-  pub answer-refused : (setup : Setup) → is_refused_on cmd board ≡ true → answer setup events (Do tag cmd) ≡ StageAnswer.Answered reply.Refused
+  pub answer-refused : (setup : Setup) → is_refused_on cmd live ≡ true → answer setup events (Do tag cmd) ≡ StageAnswer.Answered reply.Refused
   unfolding answer
   answer-refused setup e =
-      ap (λ (refused : Bool). StageAnswer.Answered (command_answer setup events refused cmd)) (refused-command events tag board h.board cmd served ∙ e)
+      ap (λ (refused : Bool). StageAnswer.Answered (command_answer setup events refused cmd)) (refused-command events tag live h.live cmd served ∙ e)
       ∙ ap StageAnswer.Answered (of_refused cmd e)
     where
-      of_refused : (one : Cmd) → is_refused_on one board ≡ true → command_answer setup events true one ≡ reply.Refused
+      of_refused : (one : Cmd) → is_refused_on one live ≡ true → command_answer setup events true one ≡ reply.Refused
       of_refused (Load at take) over = refl
       of_refused (LoadBg at take) over = refl
       of_refused (Play at) over = refl
@@ -186,163 +186,163 @@ module _ (events : List Event) (tag : Tag) (cmd : Cmd) (board saved : BoardView)
       of_refused (Value at prop) over = absurd (false≢true over)
       of_refused Info over = absurd (false≢true over)
 
-  pub answer-taken : (setup : Setup) → is_refused_on cmd board ≡ false →
+  pub answer-taken : (setup : Setup) → is_refused_on cmd live ≡ false →
       answer setup events (Do tag cmd) ≡ StageAnswer.Answered (command_answer setup events false cmd)
   unfolding answer
   answer-taken setup e =
-      ap (λ (refused : Bool). StageAnswer.Answered (command_answer setup events refused cmd)) (refused-command events tag board h.board cmd served ∙ e)
+      ap (λ (refused : Bool). StageAnswer.Answered (command_answer setup events refused cmd)) (refused-command events tag live h.live cmd served ∙ e)
 
 -- each command of a list, one after another
 pub AllServed-from : (n : ℕ) (cmds : List Cmd) → All (IsServed n) cmds → AllServed n cmds
 AllServed-from n [] h = tt
 AllServed-from n (cmd ∷ cmds) h = (h 0 cmd (omega arith), AllServed-from n cmds (λ i d low. h (suc i) d (omega arith)))
 
-module _ (events : List Event) (tag : Tag) (cmds : List Cmd) (board saved : BoardView) (mixer : MixerView) (routes : RoutesView) (h : IsStage events board saved mixer routes)
-    (each : All (IsServed (length board.places)) cmds) where
+module _ (events : List Event) (tag : Tag) (cmds : List Cmd) (live saved : LiveView) (mixer : MixerView) (routes : RoutesView) (h : IsStage events live saved mixer routes)
+    (each : All (IsServed (length live.places)) cmds) where
   -- where it is not refused, the mixer can take it
   pub each_by_mixer : All (IsServed mixer.channels) cmds
   each_by_mixer = subst (λ (n : ℕ). All (IsServed n) cmds) (sym h.mixed.count) each
 
-  pub can_take_each : some_is_refused_on cmds board ≡ false → CanTake cmds (ticks events) mixer
+  pub can_take_each : some_is_refused_on cmds live ≡ false → CanTake cmds (ticks events) mixer
   can_take_each e =
-      can_take_all (length board.places) events mixer h.mixed cmds
-      (some_refused_by events tag board h.board cmds (AllServed-from (length board.places) cmds each) ∙ e)
+      can_take_all (length live.places) events mixer h.mixed cmds
+      (some_refused_by events tag live h.live cmds (AllServed-from (length live.places) cmds each) ∙ e)
 
   -- after a batch that is refused
-  pub IsStage-batch_refused : some_is_refused_on cmds board ≡ true → IsStage (events ++ Batch tag cmds ∷ []) board board mixer routes
+  pub IsStage-batch_refused : some_is_refused_on cmds live ≡ true → IsStage (events ++ Batch tag cmds ∷ []) live live mixer routes
   IsStage-batch_refused e = record {
-    board = IsBoardOf-batch_refused events tag board h.board cmds (AllServed-from (length board.places) cmds each) e;
+    live = IsLiveStateOf-batch_refused events tag live h.live cmds (AllServed-from (length live.places) cmds each) e;
     saved = refl;
     mixed =
-        IsMixed-event (length board.places) events (Batch tag cmds) mixer (acts events) refl h.mixed.count
-        (acts-batch_refused events tag board h.board cmds (AllServed-from (length board.places) cmds each) e) h.mixed.past;
-    shown = IsShownBefore-same (length board.places) events (events ++ Batch tag cmds ∷ []) routes (last_shown-batch events tag cmds) h.shown;
+        IsMixed-event (length live.places) events (Batch tag cmds) mixer (acts events) refl h.mixed.count
+        (acts-batch_refused events tag live h.live cmds (AllServed-from (length live.places) cmds each) e) h.mixed.past;
+    shown = IsShownBefore-same (length live.places) events (events ++ Batch tag cmds ∷ []) routes (last_shown-batch events tag cmds) h.shown;
   }
 
   -- and after one that is not
   pub IsStage-batch_taken : (after : MixerView) → after.channels ≡ mixer.channels →
       ((earlier : List Act) → Represents mixer earlier (ticks events) → Represents after (acts_after_all (ticks events) cmds earlier) (ticks events)) →
-      some_is_refused_on cmds board ≡ false → IsStage (events ++ Batch tag cmds ∷ []) (board_after_all cmds board) board after routes
+      some_is_refused_on cmds live ≡ false → IsStage (events ++ Batch tag cmds ∷ []) (live_with_all cmds live) live after routes
   IsStage-batch_taken after count past e = record {
-    board = IsBoardOf-batch_taken events tag board h.board cmds (AllServed-from (length board.places) cmds each) e;
-    saved = sym (length-all cmds board);
+    live = IsLiveStateOf-batch_taken events tag live h.live cmds (AllServed-from (length live.places) cmds each) e;
+    saved = sym (length-all cmds live);
     mixed =
-        IsMixed-event (length (board_after_all cmds board).places) events (Batch tag cmds) after (acts_after_all (ticks events) cmds (acts events)) refl
-        (count ∙ h.mixed.count ∙ sym (length-all cmds board))
-        (acts-batch_taken events tag board h.board cmds (AllServed-from (length board.places) cmds each) e) (past (acts events) h.mixed.past);
+        IsMixed-event (length (live_with_all cmds live).places) events (Batch tag cmds) after (acts_after_all (ticks events) cmds (acts events)) refl
+        (count ∙ h.mixed.count ∙ sym (length-all cmds live))
+        (acts-batch_taken events tag live h.live cmds (AllServed-from (length live.places) cmds each) e) (past (acts events) h.mixed.past);
     shown =
-        subst (λ (m : ℕ). IsShownBefore m (events ++ Batch tag cmds ∷ []) routes) (sym (length-all cmds board))
-        (IsShownBefore-same (length board.places) events (events ++ Batch tag cmds ∷ []) routes (last_shown-batch events tag cmds) h.shown);
+        subst (λ (m : ℕ). IsShownBefore m (events ++ Batch tag cmds ∷ []) routes) (sym (length-all cmds live))
+        (IsShownBefore-same (length live.places) events (events ++ Batch tag cmds ∷ []) routes (last_shown-batch events tag cmds) h.shown);
   }
 
   -- their answers
-  pub answer-batch : (setup : Setup) → answer setup events (Batch tag cmds) ≡ StageAnswer.Answered (outcome_of (some_is_refused_on cmds board))
+  pub answer-batch : (setup : Setup) → answer setup events (Batch tag cmds) ≡ StageAnswer.Answered (outcome_of (some_is_refused_on cmds live))
   unfolding answer
   answer-batch setup =
       ap (λ (refused : Bool). StageAnswer.Answered (outcome_of refused))
-      (refused-batch events tag board h.board cmds (AllServed-from (length board.places) cmds each))
+      (refused-batch events tag live h.live cmds (AllServed-from (length live.places) cmds each))
 
-module _ (events : List Event) (board saved : BoardView) (mixer : MixerView) (routes : RoutesView) (h : IsStage events board saved mixer routes) where
+module _ (events : List Event) (live saved : LiveView) (mixer : MixerView) (routes : RoutesView) (h : IsStage events live saved mixer routes) where
   -- where memory was taken for its mixer
-  pub IsStage-as_before : (after : MixerView) → IsAsBefore mixer after → IsStage events board saved after routes
+  pub IsStage-as_before : (after : MixerView) → IsAsBefore mixer after → IsStage events live saved after routes
   IsStage-as_before after same = record {
-    board = h.board;
+    live = h.live;
     saved = h.saved;
-    mixed = IsMixed-as_before (length board.places) events mixer h.mixed after same;
+    mixed = IsMixed-as_before (length live.places) events mixer h.mixed after same;
     shown = h.shown;
   }
 
   -- the statuses of the channels
-  pub statuses-shown : (setup : Setup) → length setup.channels ≡ length board.places →
-      status_list_of (map (λ (one : Places). status_of (filter_map foreground_of one)) board.places) (length board.places)
+  pub statuses-shown : (setup : Setup) → length setup.channels ≡ length live.places →
+      status_list_of (map (λ (one : Places). status_of (filter_map foreground_of one)) live.places) (length live.places)
       ≡ status_list_of (statuses setup events) (length setup.channels)
   statuses-shown setup same =
-      let n : ℕ = length board.places in
-      let listed : map (λ (one : Places). status_of (filter_map foreground_of one)) board.places ≡ statuses setup events =
-      ap (map (λ (one : Places). status_of (filter_map foreground_of one))) (channels-shown (length board.places) board.places (places events) refl h.board.shows.places)
-      ∙ map_of_map (λ (one : Places). status_of (filter_map foreground_of one)) (places events) 1 (length board.places)
+      let n : ℕ = length live.places in
+      let listed : map (λ (one : Places). status_of (filter_map foreground_of one)) live.places ≡ statuses setup events =
+      ap (map (λ (one : Places). status_of (filter_map foreground_of one))) (channels-shown (length live.places) live.places (places events) refl h.live.shows.places)
+      ∙ map_of_map (λ (one : Places). status_of (filter_map foreground_of one)) (places events) 1 (length live.places)
       ∙ ap (λ (m : ℕ). map (λ k. status_of (filter_map foreground_of (places events k))) (range_with_len 1 m)) (sym same)
       ∙ sym (statuses-places setup events) in
       ap₂ (λ (list : List Status) (m : ℕ). status_list_of list m) listed (sym same)
 
   -- after a stop
-  pub IsStage-stop : (tag : Tag) → IsStage (events ++ Stop tag ∷ []) board saved mixer routes
+  pub IsStage-stop : (tag : Tag) → IsStage (events ++ Stop tag ∷ []) live saved mixer routes
   IsStage-stop tag = record {
-    board = IsBoardOf-stop events tag board h.board;
+    live = IsLiveStateOf-stop events tag live h.live;
     saved = h.saved;
-    mixed = IsMixed-event (length board.places) events (Stop tag) mixer (acts events) refl h.mixed.count (acts-stop events tag) h.mixed.past;
-    shown = IsShownBefore-same (length board.places) events (events ++ Stop tag ∷ []) routes (last_shown-stop events tag) h.shown;
+    mixed = IsMixed-event (length live.places) events (Stop tag) mixer (acts events) refl h.mixed.count (acts-stop events tag) h.mixed.past;
+    shown = IsShownBefore-same (length live.places) events (events ++ Stop tag ∷ []) routes (last_shown-stop events tag) h.shown;
   }
 
   -- after a tick
-  later_at : (k : ℕ) → IsConfigured (length board.places) k →
-      places_of k (map (λ (one : Places). map one_tick_later one) board.places) ≡ places (events ++ Tick ∷ []) k
+  later_at : (k : ℕ) → IsConfigured (length live.places) k →
+      places_of k (map (λ (one : Places). map one_tick_later one) live.places) ≡ places (events ++ Tick ∷ []) k
   later_at k c =
-      get_or-map (λ (one : Places). map one_tick_later one) board.places (k - 1) [] [] (omega (arith, c.0, c.1))
-      ∙ ap (map one_tick_later) (h.board.shows.places k c) ∙ sym (places-tick events k)
+      get_or-map (λ (one : Places). map one_tick_later one) live.places (k - 1) [] [] (omega (arith, c.0, c.1))
+      ∙ ap (map one_tick_later) (h.live.shows.places k c) ∙ sym (places-tick events k)
 
-  pub ShowsStage-tick : ShowsStage (length board.places) (board_one_tick_later board) (stage_after (events ++ Tick ∷ []))
+  pub ShowsStage-tick : ShowsStage (length live.places) (live_one_tick_later live) (stage_after (events ++ Tick ∷ []))
   ShowsStage-tick = record {
-    count = length-map board.places (λ (one : Places). map one_tick_later one);
-    counts = h.board.shows.counts;
+    count = length-map live.places (λ (one : Places). map one_tick_later one);
+    counts = h.live.shows.counts;
     few =
-        none_over (length board.places) (map (λ (one : Places). map one_tick_later one) board.places) (places (events ++ Tick ∷ []))
-        (length-map board.places (λ (one : Places). map one_tick_later one)) later_at (IsWithinLimits-history (events ++ Tick ∷ [])).places;
+        none_over (length live.places) (map (λ (one : Places). map one_tick_later one) live.places) (places (events ++ Tick ∷ []))
+        (length-map live.places (λ (one : Places). map one_tick_later one)) later_at (IsWithinLimits-history (events ++ Tick ∷ [])).places;
     places = later_at;
-    waiting = λ k c. h.board.shows.waiting k c ∙ sym (ap (λ (s : StageState). s.waiting k) (stage_after-tick events));
+    waiting = λ k c. h.live.shows.waiting k c ∙ sym (ap (λ (s : StageState). s.waiting k) (stage_after-tick events));
   }
 
-  pub IsStage-tick : IsStage (events ++ Tick ∷ []) (board_one_tick_later board) saved mixer
-      (with_present (map (filter_map shown_layer) board.places) (next_tick routes))
+  pub IsStage-tick : IsStage (events ++ Tick ∷ []) (live_one_tick_later live) saved mixer
+      (with_present (map (filter_map shown_layer) live.places) (next_tick routes))
   IsStage-tick = record {
-    board =
-        board_of (events ++ Tick ∷ []) (board_one_tick_later board) (length board.places) (length-map board.places (λ (one : Places). map one_tick_later one))
-        h.board.some_channels h.board.channels (subst (AreServed (length board.places)) (sym (acts-tick events)) h.board.served) ShowsStage-tick;
-    saved = h.saved ∙ sym (length-map board.places (λ (one : Places). map one_tick_later one));
-    mixed = subst (λ (m : ℕ). IsMixed m (events ++ Tick ∷ []) mixer) (sym (length-map board.places (λ (one : Places). map one_tick_later one)))
-        (IsMixed-tick (length board.places) events mixer (acts-tick events) h.mixed);
-    shown = subst (λ (m : ℕ). IsShownBefore m (events ++ Tick ∷ []) (with_present (map (filter_map shown_layer) board.places) (next_tick routes)))
-        (sym (length-map board.places (λ (one : Places). map one_tick_later one)))
+    live =
+        live_state_of (events ++ Tick ∷ []) (live_one_tick_later live) (length live.places) (length-map live.places (λ (one : Places). map one_tick_later one))
+        h.live.some_channels h.live.channels (subst (AreServed (length live.places)) (sym (acts-tick events)) h.live.served) ShowsStage-tick;
+    saved = h.saved ∙ sym (length-map live.places (λ (one : Places). map one_tick_later one));
+    mixed = subst (λ (m : ℕ). IsMixed m (events ++ Tick ∷ []) mixer) (sym (length-map live.places (λ (one : Places). map one_tick_later one)))
+        (IsMixed-tick (length live.places) events mixer (acts-tick events) h.mixed);
+    shown = subst (λ (m : ℕ). IsShownBefore m (events ++ Tick ∷ []) (with_present (map (filter_map shown_layer) live.places) (next_tick routes)))
+        (sym (length-map live.places (λ (one : Places). map one_tick_later one)))
         (record {
           count = h.shown.count;
           shown =
-              subst (KeepsForegrounds (length board.places) (Some (map (filter_map shown_layer) board.places))) (sym (last_shown-tick events))
-              (keeps_next (length board.places) board.places (places events) refl (ArePlaces-places events) h.board.shows.places);
+              subst (KeepsForegrounds (length live.places) (Some (map (filter_map shown_layer) live.places))) (sym (last_shown-tick events))
+              (keeps_next (length live.places) live.places (places events) refl (ArePlaces-places events) h.live.shows.places);
         });
   }
 
   -- its places route to its channels alone
-  places-routed : (k : ℕ) → All (λ (place : ℕ × Life). OfPlace (IsRouted (length board.places)) place.1) (places events k)
+  places-routed : (k : ℕ) → All (λ (place : ℕ × Life). OfPlace (IsRouted (length live.places)) place.1) (places events k)
   places-routed k =
       All-weaker (λ (place : ℕ × Life). place.1 ≡ state (acts events) (ticks events) (record { channel = k; layer = place.0 }))
-      (λ (place : ℕ × Life). OfPlace (IsRouted (length board.places)) place.1)
-      (λ place e. subst (OfPlace (IsRouted (length board.places))) (sym e)
-      (OfPlace-routed (length board.places) (acts events) (ticks events) (record { channel = k; layer = place.0 }) h.board.served))
+      (λ (place : ℕ × Life). OfPlace (IsRouted (length live.places)) place.1)
+      (λ place e. subst (OfPlace (IsRouted (length live.places))) (sym e)
+      (OfPlace-routed (length live.places) (acts events) (ticks events) (record { channel = k; layer = place.0 }) h.live.served))
       (places events k) (places-states events k)
 
   -- what it shows
-  scene_at_once : (k : ℕ) → IsConfigured (length board.places) k →
-      scene events k ≡ scene_next (mixed_values mixer (ticks events + 1)) (option_map shown_at routes.present) board.places k
+  scene_at_once : (k : ℕ) → IsConfigured (length live.places) k →
+      scene events k ≡ scene_next (mixed_values mixer (ticks events + 1)) (option_map shown_at routes.present) live.places k
   scene_at_once k c =
       scene-places events k
-      ∙ drawn_places (length board.places) routes.present (last_shown events) h.shown.shown (mixed_values mixer (ticks events + 1)) (acts events) (ticks events) k (places events k)
+      ∙ drawn_places (length live.places) routes.present (last_shown events) h.shown.shown (mixed_values mixer (ticks events + 1)) (acts events) (ticks events) k (places events k)
       (λ layer prop. h.mixed.past.values (record { channel = k; layer = layer }) prop (ticks events + 1) (c.0, omega (arith, c.1, h.mixed.count)) (omega arith))
       (places-routed k)
-      ∙ ap (filter_map (drawn_next (mixed_values mixer (ticks events + 1)) (option_map shown_at routes.present) k)) (sym (h.board.shows.places k c))
+      ∙ ap (filter_map (drawn_next (mixed_values mixer (ticks events + 1)) (option_map shown_at routes.present) k)) (sym (h.live.shows.places k c))
 
-  pub scenes-shown : map (scene events) (range_with_len 1 (length board.places))
-      ≡ map (scene_next (mixed_values mixer (ticks events + 1)) (option_map shown_at routes.present) board.places) (range_with_len 1 (length board.places))
-  scenes-shown = same_on_range (scene events) (scene_next (mixed_values mixer (ticks events + 1)) (option_map shown_at routes.present) board.places) (length board.places) scene_at_once
+  pub scenes-shown : map (scene events) (range_with_len 1 (length live.places))
+      ≡ map (scene_next (mixed_values mixer (ticks events + 1)) (option_map shown_at routes.present) live.places) (range_with_len 1 (length live.places))
+  scenes-shown = same_on_range (scene events) (scene_next (mixed_values mixer (ticks events + 1)) (option_map shown_at routes.present) live.places) (length live.places) scene_at_once
 
   -- where the history may have one tick more, so may each place be shown for one more
-  pub AllHaveTicksLeft : ticks events < MAX_TICKS → All (All HasTicksLeft) board.places
+  pub AllHaveTicksLeft : ticks events < MAX_TICKS → All (All HasTicksLeft) live.places
   AllHaveTicksLeft low k d within =
       let here : (k + 1) - 1 ≡ k = omega arith in
-      subst (All HasTicksLeft) (sym (get_default k d within ∙ ap (λ (j : ℕ). get_or board.places j []) (sym here) ∙ h.board.shows.places (k + 1) (omega arith, omega (arith, within))))
+      subst (All HasTicksLeft) (sym (get_default k d within ∙ ap (λ (j : ℕ). get_or live.places j []) (sym here) ∙ h.live.shows.places (k + 1) (omega arith, omega (arith, within))))
       (left (k + 1))
     where
-      get_default : (j : ℕ) (e : Places) → j < length board.places → get_or board.places j e ≡ get_or board.places j []
-      get_default j e low = get_or_default board.places j e [] low
+      get_default : (j : ℕ) (e : Places) → j < length live.places → get_or live.places j e ≡ get_or live.places j []
+      get_default j e low = get_or_default live.places j e [] low
 
       few_enough : (found : Option Foreground) (t : ℕ) → t < MAX_TICKS → ForSome found (λ f. f.shown ≤ t) → ForSome found (λ f. f.shown < MAX_TICKS)
       few_enough found t low few x e = let q = few x e in omega (arith, q, low)
@@ -362,22 +362,22 @@ module _ (events : List Event) (board saved : BoardView) (mixer : MixerView) (ro
           (places events channel) (places-states events channel)
 
   -- and a tick can show the places of each channel
-  AllHaveOwnRoutes : All (All (HasOwnRoutes (length board.places))) board.places
+  AllHaveOwnRoutes : All (All (HasOwnRoutes (length live.places))) live.places
   AllHaveOwnRoutes k d within =
       let here : (k + 1) - 1 ≡ k = omega arith in
-      subst (All (HasOwnRoutes (length board.places)))
-      (sym (get_or_default board.places k d [] within ∙ ap (λ (j : ℕ). get_or board.places j []) (sym here) ∙ h.board.shows.places (k + 1) (omega arith, omega (arith, within))))
-      (All-weaker (λ (place : ℕ × Life). OfPlace (IsRouted (length board.places)) place.1) (HasOwnRoutes (length board.places))
-      (λ place routed. IsShown-routed (length board.places) place routed) (places events (k + 1)) (places-routed (k + 1)))
+      subst (All (HasOwnRoutes (length live.places)))
+      (sym (get_or_default live.places k d [] within ∙ ap (λ (j : ℕ). get_or live.places j []) (sym here) ∙ h.live.shows.places (k + 1) (omega arith, omega (arith, within))))
+      (All-weaker (λ (place : ℕ × Life). OfPlace (IsRouted (length live.places)) place.1) (HasOwnRoutes (length live.places))
+      (λ place routed. IsShown-routed (length live.places) place routed) (places events (k + 1)) (places-routed (k + 1)))
 
-  pub AllCanShow : ticks events < MAX_TICKS → All (CanShow (length board.places)) board.places
+  pub AllCanShow : ticks events < MAX_TICKS → All (CanShow (length live.places)) live.places
   AllCanShow low k d within = record {
     ticks = AllHaveTicksLeft low k d within;
     routes = AllHaveOwnRoutes k d within;
     few =
-        let mine : get_or board.places k d ≡ get_or board.places k [] = get_or_default board.places k d [] within in
-        let few : length (get_or board.places k []) ≤ MAX_LIVE_LAYERS =
-        ltb-false MAX_LIVE_LAYERS (length (get_or board.places k [])) (one_within board.places h.board.shows.few k within) in
+        let mine : get_or live.places k d ≡ get_or live.places k [] = get_or_default live.places k d [] within in
+        let few : length (get_or live.places k []) ≤ MAX_LIVE_LAYERS =
+        ltb-false MAX_LIVE_LAYERS (length (get_or live.places k [])) (one_within live.places h.live.shows.few k within) in
         subst (λ (ps : Places). length ps ≤ MAX_LIVE_LAYERS) (sym mine) few;
   }
 

@@ -2,7 +2,7 @@
 use Rattle.std.proofs.Common.{ℕ, zero, suc, ◌+◌, ◌-◌, Bool, true, false, List, [], ◌∷◌, if◌then◌else◌}
 use Rattle.std.specs.Prelude.{Option, Some, None, option_map, nat_lt}
 use Rattle.play_types.specs.Place.{PlaceView}
-use Rattle.play_types.specs.Take.{TakeView}
+use Rattle.play_types.specs.Take.{TakeView, played}
 use Rattle.play_types.specs.declared.transition.Kind.{Kind}
 use Rattle.play_types.specs.declared.transition.Kind.TheVariants.{Cut, Mix, Push, Slide, Wipe}
 use Rattle.play_types.specs.declared.take.Spec.{Spec}
@@ -116,7 +116,8 @@ module _ (P : Spec → Type 0) where
   OfPlace-effect (Load at take) s c h = record { foreground = (c, tt); background = tt }
   OfPlace-effect (LoadBg at take) s c h = record { foreground = h.foreground; background = c }
   OfPlace-effect (Play at) s c h = OfPlace-play s.background s h
-  OfPlace-effect (PlayTake at take) s c h = h
+  OfPlace-effect (PlayTake at take) s c h =
+      OfPlace-start (record s { background = Some (played take) }) (record { foreground = h.foreground; background = c })
   OfPlace-effect (Pause at) s c h = record { foreground = OfForeground-mark true s.foreground h.foreground; background = h.background }
   OfPlace-effect (Resume at) s c h = record { foreground = OfForeground-mark false s.foreground h.foreground; background = h.background }
   OfPlace-effect (StopLayer at) s c h = record { foreground = tt; background = h.background }

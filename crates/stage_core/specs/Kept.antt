@@ -11,20 +11,20 @@ use Rattle.mixer_state.specs.Mixer.{MixerView}
 use Rattle.mixer_state.specs.Past.{Represents}
 use Rattle.route_graph.specs.Past.{KeepsForegrounds}
 use Rattle.route_graph.specs.Routes.{RoutesView}
-use Rattle.stage_core.specs.Served.{IsServed}
-use Rattle.stage_core.specs.Board.{BoardView, ShowsStage}
+use Rattle.history_model.specs.commands.Channels.{IsServed}
+use Rattle.stage_core.specs.LiveState.{LiveView, ShowsStage}
 
 -- each act names channels of the stage alone
 abbrev pub AreServed : ℕ → List Act → Type 0
 AreServed channels [] = Unit {0}
 AreServed channels (act ∷ before) = IsServed channels act.cmd × AreServed channels before
 
--- the board shows the stage after the events, whose commands name its channels alone
-pub record IsBoardOf (events : List Event) (board : BoardView) : Type 0 where
-  pub some_channels : 1 ≤ length board.places
-  pub channels : length board.places ≤ MAX_CHANNELS
-  pub served : AreServed (length board.places) (acts events)
-  pub shows : ShowsStage (length board.places) board (stage_after events)
+-- the live state shows the stage after the events, whose commands name its channels alone
+pub record IsLiveStateOf (events : List Event) (live : LiveView) : Type 0 where
+  pub some_channels : 1 ≤ length live.places
+  pub channels : length live.places ≤ MAX_CHANNELS
+  pub served : AreServed (length live.places) (acts events)
+  pub shows : ShowsStage (length live.places) live (stage_after events)
 
 -- the routes keep what the places of the first `channels` channels showed at the last tick of the events
 pub record IsShownBefore (channels : ℕ) (events : List Event) (routes : RoutesView) : Type 0 where
@@ -36,9 +36,9 @@ pub record IsMixed (channels : ℕ) (events : List Event) (mixer : MixerView) : 
   pub count : mixer.channels ≡ channels
   pub past : Represents mixer (acts events) (ticks events)
 
--- a stage after the events: its board, another of as many channels, its mixer, and its routes
-pub record IsStage (events : List Event) (one other : BoardView) (mixer : MixerView) (routes : RoutesView) : Type 0 where
-  pub board : IsBoardOf events one
+-- a stage after the events: its live state, another of as many channels, its mixer, and its routes
+pub record IsStage (events : List Event) (one other : LiveView) (mixer : MixerView) (routes : RoutesView) : Type 0 where
+  pub live : IsLiveStateOf events one
   pub saved : length other.places ≡ length one.places
   pub mixed : IsMixed (length one.places) events mixer
   pub shown : IsShownBefore (length one.places) events routes

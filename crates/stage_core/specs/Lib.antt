@@ -1,5 +1,4 @@
 pub mod Stage
-pub mod Served
-pub mod Board
+pub mod LiveState
 pub mod Kept
 pub mod inner

@@ -1,18 +1,19 @@
 //! The live places of all channels.
 ghost use Rattle.std.specs.Prelude.{◌≡◌, ◌+◌, ◌-◌, ◌≤◌, [], All, IfOk, Some, false, filter_map, length, map, replicate};
 ghost use Rattle.std.specs.List.{range_with_len, swap};
+ghost use Rattle.play_types.specs.ChannelItems.{with_channel_item};
 ghost use Rattle.play_types.specs.Scene.{IsConfigured};
 ghost use Rattle.play_types.specs.declared.place.TheConstants.{MAX_LIVE_LAYERS};
 ghost use Rattle.history_model.specs.stage.Places.{ArePlaces, one_tick_later};
-ghost use Rattle.stage_core.specs.Board.{changed_place, is_some_over, kept_within, life_at, places_of, with_exchanged, with_life, with_places};
+ghost use Rattle.stage_core.specs.LiveState.{changed_place, is_some_over, kept_within, life_at, places_of, with_exchanged, with_life};
 ghost use Rattle.stage_core.specs.inner.Drawn.{mixed_values, scene_next, shown_layer, tick_past, with_present};
 ghost use Rattle.stage_core.specs.inner.Shown.{CanShow};
 
-use crate::command::taken;
+use crate::command::layer_after;
 use crate::places::PlaceList;
 use layer_state::Layer;
 use mixer_state::Mixer;
-use play_types::{Cmd, Place, Scenes};
+use play_types::{Cmd, Place, Scenes, channel_index};
 use route_graph::Routes;
 use std::alloc::{AllocError, Global};
 use std::marker::Model;
@@ -24,7 +25,7 @@ pub(crate) struct LivePlaces {
 }
 
 impl Model for LivePlaces {
-    ghost use Rattle.stage_core.specs.Board.{Channels};
+    ghost use Rattle.stage_core.specs.LiveState.{Channels};
 
     ghost Value = { Channels };
 
@@ -43,8 +44,8 @@ impl LivePlaces {
         Ok(LivePlaces { channels })
     }
 
-    /// Lets a command act on a place, and returns whether it is refused. It is where some channel would have more than 64
-    /// live places, and the places are then as before.
+    /// Lets a command act on a place, and returns whether it is refused: if some channel would have more than 64 live places.
+    /// The places are then as before.
     pub(crate) fn change(&mut self, at: Place, cmd: &Cmd) -> bool
         requires channel { IsConfigured (length self.old) at.channel }
         requires few { is_some_over self.old ≡ false }
@@ -52,8 +53,8 @@ impl LivePlaces {
         ensures after { self.new ≡ kept_within (changed_place at cmd.now self.old) self.old }
         ensures few { is_some_over self.new ≡ false }
     {
-        let before = self.life(at);
-        self.put(at, taken(cmd, before));
+        let before = self.layer(at);
+        self.put(at, layer_after(cmd, before));
         if self.is_some_over() {
             self.put(at, before);
             return true;
@@ -61,8 +62,8 @@ impl LivePlaces {
         false
     }
 
-    /// Exchanges two places, and returns whether that is refused. It is where some channel would have more than 64 live
-    /// places, and the places are then as before.
+    /// Exchanges two places, and returns whether that is refused: if some channel would have more than 64 live places. The
+    /// places are then as before.
     pub(crate) fn exchange(&mut self, a: Place, b: Place) -> bool
         requires first { IsConfigured (length self.old) a.channel }
         requires second { IsConfigured (length self.old) b.channel }
@@ -71,13 +72,11 @@ impl LivePlaces {
         ensures after { self.new ≡ kept_within (with_exchanged a b self.old) self.old }
         ensures few { is_some_over self.new ≡ false }
     {
-        let first = self.life(a);
-        let second = self.life(b);
-        self.put(a, second);
-        self.put(b, first);
+        let first = self.layer(a);
+        let second = self.layer(b);
+        self.put_both(a, second, b, first);
         if self.is_some_over() {
-            self.put(b, second);
-            self.put(a, first);
+            self.put_both(b, second, a, first);
             return true;
         }
         false
@@ -89,15 +88,15 @@ impl LivePlaces {
         requires second { IsConfigured (length self.old) b }
         ensures { self.new ≡ swap self.old (a - 1) (b - 1) }
     {
-        self.channels.swap(usize::from(a) - 1, usize::from(b) - 1);
+        self.channels.swap(channel_index(a), channel_index(b));
     }
 
     /// Removes all places of a channel.
     pub(crate) fn clear(&mut self, channel: u8)
         requires { IsConfigured (length self.old) channel }
-        ensures { self.new ≡ with_places channel [] self.old }
+        ensures { self.new ≡ with_channel_item channel [] self.old }
     {
-        self.channels[usize::from(channel) - 1].clear();
+        self.channels[channel_index(channel)].clear();
     }
 
     /// Copies the places of others in place of those that are here. It takes no memory.
@@ -144,25 +143,37 @@ impl LivePlaces {
         requires { IsConfigured (length self.now) channel }
         ensures { result.now ≡ places_of channel self.now }
     {
-        &self.channels[usize::from(channel) - 1]
+        &self.channels[channel_index(channel)]
     }
 
-    /// Returns what stands at a place.
-    fn life(&self, at: Place) -> Layer
+    /// Returns the layer at a place.
+    fn layer(&self, at: Place) -> Layer
         requires { IsConfigured (length self.now) at.channel }
         ensures value { result ≡ life_at at self.now }
         ensures range { ArePlaces (places_of at.channel self.now) }
     {
-        self.channels[usize::from(at.channel()) - 1].get(at.layer())
+        self.channels[channel_index(at.channel())].get(at.layer())
     }
 
-    /// Puts at a place what now stands there.
-    fn put(&mut self, at: Place, life: Layer)
+    /// Puts a layer at a place.
+    fn put(&mut self, at: Place, layer: Layer)
         requires channel { IsConfigured (length self.old) at.channel }
         requires room { length (places_of at.channel self.old) ≤ MAX_LIVE_LAYERS + 2 }
-        ensures { self.new ≡ with_life at life self.old }
+        ensures { self.new ≡ with_life at layer self.old }
     {
-        self.channels[usize::from(at.channel()) - 1].set(at.layer(), life);
+        self.channels[channel_index(at.channel())].set(at.layer(), layer);
+    }
+
+    /// Puts a layer at one place, and then another at a second one.
+    fn put_both(&mut self, one: Place, first: Layer, other: Place, second: Layer)
+        requires one { IsConfigured (length self.old) one.channel }
+        requires other { IsConfigured (length self.old) other.channel }
+        requires room { length (places_of one.channel self.old) ≤ MAX_LIVE_LAYERS + 2 }
+        requires more { length (places_of other.channel (with_life one first self.old)) ≤ MAX_LIVE_LAYERS + 2 }
+        ensures { self.new ≡ with_life other second (with_life one first self.old) }
+    {
+        self.put(one, first);
+        self.put(other, second);
     }
 
     /// Returns whether some channel has more live places than it may have.

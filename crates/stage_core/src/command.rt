@@ -1,37 +1,36 @@
-//! Where a command acts on contents, and what it makes of the content there.
+//! What a command makes of the layer at a place.
 ghost use Rattle.std.specs.Prelude.{◌≡◌};
+ghost use Rattle.history_model.specs.stage.Life.{effect};
 ghost use Rattle.history_model.specs.stage.Live.{is_live};
-ghost use Rattle.history_model.specs.stage.Places.{taken};
-ghost use Rattle.stage_core.specs.Board.{place_of};
 
 use layer_state::Layer;
-use play_types::{Cmd, Place};
+use play_types::Cmd;
 
-/// Returns whether a place holds a foreground or a background.
-pub(crate) fn is_live(life: &Layer) -> bool
-    ensures { result ≡ is_live life.now }
+/// Returns whether a layer holds a foreground or a background.
+pub(crate) fn is_live(layer: &Layer) -> bool
+    ensures { result ≡ is_live layer.now }
 {
-    life.front().is_some() || life.back().is_some()
+    layer.front().is_some() || layer.back().is_some()
 }
 
-/// Returns what stands at the place of a command after it.
-pub(crate) fn taken(cmd: &Cmd, before: Layer) -> Layer
-    ensures { result ≡ taken cmd.now before }
+/// Returns the layer at the place of a command after the command.
+pub(crate) fn layer_after(cmd: &Cmd, before: Layer) -> Layer
+    ensures { result ≡ effect cmd.now before }
 {
-    let mut life = before;
+    let mut layer = before;
     match cmd {
-        Cmd::Load(_, take) => life.load(*take),
-        Cmd::LoadBg(_, take) => life.load_bg(*take),
-        Cmd::Play(_) => life.play(),
+        Cmd::Load(_, take) => layer.load(*take),
+        Cmd::LoadBg(_, take) => layer.load_bg(*take),
+        Cmd::Play(_) => layer.play(),
         Cmd::PlayTake(_, take) => {
-            life.load_bg(take.without_auto());
-            life.play();
+            layer.load_bg(take.without_auto());
+            layer.play();
         }
-        Cmd::Pause(_) => life.pause(),
-        Cmd::Resume(_) => life.resume(),
-        Cmd::StopLayer(_) => life.stop(),
-        Cmd::ClearLayer(_) => life.clear(),
-        Cmd::ClearChannel(_) => life.clear(),
+        Cmd::Pause(_) => layer.pause(),
+        Cmd::Resume(_) => layer.resume(),
+        Cmd::StopLayer(_) => layer.stop(),
+        Cmd::ClearLayer(_) => layer.clear(),
+        Cmd::ClearChannel(_) => layer.clear(),
         Cmd::SwapLayers(..)
         | Cmd::SwapChannels(..)
         | Cmd::Set(_)
@@ -41,30 +40,5 @@ pub(crate) fn taken(cmd: &Cmd, before: Layer) -> Layer
         | Cmd::Value(..)
         | Cmd::Info => {}
     }
-    life
-}
-
-/// Returns the place on whose content a command acts, `None` where it acts on no content, on two places, or on channels.
-pub(crate) fn place_of(cmd: &Cmd) -> Option<Place>
-    ensures { result ≡ place_of cmd.now }
-{
-    match cmd {
-        Cmd::Load(at, _) => Some(*at),
-        Cmd::LoadBg(at, _) => Some(*at),
-        Cmd::Play(at) => Some(*at),
-        Cmd::PlayTake(at, _) => Some(*at),
-        Cmd::Pause(at) => Some(*at),
-        Cmd::Resume(at) => Some(*at),
-        Cmd::StopLayer(at) => Some(*at),
-        Cmd::ClearLayer(at) => Some(*at),
-        Cmd::ClearChannel(_)
-        | Cmd::SwapLayers(..)
-        | Cmd::SwapChannels(..)
-        | Cmd::Set(_)
-        | Cmd::CommitMixer(_)
-        | Cmd::ResetLayer(_)
-        | Cmd::ResetChannel(_)
-        | Cmd::Value(..)
-        | Cmd::Info => None,
-    }
+    layer
 }

@@ -55,7 +55,7 @@ pub(crate) fn note(place: Place, shown: &Shown, routes: &mut Routes)
     }
 }
 
-/// Returns the still of a picture, by what was shown at the tick before. Nothing where there is no picture.
+/// Returns the still of a picture, by what was shown at the tick before. `Nothing` if there is no picture.
 fn still_of(picture: Option<(Spec, u32)>, routes: &Routes) -> Still
     ensures { result ≡ still_of (tick_past routes.now) picture }
 {

@@ -5,11 +5,11 @@
 //! serves every command and every batch that names its own channels.
 #![tactic(auto)]
 
-mod board;
 mod channels;
 mod command;
 mod drawn;
 mod fault;
+mod live_state;
 mod places;
 mod settle;
 mod stage;

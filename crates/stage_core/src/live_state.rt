@@ -1,106 +1,81 @@
 //! What a stage keeps of its contents and of its waiting settings, and what commands make of it.
-ghost use Rattle.std.specs.Prelude.{◌≡◌, ◌≤◌, [], All, IfOk, None, Some, false, filter_map, length, map, replicate, if◌then◌else◌};
+ghost use Rattle.std.specs.Prelude.{◌≡◌, ◌≤◌, [], All, IfOk, Some, false, filter_map, length, map, replicate, if◌then◌else◌};
 ghost use Rattle.std.specs.List.{range_with_len};
 ghost use Rattle.play_types.specs.Scene.{IsConfigured};
 ghost use Rattle.play_types.specs.declared.place.TheConstants.{MAX_CHANNELS};
-ghost use Rattle.stage_core.specs.Served.{IsServed};
-ghost use Rattle.stage_core.specs.Board.{board_after_all, board_one_tick_later, changed_otherwise, count_of, is_full_for, is_refused_on, is_refused_otherwise, is_some_over, kept_board, place_of, some_is_refused_on, with_setting};
+ghost use Rattle.history_model.specs.commands.Channels.{IsServed};
+ghost use Rattle.stage_core.specs.LiveState.{live_with_all, live_one_tick_later, count_of, is_full_for, is_refused_on, is_some_over, kept_state, some_is_refused_on, with_setting};
 ghost use Rattle.stage_core.specs.inner.Drawn.{mixed_values, scene_next, shown_layer, tick_past, with_present};
 ghost use Rattle.stage_core.specs.inner.Shown.{CanShow};
 
 use crate::channels::LivePlaces;
-use crate::command::place_of;
 use mixer_state::Mixer;
-use play_types::{Cmd, MAX_CHANNELS, MAX_WAITING_SETTINGS, Scenes, Setting};
+use play_types::{
+    Cmd, CommandShape, MAX_CHANNELS, MAX_WAITING_SETTINGS, Scenes, Setting, channel_index,
+};
 use route_graph::Routes;
 use std::alloc::{AllocError, Global};
 use std::marker::Model;
 
 /// The live places of all channels, and how many settings wait on each.
 #[derive(Debug, Drop)]
-pub(crate) struct Board {
+pub(crate) struct LiveState {
     places: LivePlaces,
     // Channel 1 first, with 0 for each channel that the stage lacks.
     waiting: [usize; MAX_CHANNELS],
 }
 
-impl Model for Board {
-    ghost use Rattle.stage_core.specs.Board.{BoardView};
+impl Model for LiveState {
+    ghost use Rattle.stage_core.specs.LiveState.{LiveView};
 
-    ghost Value = { BoardView };
+    ghost Value = { LiveView };
 
     ghost view = { λ b. record { places = b.places; waiting = b.waiting } };
 }
 
-impl Board {
-    /// Creates a board of `count` channels on which nothing stands and nothing waits.
-    pub(crate) fn new(alloc: Global, count: usize) -> Result<Board, AllocError>
-        ensures { IfOk result (λ board. board ≡ record { places = replicate count []; waiting = replicate MAX_CHANNELS 0 }) }
+impl LiveState {
+    /// Creates a live state of `count` channels on which nothing stands and nothing waits.
+    pub(crate) fn new(alloc: Global, count: usize) -> Result<LiveState, AllocError>
+        ensures { IfOk result (λ live. live ≡ record { places = replicate count []; waiting = replicate MAX_CHANNELS 0 }) }
     {
-        Ok(Board {
+        Ok(LiveState {
             places: LivePlaces::new(alloc, count)?,
             waiting: [0; MAX_CHANNELS],
         })
     }
 
-    /// Lets a command act, and returns whether it is refused: where some channel would have more than 64 live places or more
-    /// than 1,024 waiting settings. The board is then as before.
+    /// Lets a command act, and returns whether it is refused: if some channel would have more than 64 live places or more
+    /// than 1,024 waiting settings. The live state is then as before.
     pub(crate) fn apply(&mut self, cmd: &Cmd) -> bool
         requires served { IsServed (length self.old.places) cmd.now }
         requires few { is_some_over self.old.places ≡ false }
         requires counts { length self.old.places ≤ MAX_CHANNELS }
         ensures refused { result ≡ is_refused_on cmd.now self.old }
-        ensures after { self.new ≡ kept_board cmd.now self.old }
+        ensures after { self.new ≡ kept_state cmd.now self.old }
         ensures few { is_some_over self.new.places ≡ false }
     {
-        match place_of(cmd) {
-            Some(at) => self.places.change(at, cmd),
-            None => self.change(cmd),
+        match cmd.shape() {
+            CommandShape::Take(at, _) | CommandShape::Change(at) => self.places.change(at, cmd),
+            CommandShape::ClearChannel(channel) => {
+                self.places.clear(channel);
+                false
+            }
+            CommandShape::SwapLayers(a, b, _) => self.places.exchange(a, b),
+            CommandShape::SwapChannels(a, b, _) => {
+                self.places.exchange_channels(a, b);
+                false
+            }
+            CommandShape::Set(setting) => self.count_setting(&setting),
+            CommandShape::CommitMixer(channel) => {
+                self.waiting[channel_index(channel)] = 0;
+                false
+            }
+            CommandShape::Reset(_) | CommandShape::Ask(_) => false,
         }
     }
 
-    /// Lets a command act that acts on no single place, and returns whether it is refused. The board is then as before.
-    fn change(&mut self, cmd: &Cmd) -> bool
-        requires place { place_of cmd.now ≡ None }
-        requires served { IsServed (length self.old.places) cmd.now }
-        requires few { is_some_over self.old.places ≡ false }
-        requires counts { length self.old.places ≤ MAX_CHANNELS }
-        ensures refused { result ≡ is_refused_otherwise cmd.now self.old }
-        ensures after { self.new ≡ (if is_refused_otherwise cmd.now self.old then self.old else changed_otherwise cmd.now self.old) }
-        ensures few { is_some_over self.new.places ≡ false }
-    {
-        match cmd {
-            Cmd::ClearChannel(channel) => {
-                self.places.clear(*channel);
-                false
-            }
-            Cmd::SwapLayers(a, b, _) => self.places.exchange(*a, *b),
-            Cmd::SwapChannels(a, b, _) => {
-                self.places.exchange_channels(*a, *b);
-                false
-            }
-            Cmd::Set(setting) => self.count_setting(setting),
-            Cmd::CommitMixer(channel) => {
-                self.waiting[usize::from(*channel) - 1] = 0;
-                false
-            }
-            Cmd::Load(..)
-            | Cmd::LoadBg(..)
-            | Cmd::Play(_)
-            | Cmd::PlayTake(..)
-            | Cmd::Pause(_)
-            | Cmd::Resume(_)
-            | Cmd::StopLayer(_)
-            | Cmd::ClearLayer(_)
-            | Cmd::ResetLayer(_)
-            | Cmd::ResetChannel(_)
-            | Cmd::Value(..)
-            | Cmd::Info => false,
-        }
-    }
-
-    /// Counts a setting where it waits, and returns whether it is refused, since as many wait on its channel as may. The
-    /// board is then as before.
+    /// Counts a setting if it waits, and returns whether it is refused, since as many wait on its channel as may. The
+    /// live state is then as before.
     fn count_setting(&mut self, setting: &Setting) -> bool
         requires channel { IsConfigured MAX_CHANNELS setting.now.place.channel }
         ensures refused { result ≡ is_full_for setting.now self.old.waiting }
@@ -110,7 +85,7 @@ impl Board {
         if !setting.deferred() {
             return false;
         }
-        let at = usize::from(setting.place().channel()) - 1;
+        let at = channel_index(setting.place().channel());
         if self.waiting[at] >= MAX_WAITING_SETTINGS {
             return true;
         }
@@ -119,13 +94,13 @@ impl Board {
     }
 
     /// Lets all commands act one after another, and returns whether one of them is refused after the ones before it. The
-    /// board is then as those left it.
+    /// live state is then as those left it.
     pub(crate) fn apply_all(&mut self, cmds: &[Cmd]) -> bool
         requires served { All (IsServed (length self.old.places)) cmds.now }
         requires few { is_some_over self.old.places ≡ false }
         requires counts { length self.old.places ≤ MAX_CHANNELS }
         ensures refused { result ≡ some_is_refused_on cmds.now self.old }
-        ensures after { result ≡ false → self.new ≡ board_after_all cmds.now self.old }
+        ensures after { result ≡ false → self.new ≡ live_with_all cmds.now self.old }
         ensures count { length self.new.places ≡ length self.old.places }
     {
         for cmd in cmds {
@@ -136,8 +111,8 @@ impl Board {
         false
     }
 
-    /// Copies another board of as many channels. It takes no memory.
-    pub(crate) fn copy_from(&mut self, other: &Board)
+    /// Copies another live state of as many channels. It takes no memory.
+    pub(crate) fn copy_from(&mut self, other: &LiveState)
         requires { length self.old.places ≡ length other.now.places }
         ensures { self.new ≡ other.now }
     {
@@ -160,7 +135,7 @@ impl Board {
         requires time { mixer.now.latest ≤ number }
         requires channels { routes.old.channels ≡ length self.old.places }
         requires routes { routes.old.present ≡ Some (replicate (length self.old.places) []) }
-        ensures after { self.new ≡ board_one_tick_later self.old }
+        ensures after { self.new ≡ live_one_tick_later self.old }
         ensures scenes { scenes.new ≡ map (scene_next (mixed_values mixer.now number) (tick_past routes.old) self.old.places) (range_with_len 1 (length self.old.places)) }
         ensures routes { routes.new ≡ with_present (map (filter_map shown_layer) self.old.places) routes.old }
     {

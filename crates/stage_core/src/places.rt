@@ -92,36 +92,36 @@ impl PlaceList {
         }
     }
 
-    /// Returns what stands at a layer: nothing where the layer is not in the list.
-    pub(crate) fn get(&self, layer: u16) -> Layer
-        ensures value { result ≡ standing self.now layer }
+    /// Returns the layer of a number: an empty one if the list lacks it.
+    pub(crate) fn get(&self, number: u16) -> Layer
+        ensures value { result ≡ standing self.now number }
         ensures range { ArePlaces self.now }
     {
-        match self.find(layer) {
+        match self.find(number) {
             Ok(at) => self.places[at].1,
             Err(_) => Layer::new(),
         }
     }
 
-    /// Puts at a layer what now stands there. A place that holds nothing leaves the list.
-    pub(crate) fn set(&mut self, layer: u16, life: Layer)
+    /// Puts a layer at its number. A layer that holds nothing leaves the list.
+    pub(crate) fn set(&mut self, number: u16, layer: Layer)
         requires room { length self.old ≤ MAX_LIVE_LAYERS + 2 }
-        requires layer { layer ≤ MAX_LAYER }
-        ensures { self.new ≡ with_place self.old layer life }
+        requires number { number ≤ MAX_LAYER }
+        ensures { self.new ≡ with_place self.old number layer }
     {
-        match self.find(layer) {
+        match self.find(number) {
             Ok(at) => {
-                if is_live(&life) {
-                    self.places[at] = (layer, life);
+                if is_live(&layer) {
+                    self.places[at] = (number, layer);
                     return;
                 }
                 self.places.remove(at);
             }
             Err(at) => {
-                if !is_live(&life) {
+                if !is_live(&layer) {
                     return;
                 }
-                match self.places.insert(at, (layer, life)) {
+                match self.places.insert(at, (number, layer)) {
                     Ok(()) => {}
                     Err(_) => unreachable!(),
                 }
@@ -155,12 +155,12 @@ impl PlaceList {
         tick_places(&mut self.places, channel, number, mixer, routes, scenes);
     }
 
-    /// Returns where a layer stands in the list, or where it would stand.
-    fn find(&self, layer: u16) -> Result<usize, usize>
-        ensures found { IfOk result (IsAt self.now layer) }
-        ensures absent { IfErr result (IsGapFor self.now layer) }
+    /// Returns where the layer of a number stands in the list, or where it would stand.
+    fn find(&self, number: u16) -> Result<usize, usize>
+        ensures found { IfOk result (IsAt self.now number) }
+        ensures absent { IfErr result (IsGapFor self.now number) }
     {
-        self.places.binary_search_by_key(&layer, |&(at, _)| at)
+        self.places.binary_search_by_key(&number, |&(at, _)| at)
     }
 }
 
@@ -190,10 +190,10 @@ fn tick_places(
     ensures routes { routes.new ≡ with_shown_layers channel (filter_map shown_layer places.old) routes.old }
 {
     for at in 0..places.len() {
-        let (layer, mut life) = places[at];
-        let shown = life.tick();
-        places[at] = (layer, life);
-        let place = Place::new(channel, layer).unwrap();
+        let (layer_number, mut layer) = places[at];
+        let shown = layer.tick();
+        places[at] = (layer_number, layer);
+        let place = Place::new(channel, layer_number).unwrap();
         draw(place, &shown, number, mixer, routes, scenes);
         note(place, &shown, routes);
     }

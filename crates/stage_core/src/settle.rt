@@ -5,11 +5,11 @@ ghost use Rattle.play_types.specs.declared.command.Cmd.TheVariants.{Set};
 ghost use Rattle.history_model.specs.stage.Act.{Act, acts_of};
 ghost use Rattle.history_model.specs.stage.StageState.{acts_after_all};
 ghost use Rattle.mixer_state.specs.Past.{Represents};
-ghost use Rattle.stage_core.specs.Served.{IsServed};
+ghost use Rattle.history_model.specs.commands.Channels.{IsServed};
 ghost use Rattle.stage_core.specs.inner.Settled.{CanTake, settings_of, settings_of_all};
 
-use mixer_state::Mixer;
-use play_types::{Cmd, MAX_WAITING_SETTINGS, Setting};
+use mixer_state::{Mixer, laws};
+use play_types::{Cmd, CommandShape, MAX_WAITING_SETTINGS, Setting, Target};
 use std::alloc::Global;
 
 /// Returns for how many settings a mixer needs memory so that a command takes no more.
@@ -36,7 +36,7 @@ pub(crate) fn settings_of(cmd: &Cmd) -> u32
     }
 }
 
-/// Returns for how many settings a mixer needs memory so that commands take no more. `None` where these are more than a
+/// Returns for how many settings a mixer needs memory so that commands take no more. `None` if these are more than a
 /// mixer can be asked for.
 pub(crate) fn settings_of_all(cmds: &[Cmd]) -> Option<u32>
     ensures { IfSome result (λ count. count ≡ settings_of_all cmds.now) }
@@ -58,36 +58,32 @@ pub(crate) fn settle(alloc: Global, mixer: &mut Mixer, cmd: &Cmd, ticks: u64)
     ensures channels { mixer.new.channels ≡ mixer.old.channels }
     ensures spare { mixer.old.spare ≤ mixer.new.spare + settings_of cmd.now }
 {
-    match cmd {
-        Cmd::Set(setting) => set(alloc, mixer, setting, ticks),
-        Cmd::CommitMixer(channel) => mixer.commit(alloc, *channel, ticks).unwrap(),
-        Cmd::ResetLayer(at) => mixer.clear_layer(*at),
-        Cmd::ResetChannel(channel) => mixer.clear_channel(*channel),
-        Cmd::SwapLayers(a, b, transforms) => {
-            if *transforms {
-                mixer.swap_layers(alloc, *a, *b).unwrap();
+    laws::what_leaves_a_mixer();
+    match cmd.shape() {
+        CommandShape::Set(setting) => set(alloc, mixer, &setting, ticks),
+        CommandShape::CommitMixer(channel) => mixer.commit(alloc, channel, ticks).unwrap(),
+        CommandShape::Reset(target) => match target {
+            Target::Layer(at) => mixer.clear_layer(at),
+            Target::Channel(channel) => mixer.clear_channel(channel),
+        },
+        CommandShape::SwapLayers(a, b, transforms) => {
+            if transforms {
+                mixer.swap_layers(alloc, a, b).unwrap();
             }
         }
-        Cmd::SwapChannels(a, b, transforms) => {
-            if *transforms {
-                mixer.swap_channels(*a, *b);
+        CommandShape::SwapChannels(a, b, transforms) => {
+            if transforms {
+                mixer.swap_channels(a, b);
             }
         }
-        Cmd::Load(..)
-        | Cmd::LoadBg(..)
-        | Cmd::Play(_)
-        | Cmd::PlayTake(..)
-        | Cmd::Pause(_)
-        | Cmd::Resume(_)
-        | Cmd::StopLayer(_)
-        | Cmd::ClearLayer(_)
-        | Cmd::ClearChannel(_)
-        | Cmd::Value(..)
-        | Cmd::Info => {}
+        CommandShape::Take(..)
+        | CommandShape::Change(_)
+        | CommandShape::ClearChannel(_)
+        | CommandShape::Ask(_) => {}
     }
 }
 
-/// Starts a setting, or lets it wait where it is deferred.
+/// Starts a setting, or lets it wait if it is deferred.
 fn set(alloc: Global, mixer: &mut Mixer, setting: &Setting, ticks: u64)
     requires served { IsConfigured mixer.old.channels setting.now.place.channel }
     requires taken { CanTake (Set setting.now ∷ []) ticks mixer.old }

@@ -6,16 +6,16 @@ ghost use Rattle.play_types.specs.declared.event.Event.TheVariants.{Batch, Do, S
 ghost use Rattle.history_model.specs.pictures.Media.{Setup};
 ghost use Rattle.history_model.specs.pictures.Scene.{scene};
 ghost use Rattle.history_model.specs.stage.Answer.{StageAnswer, answer, command_answer};
-ghost use Rattle.stage_core.specs.Served.{IsServed};
+ghost use Rattle.history_model.specs.commands.Channels.{IsServed};
 ghost use Rattle.stage_core.specs.Stage.{HasRoom, HasTime, IsNoTick, IsNotTaken, after_event};
 
-use crate::board::Board;
 use crate::fault::{ApplyFault, Ended, TickFault};
+use crate::live_state::LiveState;
 use crate::settle::{settings_of, settings_of_all, settle, settle_all};
 use crate::status::statuses;
 use mixer_state::Mixer;
 use play_journal::Journal;
-use play_types::{Answer, Cmd, Config, MAX_TICKS, Scenes, Tag};
+use play_types::{Answer, Cmd, CommandShape, Config, MAX_TICKS, Query, Scenes, Tag};
 use route_graph::Routes;
 use std::alloc::{AllocError, Global};
 use std::marker::Model;
@@ -28,9 +28,9 @@ use std::marker::Model;
 #[derive(Debug, Drop)]
 pub struct Stage {
     journal: Journal,
-    board: Board,
-    // The board before a batch, while the batch is judged.
-    saved: Board,
+    live: LiveState,
+    // The live state before a batch, while the batch is judged.
+    saved: LiveState,
     mixer: Mixer,
     routes: Routes,
 }
@@ -42,9 +42,9 @@ impl Model for Stage {
 
     ghost Value = { StageView };
 
-    ghost view = { λ s. record { journal = s.journal; channels = length s.board.places } };
+    ghost view = { λ s. record { journal = s.journal; channels = length s.live.places } };
 
-    ghost invariant = { λ s. IsStage s.journal.events s.board s.saved s.mixer s.routes };
+    ghost invariant = { λ s. IsStage s.journal.events s.live s.saved s.mixer s.routes };
 }
 
 impl Stage {
@@ -57,19 +57,19 @@ impl Stage {
         let count = config.channels().len();
         Ok(Stage {
             journal: Journal::new(alloc, config.journal_limit())?,
-            board: Board::new(alloc, count)?,
-            saved: Board::new(alloc, count)?,
+            live: LiveState::new(alloc, count)?,
+            saved: LiveState::new(alloc, count)?,
             mixer: Mixer::new(alloc, count as u8)?,
             routes: Routes::new(alloc, count as u8)?,
         })
     }
 
     /// Adds a command to the journal, lets it act, and returns its answer: the value or the statuses that a query asks for,
-    /// and to another command `Refused` where a channel would have more than 64 live places or more than 1,024 waiting
+    /// and to another command `Refused` if a channel would have more than 64 live places or more than 1,024 waiting
     /// settings, and `Done` otherwise. A refused command is in the journal too, and changes nothing else.
     ///
-    /// Each place, channel and route that the command names is of a channel of the stage. There is a fault where the journal
-    /// holds a stop, which is tested first, then where the journal is full, and then where memory runs out. After a fault the
+    /// Each place, channel and route that the command names is of a channel of the stage. There is a fault if the journal
+    /// holds a stop, which is tested first, then if the journal is full, and then if memory runs out. After a fault the
     /// stage and its journal are as before.
     pub fn apply(&mut self, alloc: Global, tag: Tag, cmd: Cmd) -> Result<Answer, ApplyFault>
         requires { IsServed self.old.channels cmd }
@@ -88,19 +88,19 @@ impl Stage {
             return Err(ApplyFault::OutOfMemory);
         }
         self.journal.push(alloc, tag, cmd)?;
-        if self.board.apply(&cmd) {
+        if self.live.apply(&cmd) {
             return Ok(Answer::Refused);
         }
         settle(alloc, &mut self.mixer, &cmd, ticks);
         Ok(reply)
     }
 
-    /// Adds a batch to the journal as one event, and lets its commands act one after another. Where one of them is refused
+    /// Adds a batch to the journal as one event, and lets its commands act one after another. If one of them is refused
     /// after the ones before it, the answer is `Refused`, and the batch changes nothing but the journal. Otherwise it is
     /// `Done`.
     ///
     /// The batch is not empty, and its commands are such as [`Stage::apply`] takes. Its faults are those of that call too,
-    /// where the journal is full if it may not hold all commands of the batch.
+    /// and the journal is full if it may not hold all commands of the batch.
     pub fn apply_batch(
         &mut self,
         alloc: Global,
@@ -126,9 +126,9 @@ impl Stage {
             return Err(ApplyFault::OutOfMemory);
         }
         self.journal.push_batch(alloc, tag, cmds)?;
-        self.saved.copy_from(&self.board);
-        if self.board.apply_all(cmds) {
-            self.board.copy_from(&self.saved);
+        self.saved.copy_from(&self.live);
+        if self.live.apply_all(cmds) {
+            self.live.copy_from(&self.saved);
             return Ok(Answer::Refused);
         }
         settle_all(alloc, &mut self.mixer, cmds, ticks);
@@ -138,8 +138,8 @@ impl Stage {
     /// Adds a tick to the journal, writes what each channel shows at it into the scenes, and returns the number of the tick.
     /// The first tick has the number 1. It takes no memory.
     ///
-    /// There are as many scenes as the stage has channels. There is a fault where the journal holds a stop, which is tested
-    /// first, and where it holds 281,474,976,710,656 ticks. After a fault the stage, its journal and the scenes are as before.
+    /// There are as many scenes as the stage has channels. There is a fault if the journal holds a stop, which is tested
+    /// first, and if it holds 281,474,976,710,656 ticks. After a fault the stage, its journal and the scenes are as before.
     pub fn tick(&mut self, scenes: &mut Scenes) -> Result<u64, TickFault>
         requires { length scenes.old ≡ self.old.channels }
         ensures number { IfOk result (λ number. number ≡ ticks self.old.journal.events + 1) }
@@ -160,7 +160,7 @@ impl Stage {
         self.journal.push_tick();
         self.routes.begin_tick();
         scenes.clear();
-        self.board
+        self.live
             .tick(number, &self.mixer, &mut self.routes, scenes);
         Ok(number)
     }
@@ -191,7 +191,7 @@ impl Stage {
         &self.journal
     }
 
-    /// Tests whether the journal takes an event of `commands` commands: where it holds no stop, and where its commands and
+    /// Tests whether the journal takes an event of `commands` commands: if it holds no stop, and if its commands and
     /// these are no more than its limit.
     fn room_for(&self, commands: usize) -> Result<(), ApplyFault>
         ensures room { OnOk result (HasRoom self.now.journal commands) }
@@ -214,26 +214,21 @@ impl Stage {
         ensures { (setup : Setup) → length setup.channels ≡ self.now.channels →
             result ≡ command_answer setup self.now.journal.events false cmd.now }
     {
-        match cmd {
-            Cmd::Value(at, prop) => {
-                Answer::Value(self.mixer.value(*at, *prop, self.journal.ticks()))
-            }
-            Cmd::Info => Answer::Info(statuses(self.board.places())),
-            Cmd::Load(..)
-            | Cmd::LoadBg(..)
-            | Cmd::Play(_)
-            | Cmd::PlayTake(..)
-            | Cmd::Pause(_)
-            | Cmd::Resume(_)
-            | Cmd::StopLayer(_)
-            | Cmd::ClearLayer(_)
-            | Cmd::ClearChannel(_)
-            | Cmd::SwapLayers(..)
-            | Cmd::SwapChannels(..)
-            | Cmd::Set(_)
-            | Cmd::CommitMixer(_)
-            | Cmd::ResetLayer(_)
-            | Cmd::ResetChannel(_) => Answer::Done,
+        match cmd.shape() {
+            CommandShape::Ask(query) => match query {
+                Query::Value(at, prop) => {
+                    Answer::Value(self.mixer.value(at, prop, self.journal.ticks()))
+                }
+                Query::Status => Answer::Info(statuses(self.live.places())),
+            },
+            CommandShape::Take(..)
+            | CommandShape::Change(_)
+            | CommandShape::ClearChannel(_)
+            | CommandShape::SwapLayers(..)
+            | CommandShape::SwapChannels(..)
+            | CommandShape::Set(_)
+            | CommandShape::CommitMixer(_)
+            | CommandShape::Reset(_) => Answer::Done,
         }
     }
 }

@@ -46,7 +46,7 @@ impl SharedStage {
     ghost use Rattle.std.specs.Prelude.{◌≡◌, ◌<◌, ◌≤◌, [], All, IfOk, IfErr, MatchResult, length};
     ghost use Rattle.play_types.specs.History.{stop_at};
     ghost use Rattle.play_types.specs.declared.event.Event.TheVariants.{Batch, Do, Stop, Tick};
-    ghost use Rattle.stage_core.specs.Served.{IsServed};
+    ghost use Rattle.history_model.specs.commands.Channels.{IsServed};
     ghost use Rattle.stage_core.specs.Stage.{IsNoTick, IsNotTaken};
     ghost use Rattle.stage_lock.specs.declared.shared.TheConstants.{MAX_PASSES};
     ghost use Rattle.stage_lock.specs.Calls.{Adds, IsAnswered, IsStopped, IsTicked, Looks, Meets, new_passes, stop_tag, tag_of};

@@ -1,18 +1,20 @@
 -- What a command and a tick make of the stage.
-use Rattle.std.proofs.Common.{◌≡◌, ℕ, ◌+◌, ◌==◌, eqb, Bool, true, false, ◌&&◌, ◌||◌, inl, inr, List, [], ◌∷◌, ◌++◌, length, refl, sym, ap, ◌∙◌, arith, eq-eqb, eqb-true, ne_eqb, if◌then◌else◌}
-use Rattle.std.proofs.lemmas.Bool.{and_parts, cases_eq, cond-false, or_parts}
+use Rattle.std.proofs.Common.{◌≡◌, ℕ, ◌+◌, ◌==◌, eqb, Bool, true, false, ◌&&◌, ◌||◌, List, [], ◌∷◌, ◌++◌, length, refl, sym, ap, ◌∙◌, arith, eqb-true, if◌then◌else◌}
+use Rattle.std.proofs.lemmas.Bool.{and_parts, cond-false, or_parts}
 use Rattle.play_types.specs.Place.{PlaceView}
 use Rattle.play_types.specs.Setting.{SettingView}
 use Rattle.play_types.specs.Take.{played}
 use Rattle.play_types.specs.declared.command.Cmd.{Cmd}
 use Rattle.play_types.specs.declared.command.Cmd.TheVariants.{Load, LoadBg, Play, PlayTake, Pause, Resume, StopLayer, ClearLayer, ClearChannel, SwapLayers, SwapChannels, Set, CommitMixer, ResetLayer, ResetChannel, Value, Info}
-use Rattle.history_model.specs.stage.Act.{Act, acts_of}
+use Rattle.history_model.specs.stage.Act.{Act, act_after, acts_of}
 use Rattle.history_model.specs.stage.Trail.{channel_swapped_place, same_place, swapped_place}
 use Rattle.history_model.specs.stage.Life.{Life}
 use Rattle.history_model.specs.stage.Live.{state}
 use Rattle.history_model.specs.stage.Places.{Places, AreBy, ArePlaces, changed_at, live_places, standing, with_place}
-use Rattle.history_model.specs.stage.Resolved.{waiting_after, waiting_settings}
+use Rattle.history_model.specs.stage.Resolved.{waiting_settings}
+use Rattle.history_model.specs.inner.WaitingList.{waiting_after}
 use Rattle.history_model.specs.stage.StageState.{StageState, acts_after_all, exchanged, exchanged_channel, live_after, names_channel, placed_at, some_is_refused, is_refused_by, stage_state, standing_at, state_after, state_after_all, state_one_tick_later, waiting_count_after}
+use Rattle.history_model.proofs.Listed.{eqb_turned, waiting_settings-act}
 use Rattle.history_model.proofs.places.Lists.{ArePlaces-with_place, same_places, standing-with_place}
 use Rattle.history_model.proofs.places.Layers.{ArePlaces-live, standing-live}
 use Rattle.history_model.proofs.places.Commands.{ArePlaces-changed, at_one, live_places-tick, places_chosen, standing-cleared, state-act, state-play_take}
@@ -32,12 +34,6 @@ equal_places : (a b : PlaceView) → same_place a b ≡ true → a ≡ b
 equal_places a b e =
     let parts = and_parts (a.channel == b.channel) (a.layer == b.layer) e in
     λ i. record { channel = eqb-true a.channel b.channel parts.0 i; layer = eqb-true a.layer b.layer parts.1 i }
-
-eqb_turned : (m n : ℕ) → eqb m n ≡ eqb n m
-eqb_turned m n = elim (cases_eq m n) [
-  | inl e ↦ eq-eqb m n e ∙ sym (eq-eqb n m (sym e))
-  | inr apart ↦ ne_eqb m n apart ∙ sym (ne_eqb n m (λ e. apart (sym e)))
-]
 
 same_place_turned : (a b : PlaceView) → same_place a b ≡ same_place b a
 same_place_turned a b = λ i. eqb_turned a.channel b.channel i && eqb_turned a.layer b.layer i
@@ -144,23 +140,12 @@ live_places-live_after acts t cmd channel =
 -- the settings that wait after a command, and their number
 pub waiting_settings-more : (acts : List Act) (t : ℕ) (cmd : Cmd) (channel : ℕ) →
     waiting_settings (acts_of t cmd ++ acts) channel ≡ waiting_after cmd channel (waiting_settings acts channel)
-waiting_settings-more acts t (Load at take) channel = refl
-waiting_settings-more acts t (LoadBg at take) channel = refl
-waiting_settings-more acts t (Play at) channel = refl
-waiting_settings-more acts t (PlayTake at take) channel = refl
-waiting_settings-more acts t (Pause at) channel = refl
-waiting_settings-more acts t (Resume at) channel = refl
-waiting_settings-more acts t (StopLayer at) channel = refl
-waiting_settings-more acts t (ClearLayer at) channel = refl
-waiting_settings-more acts t (ClearChannel cleared) channel = refl
-waiting_settings-more acts t (SwapLayers a b transforms) channel = refl
-waiting_settings-more acts t (SwapChannels a b transforms) channel = refl
-waiting_settings-more acts t (Set setting) channel = refl
-waiting_settings-more acts t (CommitMixer committed) channel = refl
-waiting_settings-more acts t (ResetLayer at) channel = refl
-waiting_settings-more acts t (ResetChannel reset) channel = refl
+waiting_settings-more acts t (PlayTake at take) channel =
+    waiting_settings-act (act_after t (Play at)) (act_after t (LoadBg at (played take)) ∷ acts) channel
+    ∙ waiting_settings-act (act_after t (LoadBg at (played take))) acts channel
 waiting_settings-more acts t (Value at prop) channel = refl
 waiting_settings-more acts t Info channel = refl
+waiting_settings-more acts t cmd channel = waiting_settings-act (act_after t cmd) acts channel
 
 one_more : (waits : Bool) (setting : SettingView) (earlier : List SettingView) →
     length (if waits then setting ∷ earlier else earlier) ≡ (if waits then 1 + length earlier else length earlier)

@@ -1,4 +1,5 @@
--- What a channel shows at a tick, by its live places.
+-- A bridge for proofs: what a channel shows at a tick, by its live places. Laws tie it to the scene of a history, on which the
+-- promises rest.
 use Rattle.std.specs.Prelude.{ℕ, List, Option, option_map, reverse}
 use Rattle.play_types.specs.Place.{PlaceView}
 use Rattle.play_types.specs.History.{ticks}

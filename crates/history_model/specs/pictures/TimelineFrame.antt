@@ -1,18 +1,22 @@
 -- What a timeline shows, sounds and reports: as a history does, by the same scenes, pixels and samples.
-use Rattle.std.specs.Prelude.{ℕ, ℤ, pos, List, [], ◌∷◌, map, Option, Some, None}
+use Rattle.std.specs.Prelude.{◌≡◌, ℕ, ℤ, pos, List, [], ◌∷◌, map, Option, Some, None}
 use Rattle.play_types.specs.Place.{PlaceView}
+use Rattle.play_types.specs.History.{ticks}
 use Rattle.play_types.specs.declared.answer.Status.{Status}
+use Rattle.play_types.specs.declared.event.Event.{Event}
+use Rattle.play_types.specs.declared.setting.Prop.{Prop}
 use Rattle.play_types.specs.declared.drawn.Drawn.{Drawn}
 use Rattle.pixel_math.specs.Pixel.{PixelView, transparent}
 use Rattle.history_model.specs.stage.Life.{Foreground}
 use Rattle.history_model.specs.stage.Live.{foreground_at}
-use Rattle.history_model.specs.stage.Timeline.{Entry, Did, Ticked, timeline_acts, timeline_ticks}
-use Rattle.history_model.specs.stage.Answer.{channel_foregrounds, channel_numbers, status_of}
+use Rattle.history_model.specs.stage.Timeline.{Entry, Did, Ticked, timeline_acts, timeline_ticks, timeline_value}
+use Rattle.history_model.specs.stage.Answer.{channel_foregrounds, channel_numbers, status_of, statuses}
+use Rattle.history_model.specs.stage.Value.{value}
 use Rattle.history_model.specs.pictures.Media.{Setup, size}
 use Rattle.history_model.specs.pictures.Raster.{Pictures}
 use Rattle.history_model.specs.pictures.Scene.{scene_of}
-use Rattle.history_model.specs.pictures.Frame.{scene_pixel}
-use Rattle.history_model.specs.pictures.Sound.{scene_sample}
+use Rattle.history_model.specs.pictures.Frame.{frame_pixel, scene_pixel}
+use Rattle.history_model.specs.pictures.Sound.{frame_sample, scene_sample}
 
 -- the foreground that each place showed at the last tick of a timeline, none where it has no tick
 abbrev pub timeline_foregrounds : List Entry → Option (PlaceView → Option Foreground)
@@ -54,3 +58,11 @@ timeline_statuses setup entries =
     map
     (λ channel. status_of (channel_foregrounds (timeline_acts entries) (timeline_ticks entries) channel))
     (channel_numbers setup)
+
+-- after a history all is shown, sounded, answered and reported as after a timeline, and as many ticks have passed
+pub record IsLikeTimeline (setup : Setup) (history : List Event) (entries : List Entry) : Type 0 where
+  pub time : ticks history ≡ timeline_ticks entries
+  pub pixels : (channel x y : ℕ) → frame_pixel setup history channel x y ≡ timeline_pixel setup entries channel x y
+  pub samples : (channel pair side : ℕ) → frame_sample setup history channel pair side ≡ timeline_sample setup entries channel pair side
+  pub values : (place : PlaceView) (prop : Prop) (now : ℕ) → value history place prop now ≡ timeline_value entries place prop now
+  pub reported : statuses setup history ≡ timeline_statuses setup entries

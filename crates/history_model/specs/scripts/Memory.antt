@@ -1,26 +1,62 @@
--- Outputs in which nothing says that memory ran out.
-use Rattle.std.specs.Prelude.{◌≡◌, ℕ, false, List, [], ◌∷◌, ◌++◌, map, codes}
+-- Runs in which memory did not run out, and lines whose texts are lines.
+use Rattle.std.specs.Prelude.{◌≡◌, ℕ, Bool, true, false, Option, Some, None, List, [], ◌∷◌, ◌++◌, map}
 use Rattle.std.specs.List.{list_any}
 use Rattle.amcp_text.specs.Lines.{is_line_end}
-use Rattle.play_types.specs.declared.event.Tag.{Tag}
-use Rattle.play_types.specs.declared.reply.Name.{Name}
-use Rattle.history_model.specs.text.Replies.{code_line}
-use Rattle.history_model.specs.scripts.Line.{ScriptLine, Comment, Ticks, Said, Stop, Rejected}
-use Rattle.history_model.specs.scripts.History.{PlayedLine}
-use Rattle.history_model.specs.scripts.Output.{reply_line}
+use Rattle.play_types.specs.declared.reply.Reply.{Reply}
+use Rattle.play_types.specs.declared.reply.Reply.TheVariants as reply
+use Rattle.history_model.specs.scripts.Line.{ScriptLine, Comment, Ticks, Said, Stop, Rejected, meaning}
+use Rattle.history_model.specs.scripts.Input.{received}
+use Rattle.history_model.specs.scripts.History.{Playout, PlayedLine, ends_at, said_step, script_events, turn_of}
+use Rattle.history_model.specs.scripts.Output.{step_reply}
 
--- a text stands somewhere in an output
-abbrev pub StandsIn : List ℕ → List ℕ → Type 0
-StandsIn text output = (before : List ℕ) × (after : List ℕ) × (output ≡ before ++ text ++ after)
+-- a reply that does not say that memory ran out: neither a 500, of a session, nor a 501, of the stage
+abbrev pub IsOfMemory : Reply → Type 0
+IsOfMemory (reply.Done command) = Unit {0}
+IsOfMemory (reply.Value micros) = Unit {0}
+IsOfMemory (reply.Info statuses) = Unit {0}
+IsOfMemory reply.Cls = Unit {0}
+IsOfMemory reply.Version = Unit {0}
+IsOfMemory (reply.Unknown line) = Unit {0}
+IsOfMemory (reply.Refused code command) = code ≡ 501 → ⊥
+IsOfMemory reply.NoMemory = ⊥
 
--- no line was answered 500, and no command 501
-pub record IsWithoutWant (output : List ℕ) : Type 0 where
-  pub lines : (tag : Tag) → StandsIn (reply_line tag (codes "500 FAILED")) output → ⊥
-  pub commands : (tag : Tag) (command : Name) → StandsIn (reply_line tag (code_line 501 command (codes "FAILED"))) output → ⊥
+-- no reply, or such a one
+abbrev pub IsNoneOrOfMemory : Option Reply → Type 0
+IsNoneOrOfMemory None = Unit {0}
+IsNoneOrOfMemory (Some answer) = IsOfMemory answer
+
+-- the reply to a line after those before it, where there is one
+abbrev pub reply_at : Playout → List PlayedLine → PlayedLine → ScriptLine → Option Reply
+reply_at playout before line Comment = None
+reply_at playout before line (Ticks count) = None
+reply_at playout before line (Said tag text) =
+    step_reply (turn_of playout (script_events playout before) line tag) (said_step playout before line tag)
+reply_at playout before line Stop = None
+reply_at playout before line Rejected = None
+
+-- what holds of the lines after one, where the run goes on
+abbrev pub UnlessEnded : Bool → Type 0 → Type 0
+UnlessEnded true Later = Unit {0}
+UnlessEnded false Later = Later
+
+-- no reply to lines that follow others says that memory ran out, up to the line at which the run ends
+abbrev pub HasMemoryAfter : Playout → List PlayedLine → List PlayedLine → Type 0
+HasMemoryAfter playout before [] = Unit {0}
+HasMemoryAfter playout before (line ∷ lines) =
+    IsNoneOrOfMemory (reply_at playout before line line.line)
+    × UnlessEnded (ends_at playout before line line.line) (HasMemoryAfter playout (before ++ line ∷ []) lines)
+
+-- no reply of a run says that memory ran out
+abbrev pub HasMemory : Playout → List PlayedLine → Type 0
+HasMemory playout lines = HasMemoryAfter playout [] lines
 
 -- what was played, without what became of it
 abbrev pub lines_played : List PlayedLine → List ScriptLine
 lines_played played = map (λ (one : PlayedLine). one.line) played
+
+-- a line that is played with memory for what it asks
+abbrev pub with_memory : ScriptLine → PlayedLine
+with_memory said = record { line = said; given_up = false; no_memory = false }
 
 -- the text of a connection's line has no line end
 abbrev pub IsOneLine : ScriptLine → Type 0
@@ -34,3 +70,7 @@ IsOneLine Rejected = Unit {0}
 abbrev pub AreLines : List ScriptLine → Type 0
 AreLines [] = Unit {0}
 AreLines (line ∷ lines) = IsOneLine line × AreLines lines
+
+-- what the lines say that were received when these bytes were read, and the end of the input or not
+abbrev pub input_lines : List ℕ → Bool → List ScriptLine
+input_lines bytes ended = map meaning (received bytes ended)

@@ -14,7 +14,8 @@ use Rattle.play_types.specs.declared.reply.Name.TheVariants as name
 use Rattle.play_types.specs.declared.reply.Reply.{Reply}
 use Rattle.play_types.specs.declared.reply.Reply.TheVariants as reply
 use Rattle.history_model.specs.stage.Acts.{is_refused}
-use Rattle.history_model.specs.stage.Answer.{numbers_below, pair_samples, channel_numbers, command_answer, outcome_of}
+use Rattle.history_model.specs.stage.Answer.{ChannelFrame, numbers_below, pair_samples, channel_numbers, command_answer, outcome_of}
+use Rattle.pixel_math.specs.Pixel.{pixel_bytes}
 use Rattle.history_model.specs.pictures.Frame.{frame_pixel}
 use Rattle.history_model.specs.text.Frames.{frame_bytes, frame_lines, digest_line}
 use Rattle.history_model.specs.pictures.Media.{Setup, size}
@@ -101,6 +102,11 @@ channel_output playout tick channel picture sound =
     if playout.digests
     then digest_line channel tick picture sound
     else frame_lines channel tick (size (setup_of playout) channel) picture sound
+
+-- what is written for a channel of this number by what it shows at a tick
+abbrev pub written_frame : Playout → ℕ → ℕ × ChannelFrame → List ℕ
+written_frame playout tick frame =
+    channel_output playout tick frame.0 (flat_map pixel_bytes frame.1.pixels) (flat_map sample_bytes frame.1.samples)
 
 -- what is written for the tick after these events, channel 1 first
 unfoldable pub tick_output : Playout → List Event → List ℕ

@@ -1,4 +1,5 @@
--- The live places of a channel as one list, and what a command on a place and a tick make of it.
+-- A bridge for proofs: the live places of a channel as one list, and what a command on a place and a tick make of it. Laws tie
+-- it to the trails and lives, on which the promises rest.
 use Rattle.std.specs.Prelude.{◌≡◌, ℕ, ◌<◌, ◌≤◌, ◌==◌, Bool, true, List, [], ◌∷◌, map, nat_lt, length, if◌then◌else◌}
 use Rattle.play_types.specs.Place.{PlaceView}
 use Rattle.play_types.specs.History.{ticks}

@@ -1,62 +1,90 @@
--- Deferred settings: which of them wait, and when the others take place. In lists of acts the last act stands first.
-use Rattle.std.specs.Prelude.{ℕ, ◌==◌, false, ◌&&◌, List, [], ◌∷◌, ◌++◌, map, if◌then◌else◌}
+-- Deferred settings: which of them wait, and where the others take place. Both look ahead, at the acts that follow a setting.
+use Rattle.std.specs.Prelude.{ℕ, ◌==◌, Bool, true, false, not, List, [], ◌∷◌, reverse, filter, filter_map, Option, Some, None, if◌then◌else◌}
 use Rattle.play_types.specs.Setting.{SettingView}
+use Rattle.play_types.specs.Shape.{shape_of}
 use Rattle.play_types.specs.declared.command.Cmd.{Cmd}
-use Rattle.play_types.specs.declared.command.Cmd.TheVariants.{Load, LoadBg, Play, PlayTake, Pause, Resume, StopLayer, ClearLayer, ClearChannel, SwapLayers, SwapChannels, Set, CommitMixer, ResetLayer, ResetChannel, Value, Info}
+use Rattle.play_types.specs.declared.command.Cmd.TheVariants.{Set}
+use Rattle.play_types.specs.declared.shape.CommandShape.TheVariants as shape
 use Rattle.history_model.specs.stage.Act.{Act, act_after}
 
--- the settings of a channel that wait after a command, by those that waited before it
-abbrev pub waiting_after : Cmd → ℕ → List SettingView → List SettingView
-waiting_after (Load place take) channel earlier = earlier
-waiting_after (LoadBg place take) channel earlier = earlier
-waiting_after (Play place) channel earlier = earlier
-waiting_after (PlayTake place take) channel earlier = earlier
-waiting_after (Pause place) channel earlier = earlier
-waiting_after (Resume place) channel earlier = earlier
-waiting_after (StopLayer place) channel earlier = earlier
-waiting_after (ClearLayer place) channel earlier = earlier
-waiting_after (ClearChannel cleared) channel earlier = earlier
-waiting_after (SwapLayers a b transforms) channel earlier = earlier
-waiting_after (SwapChannels a b transforms) channel earlier = earlier
-waiting_after (Set setting) channel earlier =
-    if setting.deferred && (setting.place.channel == channel) then setting ∷ earlier else earlier
-waiting_after (CommitMixer committed) channel earlier = if committed == channel then [] else earlier
-waiting_after (ResetLayer place) channel earlier = earlier
-waiting_after (ResetChannel reset) channel earlier = earlier
-waiting_after (Value place prop) channel earlier = earlier
-waiting_after Info channel earlier = earlier
+-- what a command is to deferred settings: one of them, a commit of a channel, or neither
+pub data Deferral : Type 0 where
+  Defers : SettingView → Deferral
+  Commits : ℕ → Deferral
+  Neither : Deferral
 
--- the deferred settings of a channel that no commit of the channel follows, the last one first
+-- which of them a command is
+abbrev pub deferral : Cmd → Deferral
+deferral cmd = elim (shape_of cmd) [
+  | shape.Take place take ↦ Neither
+  | shape.Change place ↦ Neither
+  | shape.ClearChannel channel ↦ Neither
+  | shape.SwapLayers a b transforms ↦ Neither
+  | shape.SwapChannels a b transforms ↦ Neither
+  | shape.Set setting ↦ if setting.deferred then Defers setting else Neither
+  | shape.CommitMixer channel ↦ Commits channel
+  | shape.Reset target ↦ Neither
+  | shape.Ask query ↦ Neither
+]
+
+-- whether this is a commit, and whether it is one of a channel
+abbrev pub is_commit : Deferral → Bool
+is_commit (Defers setting) = false
+is_commit (Commits channel) = true
+is_commit Neither = false
+
+abbrev pub is_commit_of : ℕ → Deferral → Bool
+is_commit_of channel (Defers setting) = false
+is_commit_of channel (Commits committed) = committed == channel
+is_commit_of channel Neither = false
+
+-- the setting, if this is a deferred one of the channel
+abbrev pub deferred_on : ℕ → Deferral → Option SettingView
+deferred_on channel (Defers setting) = if setting.place.channel == channel then Some setting else None
+deferred_on channel (Commits committed) = None
+deferred_on channel Neither = None
+
+-- the acts that no commit of the channel follows. In both lists the last act stands first
+abbrev pub uncommitted : ℕ → List Act → List Act
+uncommitted channel [] = []
+uncommitted channel (act ∷ before) =
+    let others = uncommitted channel before in if is_commit_of channel (deferral act.cmd) then [] else act ∷ others
+
+-- the settings of a channel that wait after the acts: the deferred ones that no commit of the channel follows. In both lists
+-- the last one stands first
 abbrev pub waiting_settings : List Act → ℕ → List SettingView
-waiting_settings [] channel = []
-waiting_settings (act ∷ before) channel = waiting_after act.cmd channel (waiting_settings before channel)
+waiting_settings acts channel =
+    filter_map (λ (act : Act). deferred_on channel (deferral act.cmd)) (uncommitted channel acts)
 
 -- a setting that takes place after `ticks` ticks
 abbrev pub settled_act : ℕ → SettingView → Act
 settled_act ticks setting = act_after ticks (Set (record setting { deferred = false }))
 
--- the acts that stand for a command after `ticks` ticks: for a commit the settings that waited for it, and none for a
--- deferred setting
-abbrev pub resolved_act : Cmd → ℕ → List Act → List Act
-resolved_act (Load place take) ticks before = act_after ticks (Load place take) ∷ []
-resolved_act (LoadBg place take) ticks before = act_after ticks (LoadBg place take) ∷ []
-resolved_act (Play place) ticks before = act_after ticks (Play place) ∷ []
-resolved_act (PlayTake place take) ticks before = act_after ticks (PlayTake place take) ∷ []
-resolved_act (Pause place) ticks before = act_after ticks (Pause place) ∷ []
-resolved_act (Resume place) ticks before = act_after ticks (Resume place) ∷ []
-resolved_act (StopLayer place) ticks before = act_after ticks (StopLayer place) ∷ []
-resolved_act (ClearLayer place) ticks before = act_after ticks (ClearLayer place) ∷ []
-resolved_act (ClearChannel channel) ticks before = act_after ticks (ClearChannel channel) ∷ []
-resolved_act (SwapLayers a b transforms) ticks before = act_after ticks (SwapLayers a b transforms) ∷ []
-resolved_act (SwapChannels a b transforms) ticks before = act_after ticks (SwapChannels a b transforms) ∷ []
-resolved_act (Set setting) ticks before = if setting.deferred then [] else settled_act ticks setting ∷ []
-resolved_act (CommitMixer channel) ticks before = map (settled_act ticks) (waiting_settings before channel)
-resolved_act (ResetLayer place) ticks before = act_after ticks (ResetLayer place) ∷ []
-resolved_act (ResetChannel channel) ticks before = act_after ticks (ResetChannel channel) ∷ []
-resolved_act (Value place prop) ticks before = act_after ticks (Value place prop) ∷ []
-resolved_act Info ticks before = act_after ticks Info ∷ []
+-- the acts that follow a deferred setting, in their order, with the setting behind the first commit of its channel, and as of
+-- that commit: it is left out where none is among them
+abbrev pub with_settled : SettingView → List Act → List Act
+with_settled setting [] = []
+with_settled setting (act ∷ later) =
+    let others = with_settled setting later in
+    if is_commit_of setting.place.channel (deferral act.cmd) then act ∷ settled_act act.ticks setting ∷ later else act ∷ others
 
--- the acts with each deferred setting moved to the first commit of its channel after it, and without those that wait
+-- an act and those that follow it: a deferred setting is settled among these
+abbrev pub resolved_with : Deferral → Act → List Act → List Act
+resolved_with (Defers setting) act later = with_settled setting later
+resolved_with (Commits channel) act later = act ∷ later
+resolved_with Neither act later = act ∷ later
+
+-- acts in their order, with each deferred setting behind the first commit of its channel that follows it. Of two behind one
+-- commit the earlier stands first, since it is put there after the other
+abbrev pub resolved_in_order : List Act → List Act
+resolved_in_order [] = []
+resolved_in_order (act ∷ later) = resolved_with (deferral act.cmd) act (resolved_in_order later)
+
+-- whether an act is no commit
+abbrev pub is_no_commit : Act → Bool
+is_no_commit act = not (is_commit (deferral act.cmd))
+
+-- the acts with each deferred setting in the place of the first commit of its channel that follows it, and without those that
+-- wait. In both lists the last act stands first
 abbrev pub resolved_acts : List Act → List Act
-resolved_acts [] = []
-resolved_acts (act ∷ before) = resolved_act act.cmd act.ticks before ++ resolved_acts before
+resolved_acts acts = filter is_no_commit (reverse (resolved_in_order (reverse acts)))

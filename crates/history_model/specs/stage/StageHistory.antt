@@ -1,4 +1,4 @@
--- The state of the stage after a history.
+-- A bridge for proofs: the state of the stage after a history. Laws tie it to the acts of the history, on which the promises rest.
 use Rattle.std.specs.Prelude.{ℕ, List, length, Option, filter_map, map}
 use Rattle.play_types.specs.Setting.{SettingView}
 use Rattle.play_types.specs.declared.answer.Status.{Status}

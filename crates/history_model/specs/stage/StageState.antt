@@ -1,5 +1,6 @@
--- The state of the stage: the live places of each channel, and how many settings wait on it. What commands and ticks make of
--- it, and which commands are refused by it.
+-- A bridge for proofs: the state of the stage step by step, that is the live places of each channel and how many settings wait
+-- on it, what commands and ticks make of it, and which commands are refused by it. Laws tie it to the acts of a history, on which
+-- the promises rest.
 use Rattle.std.specs.Prelude.{ℕ, ◌+◌, ◌≤◌, ◌==◌, Bool, false, ◌&&◌, ◌||◌, List, [], ◌∷◌, ◌++◌, map, nat_le, length, if◌then◌else◌}
 use Rattle.play_types.specs.Place.{PlaceView}
 use Rattle.play_types.specs.declared.place.TheConstants.{MAX_LIVE_LAYERS}

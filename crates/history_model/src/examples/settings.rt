@@ -57,6 +57,22 @@ pub fn deferred_group()
         × (waiting_settings history 1 ≡ []) }
 {}
 
+/// A deferred setting stands in the place of the first commit of its own channel that follows it, with the ticks of that
+/// commit, and behind the settings that came between. One that no commit of its channel follows waits.
+pub fn groups_of_two_channels()
+    ensures { let history =
+        acts (defers (at 1 1) Opacity (number (pos 0)) ∷ defers (at 2 1) Opacity (number (pos 500000)) ∷ Tick
+        ∷ sets (at 1 1) Volume (number (pos 250000)) ∷ ask (CommitMixer 2) ∷ defers (at 1 2) Opacity (number (pos 500000)) ∷ Tick
+        ∷ ask (CommitMixer 1) ∷ defers (at 1 3) Opacity (number (pos 0)) ∷ Tick ∷ ask (CommitMixer 2) ∷ []) in
+        (resolved_acts history
+        ≡ act_after 2 (Set (setting (at 1 2) Opacity (number (pos 500000)) 0))
+        ∷ act_after 2 (Set (setting (at 1 1) Opacity (number (pos 0)) 0))
+        ∷ act_after 1 (Set (setting (at 2 1) Opacity (number (pos 500000)) 0))
+        ∷ act_after 1 (Set (setting (at 1 1) Volume (number (pos 250000)) 0)) ∷ [])
+        × (waiting_settings history 1 ≡ deferred (at 1 3) Opacity (number (pos 0)) ∷ [])
+        × (waiting_settings history 2 ≡ []) }
+{}
+
 /// The pictures of a deferred group before and after its commit.
 pub fn deferred_group_shown()
     ensures { let history =

@@ -17,7 +17,7 @@ ghost use Rattle.history_model.specs.stage.Value.{value};
 ghost use Rattle.history_model.specs.pictures.Frame.{frame_pixel};
 ghost use Rattle.history_model.specs.pictures.Media.{Setup};
 ghost use Rattle.history_model.specs.pictures.Sound.{frame_sample};
-ghost use Rattle.history_model.specs.pictures.TimelineFrame.{timeline_pixel, timeline_sample, timeline_statuses};
+ghost use Rattle.history_model.specs.pictures.TimelineFrame.{IsLikeTimeline, timeline_pixel, timeline_sample, timeline_statuses};
 
 /// Without the settings that wait, of all channels or of some, a timeline shows, sounds, answers and reports the same, after
 /// its end and at each moment before it: what stands there is what stood there, again without settings that wait.
@@ -64,7 +64,7 @@ pub fn commits_are_accepted()
 {}
 
 /// A history shows, sounds, answers and reports what its timeline does without the settings that wait, of all channels or of
-/// some.
+/// some. So does each of its first parts: what the timeline has up to there is what it shows.
 pub fn waiting_settings_of_histories_change_nothing()
     ensures pixels { (setup : Setup) (which : ℕ → Bool) (history : List Event) (channel x y : ℕ) →
         frame_pixel setup history channel x y ≡ timeline_pixel setup (without_waiting which (timeline history)) channel x y }
@@ -75,6 +75,9 @@ pub fn waiting_settings_of_histories_change_nothing()
         value history place prop now ≡ timeline_value (without_waiting which (timeline history)) place prop now }
     ensures statuses { (setup : Setup) (which : ℕ → Bool) (history : List Event) →
         statuses setup history ≡ timeline_statuses setup (without_waiting which (timeline history)) }
+    ensures prefixes { (setup : Setup) (which : ℕ → Bool) (history later : List Event) →
+        (more : List Entry) × (stood : List Entry)
+        × (without_waiting which (timeline (history ++ later)) ≡ more ++ stood) × IsLikeTimeline setup history stood }
 {}
 
 /// Where a commit stands in the timeline of a history, alone or in a batch, the history shows, sounds, answers and reports

@@ -1,10 +1,11 @@
 //! The output of a script as its lines come.
-ghost use Rattle.std.specs.Prelude.{◌≡◌, ℕ, ◌∷◌, ◌++◌, List, true};
+ghost use Rattle.std.specs.Prelude.{◌≡◌, ℕ, ◌∷◌, ◌++◌, Bool, List, map, true};
 ghost use Rattle.play_types.specs.declared.event.Event.{Event};
 ghost use Rattle.history_model.specs.scripts.History.{PlayedLine, Playout, goes_on, script_events};
-ghost use Rattle.history_model.specs.scripts.Memory.{AreLines, IsWithoutWant, lines_played};
+ghost use Rattle.history_model.specs.scripts.Line.{ScriptLine, until_stop};
+ghost use Rattle.history_model.specs.scripts.Memory.{AreLines, HasMemory, input_lines, lines_played, with_memory};
 ghost use Rattle.history_model.specs.scripts.Output.{output_at, script_output};
-ghost use Rattle.history_model.specs.scripts.Struck.{AreKept, IsRefusedLine};
+ghost use Rattle.history_model.specs.scripts.Struck.{IsIdleLine};
 
 /// What the first lines of a script write and do stands at the beginning of what the script writes and does, whatever follows.
 pub fn later_lines_only_add()
@@ -14,25 +15,35 @@ pub fn later_lines_only_add()
         (script_events playout (lines ++ later) ≡ script_events playout lines ++ more) }
 {}
 
-/// Two runs of equal lines, in whose outputs nothing says that memory ran out, write the same and do the same, where no text of a
-/// connection has a line end.
-pub fn runs_without_want_are_equal()
-    ensures output { (playout : Playout) (one other : List PlayedLine) → AreLines (lines_played one) → lines_played one ≡ lines_played other →
-        IsWithoutWant (script_output playout one) → IsWithoutWant (script_output playout other) →
-        script_output playout one ≡ script_output playout other }
-    ensures history { (playout : Playout) (one other : List PlayedLine) → AreLines (lines_played one) → lines_played one ≡ lines_played other →
-        IsWithoutWant (script_output playout one) → IsWithoutWant (script_output playout other) →
-        script_events playout one ≡ script_events playout other }
+/// The lines of every input are lines: no text of a connection has a line end. So are the lines up to the first stop, and those
+/// of each part. The laws below speak of such lines, and so of every input.
+pub fn lines_of_inputs_are_lines()
+    ensures all { (bytes : List ℕ) (ended : Bool) → AreLines (input_lines bytes ended) }
+    ensures stopped { (lines : List ScriptLine) → AreLines lines → AreLines (until_stop lines) }
+    ensures first { (lines later : List ScriptLine) → AreLines (lines ++ later) → AreLines lines }
+    ensures last { (lines later : List ScriptLine) → AreLines (lines ++ later) → AreLines later }
 {}
 
-/// Where no line is given up, a line that is refused can be struck out: the rest of the output stays, and so does the history.
-pub fn refused_lines_can_be_struck_out()
+/// Two runs of equal lines of which no reply says that memory ran out write the same and do the same. Every list of lines has such
+/// a run.
+pub fn runs_with_memory_are_equal()
+    ensures output { (playout : Playout) (one other : List PlayedLine) → AreLines (lines_played one) → lines_played one ≡ lines_played other →
+        HasMemory playout one → HasMemory playout other → script_output playout one ≡ script_output playout other }
+    ensures history { (playout : Playout) (one other : List PlayedLine) → AreLines (lines_played one) → lines_played one ≡ lines_played other →
+        HasMemory playout one → HasMemory playout other → script_events playout one ≡ script_events playout other }
+    ensures some { (playout : Playout) (lines : List ScriptLine) → HasMemory playout (map with_memory lines) }
+{}
+
+/// A line that changes nothing can be struck out: the rest of the output stays, and so does the history. Such a line is a comment,
+/// or a connection's line that is refused, that was given up, that has no word, that only asks for the media or the version, or
+/// that follows the connection's end.
+pub fn idle_lines_can_be_struck_out()
     ensures output { (playout : Playout) (before : List PlayedLine) (line : PlayedLine) (later : List PlayedLine) →
-        AreKept (before ++ line ∷ later) → goes_on playout before ≡ true → IsRefusedLine playout before line line.line →
+        AreLines (lines_played (before ++ line ∷ later)) → goes_on playout before ≡ true → IsIdleLine playout before line line.line →
         (rest : List ℕ)
         × (script_output playout (before ++ line ∷ later) ≡ script_output playout before ++ output_at playout before line line.line ++ rest)
         × (script_output playout (before ++ later) ≡ script_output playout before ++ rest) }
     ensures history { (playout : Playout) (before : List PlayedLine) (line : PlayedLine) (later : List PlayedLine) →
-        AreKept (before ++ line ∷ later) → goes_on playout before ≡ true → IsRefusedLine playout before line line.line →
+        AreLines (lines_played (before ++ line ∷ later)) → goes_on playout before ≡ true → IsIdleLine playout before line line.line →
         script_events playout (before ++ line ∷ later) ≡ script_events playout (before ++ later) }
 {}

@@ -1,5 +1,6 @@
 -- What is drawn of a place, and what routes show of it at the next tick.
-use Rattle.std.specs.Prelude.{◌≡◌, ℕ, ◌-◌, ◌<◌, ◌⊎◌, List, ℤ, filter_map, length, Option, Some, None, option_map, slice_set}
+use Rattle.std.specs.Prelude.{◌≡◌, ℕ, ◌<◌, ◌⊎◌, List, ℤ, filter_map, length, Option, Some, None, option_map}
+use Rattle.play_types.specs.ChannelItems.{with_channel_item}
 use Rattle.play_types.specs.Place.{PlaceView}
 use Rattle.play_types.specs.Scene.{IsConfigured, with_layer}
 use Rattle.play_types.specs.Setting.{number_at}
@@ -16,14 +17,14 @@ use Rattle.layer_state.specs.Shown.{shown_of}
 use Rattle.mixer_state.specs.Mixer.{MixerView, values_of}
 use Rattle.route_graph.specs.Routes.{RoutesView, after_show, last_tick, still_by}
 use Rattle.route_graph.specs.Shown.{Picture, Pictures, ShownLayers, layers_of, shown_at}
-use Rattle.stage_core.specs.Served.{IsRouted}
-use Rattle.stage_core.specs.Board.{Channels, places_of}
+use Rattle.history_model.specs.commands.Channels.{IsRouted}
+use Rattle.stage_core.specs.LiveState.{Channels, places_of}
 
--- what each place showed at the tick before, none where there was none
+-- what each place showed at the tick before, none if there was none
 abbrev pub tick_past : RoutesView → Option Pictures
 tick_past routes = option_map shown_at routes.past
 
--- the still of a picture, by what each place showed at the tick before, nothing where there is no picture
+-- the still of a picture, by what each place showed at the tick before, nothing if there is no picture
 abbrev pub still_of : Option Pictures → Option Picture → Still
 still_of past None = Nothing
 still_of past (Some picture) = still_by past picture.0 picture.1
@@ -42,7 +43,7 @@ drawn_now values past shown picture = record {
   keyer = is_one (number_at (values Keyer) 0);
 }
 
--- what is drawn of a place that shows this, none where it shows nothing
+-- what is drawn of a place that shows this, none if it shows nothing
 abbrev pub drawn_shown : (Prop → List ℤ) → Option Pictures → Shown → Option Drawn
 drawn_shown values past shown = option_map (drawn_now values past shown) shown.now
 
@@ -54,7 +55,7 @@ next_of place = shown_of (ready place.1).foreground
 abbrev pub mixed_values : MixerView → ℕ → PlaceView → Prop → List ℤ
 mixed_values mixer ticks place prop = values_of mixer place prop ticks
 
--- what is drawn of a place of a channel at the next tick, with the mixer values of each place, none where it shows nothing
+-- what is drawn of a place of a channel at the next tick, with the mixer values of each place, none if it shows nothing
 abbrev pub drawn_next : (PlaceView → Prop → List ℤ) → Option Pictures → ℕ → ℕ × Life → Option Drawn
 drawn_next values past channel place = drawn_shown (values (record { channel = channel; layer = place.0 })) past (next_of place)
 
@@ -62,7 +63,7 @@ drawn_next values past channel place = drawn_shown (values (record { channel = c
 abbrev pub scene_next : (PlaceView → Prop → List ℤ) → Option Pictures → Channels → ℕ → List Drawn
 scene_next values past channels channel = filter_map (drawn_next values past channel) (places_of channel channels)
 
--- a layer with its picture at the next tick, none where it shows nothing
+-- a layer with its picture at the next tick, none if it shows nothing
 abbrev pub shown_layer : ℕ × Life → Option (ℕ × Picture)
 shown_layer place = option_map (λ (picture : Picture). (place.0, picture)) (next_of place).now
 
@@ -76,12 +77,12 @@ abbrev pub with_picture_of : PlaceView → Option Picture → RoutesView → Rou
 with_picture_of place None routes = routes
 with_picture_of place (Some picture) routes = after_show place picture routes
 
--- the routes where the layers of a channel show this at the last tick
+-- the routes once the layers of a channel show this at the last tick
 abbrev pub with_shown_layers : ℕ → ShownLayers → RoutesView → RoutesView
 with_shown_layers channel layers routes =
-    record { channels = routes.channels; past = routes.past; present = Some (slice_set (last_tick routes) (channel - 1) layers) }
+    record { channels = routes.channels; past = routes.past; present = Some (with_channel_item channel layers (last_tick routes)) }
 
--- the routes where this is shown at the last tick
+-- the routes once this is shown at the last tick
 abbrev pub with_present : List ShownLayers → RoutesView → RoutesView
 with_present tick routes = record { channels = routes.channels; past = routes.past; present = Some tick }
 
@@ -90,7 +91,7 @@ abbrev pub IsRoutedPicture : ℕ → Option Picture → Type 0
 IsRoutedPicture channels None = Unit {0}
 IsRoutedPicture channels (Some picture) = IsRouted channels picture.0
 
--- the pictures of a place are such ones, and its transition, where it takes time, has begun
+-- the pictures of a place are such ones, and its transition, if it takes time, has begun
 pub record IsShown (channels : ℕ) (shown : Shown) : Type 0 where
   pub now : IsRoutedPicture channels shown.now
   pub old : IsRoutedPicture channels shown.old

@@ -20,7 +20,7 @@ use Rattle.history_model.specs.text.History.{connection_line, history_text, stop
 use Rattle.history_model.proofs.OnLiterals.{reply_on_literals, text_on_literals, ticks_on_literals}
 use Rattle.history_model.proofs.Outputs.{script_events-snoc, script_output-snoc}
 use Rattle.history_model.proofs.Played.{HasRun, Progress, nothing, run_none, run_said, run_ticks}
-use Rattle.history_replay.specs.Replay.{with_memory}
+use Rattle.history_model.specs.scripts.Memory.{with_memory}
 use Rattle.history_replay.proofs.examples.worked_history_is_played_again.Goals as goal
 
 pub returns-clause-text : goal.returns-clause-text

@@ -1,5 +1,4 @@
 use Rattle.std.proofs.Common.{◌≡◌, ℕ, ◌-◌, ◌<◌, ◌≤◌, ◌∙◌, ◌++◌, List, get_or, length, length-set, sym, ap, ap₂, subst, subst₂, arith, filter_map, take}
-use Rattle.std.proofs.lemmas.List.{get_or_default}
 use Rattle.std.specs.Prelude.{Option, IfSome}
 use Rattle.play_types.specs.Place.{PlaceView}
 use Rattle.play_types.specs.Scene.{scene_at}
@@ -11,7 +10,7 @@ use Rattle.route_graph.specs.Routes.{RoutesView}
 use Rattle.route_graph.specs.Shown.{ShownLayers}
 use Rattle.stage_core.specs.inner.Drawn.{HasRoomFor, IsShown, drawn_next, drawn_shown, mixed_values, next_of, shown_layer, tick_past, with_drawn, with_picture_of, with_shown_layers}
 use Rattle.stage_core.specs.inner.Target.{with_layers}
-use Rattle.stage_core.proofs.Drawing.{element_left, places-more}
+use Rattle.stage_core.proofs.Drawing.{places-more, read_again, read_here}
 use Rattle.stage_core.proofs.Routing.{few_made, layer_at, not_yet_shown, one_more, room_so_far, scene_so_far, with_drawn-more, with_picture-more}
 use Rattle.stage_core.proofs.places.tick_places.Goals as goal
 
@@ -23,8 +22,7 @@ unwrap-place-requires c =
     let x : ℕ × Life = get_or ys at c.index-places-at.result in
     let within : at < length xs = omega arith in
     let kept : length ys ≡ length xs = omega arith in
-    let read : x ≡ get_or ys at x = get_or_default ys at c.index-places-at.result x (omega (arith, within, kept)) in
-    let here : get_or xs at x ≡ x = sym (read ∙ element_left one_tick_later xs ys at x within c.loop-at.invariant.places) in
+    let here : get_or xs at x ≡ x = read_here one_tick_later xs ys at within kept c.loop-at.invariant.places c.index-places-at.result in
     c.new.ensures.exact.1 (record {
       from_one = c.requires.channel.0;
       channels = c.requires.few_channels;
@@ -39,10 +37,9 @@ draw-requires-clause-shown c =
     let x : ℕ × Life = get_or ys at c.index-places-at.result in
     let within : at < length xs = omega arith in
     let kept : length ys ≡ length xs = omega arith in
-    let read : x ≡ get_or ys at x = get_or_default ys at c.index-places-at.result x (omega (arith, within, kept)) in
-    let here : get_or xs at x ≡ x = sym (read ∙ element_left one_tick_later xs ys at x within c.loop-at.invariant.places) in
-    let y : ℕ × Life = get_or ys at c.index-places-at-in-loop-at.result in
-    let twice : y ≡ x = get_or_default ys at c.index-places-at-in-loop-at.result c.index-places-at.result (omega (arith, within, kept)) in
+    let here : get_or xs at x ≡ x = read_here one_tick_later xs ys at within kept c.loop-at.invariant.places c.index-places-at.result in
+    let twice : get_or ys at c.index-places-at-in-loop-at.result ≡ x =
+    read_again one_tick_later xs ys at within kept c.loop-at.invariant.places c.index-places-at.result c.index-places-at-in-loop-at.result in
     let scenes : List (List Drawn) = c.args.scenes.now in
     let channel : ℕ = c.args.channel in
     let drawn : List Drawn = filter_map (drawn_next (mixed_values c.args.mixer.now c.args.number) (tick_past c.args.routes.now) channel) (take at xs) in
@@ -91,10 +88,9 @@ loop-at-preserved c =
     let x : ℕ × Life = get_or ys at c.index-places-at.result in
     let within : at < length xs = omega arith in
     let kept : length ys ≡ length xs = omega arith in
-    let read : x ≡ get_or ys at x = get_or_default ys at c.index-places-at.result x (omega (arith, within, kept)) in
-    let here : get_or xs at x ≡ x = sym (read ∙ element_left one_tick_later xs ys at x within c.loop-at.invariant.places) in
-    let y : ℕ × Life = get_or ys at c.index-places-at-in-loop-at.result in
-    let twice : y ≡ x = get_or_default ys at c.index-places-at-in-loop-at.result c.index-places-at.result (omega (arith, within, kept)) in
+    let here : get_or xs at x ≡ x = read_here one_tick_later xs ys at within kept c.loop-at.invariant.places c.index-places-at.result in
+    let twice : get_or ys at c.index-places-at-in-loop-at.result ≡ x =
+    read_again one_tick_later xs ys at within kept c.loop-at.invariant.places c.index-places-at.result c.index-places-at-in-loop-at.result in
     let channel : ℕ = c.args.channel in
     let scenes : List (List Drawn) = c.args.scenes.now in
     let routes : RoutesView = c.args.routes.now in
@@ -106,7 +102,8 @@ loop-at-preserved c =
     let shows : drawn_shown (mixed_values c.args.mixer.now c.args.number place) (tick_past c.loop-at.routes) c.tick-shown.result ≡ draw x =
     ap₂ (λ (r : RoutesView) (s : Shown). drawn_shown (mixed_values c.args.mixer.now c.args.number place) (tick_past r) s) c.loop-at.invariant.routes shown in
     record {
-      places = places-more xs ys at x c.tick-shown.new.self within c.loop-at.invariant.places read
+      places = places-more xs ys at x c.tick-shown.new.self within c.loop-at.invariant.places
+          (read_again one_tick_later xs ys at within kept c.loop-at.invariant.places x c.index-places-at.result)
           (c.tick-shown.ensures.after ∙ ap (λ (p : ℕ × Life). after p.1 1) twice);
       scenes =
           c.draw.ensures

@@ -5,7 +5,7 @@ use Rattle.history_model.specs.stage.Act.{Act, acts_of}
 use Rattle.history_model.specs.stage.StageState.{acts_after_all}
 use Rattle.history_model.proofs.stage.Changes.{acts_after_all-append}
 use Rattle.mixer_state.specs.Past.{Represents}
-use Rattle.stage_core.specs.Served.{IsServed}
+use Rattle.history_model.specs.commands.Channels.{IsServed}
 use Rattle.stage_core.specs.inner.Settled.{CanTake, settings_of, settings_of_all}
 use Rattle.stage_core.proofs.Mixing.{CanTake-first, CanTake-rest}
 use Rattle.stage_core.proofs.settle.settle_all.Goals as goal

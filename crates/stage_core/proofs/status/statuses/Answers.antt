@@ -8,7 +8,7 @@ use Rattle.play_types.specs.declared.answer.Status.TheVariants.{Empty}
 use Rattle.history_model.specs.stage.Answer.{status_of}
 use Rattle.history_model.specs.stage.Places.{Places}
 use Rattle.history_model.specs.stage.StageHistory.{foreground_of}
-use Rattle.stage_core.specs.Board.{Channels}
+use Rattle.stage_core.specs.LiveState.{Channels}
 use Rattle.stage_core.proofs.Statuses.{some_is, take-same}
 use Rattle.stage_core.proofs.status.statuses.Goals as goal
 

@@ -1,25 +1,24 @@
-use Rattle.std.proofs.Common.{rules, ◌≡◌, ◌==◌, List, not, sym, ap, subst}
-use Rattle.std.specs.List.{filter}
-use Rattle.std.proofs.lemmas.Fn.{filter_same}
-use Rattle.mixer_state.specs.declared.kept.KeptSetting.{KeptSetting}
-use Rattle.mixer_state.specs.Kept.{AreKept, tuned_by}
+use Rattle.std.proofs.Common.{sym, ap, ◌∙◌, subst}
+use Rattle.mixer_state.specs.Entries.{table_of}
 use Rattle.mixer_state.specs.Mixer.{MixerView}
-use Rattle.mixer_state.proofs.Courses.{AreKept-filter}
-use Rattle.mixer_state.proofs.Pasts.{takes_reset_channel}
+use Rattle.mixer_state.specs.inner.Changes.{without_channel}
+use Rattle.mixer_state.specs.inner.Ranges.{AreRunning}
+use Rattle.mixer_state.proofs.Kept.{IsKept-places}
+use Rattle.mixer_state.proofs.Pasts.{reset_channel_represents}
+use Rattle.mixer_state.proofs.Ways.{AreRunning-without}
 use Rattle.mixer_state.proofs.mixer.Mixer.clear_channel.Goals as goal
-
--- the settings of other channels are kept
-others : (c : goal.After-retain) → c.retain.new.self.items ≡ filter (λ (kept : KeptSetting). not (kept.channel == c.args.channel)) c.self.inside.settings.items
-others c =
-    filter_same _ (λ (kept : KeptSetting). not (kept.channel == c.args.channel)) _ (λ x b f k. search rules) _ _ c.retain.ensures.filtered
 
 pub invariant_of-self : goal.invariant_of-self
 invariant_of-self c =
-    subst (λ (xs : List KeptSetting). AreKept 0 xs c.self.inside.latest) (sym (others c)) (AreKept-filter _ c.self.inside.settings.items 0 c.self.inside.latest c.self.invariant)
+    let inside = c.self.inside in
+    IsKept-places inside.places c.clear.new.self inside.latest inside.latest inside.waiting.items c.self.invariant c.clear.ensures.channels
+    (subst (AreRunning inside.latest) (sym c.clear.ensures.entries) (AreRunning-without inside.latest c.args.channel (table_of inside.places.entries) c.self.invariant.running))
 
 pub returns-clause-acts : goal.returns-clause-acts
-returns-clause-acts c ticks =
-    takes_reset_channel c.args.self.now _ c.self.inside.settings.items (sym (ap (λ (m : MixerView). m.tuned) c.self.view_is))
-    c.self.inside.latest c.self.invariant c.args.channel ticks (ap tuned_by (others c))
-    (ap (λ (m : MixerView). m.channels) c.self.view_is) (ap (λ (m : MixerView). m.latest) c.self.view_is)
-    (ap (λ (m : MixerView). m.waiting) c.self.view_is)
+returns-clause-acts c ticks acts represents =
+    let inside = c.self.inside in
+    reset_channel_represents c.args.self.now _ acts ticks represents inside.latest
+    (subst (λ (mixer : MixerView). AreRunning inside.latest (table_of mixer.tuned)) c.self.view_is c.self.invariant.running) c.args.channel
+    (c.clear.ensures.entries ∙ ap (λ (mixer : MixerView). without_channel c.args.channel (table_of mixer.tuned)) c.self.view_is)
+    (ap (λ (mixer : MixerView). mixer.channels) c.self.view_is) (ap (λ (mixer : MixerView). mixer.latest) c.self.view_is)
+    (ap (λ (mixer : MixerView). mixer.waiting) c.self.view_is)

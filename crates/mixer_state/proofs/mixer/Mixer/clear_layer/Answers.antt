@@ -1,26 +1,25 @@
-use Rattle.std.proofs.Common.{rules, ◌≡◌, List, not, sym, ap, subst}
-use Rattle.std.specs.List.{filter}
-use Rattle.std.proofs.lemmas.Fn.{filter_same}
-use Rattle.history_model.specs.stage.Trail.{same_place}
-use Rattle.mixer_state.specs.declared.kept.KeptSetting.{KeptSetting}
-use Rattle.mixer_state.specs.Kept.{AreKept, place_of, tuned_by}
+use Rattle.std.proofs.Common.{sym, ap, ◌∙◌, subst}
+use Rattle.std.specs.Prelude.{None}
+use Rattle.mixer_state.specs.Entries.{table_of}
 use Rattle.mixer_state.specs.Mixer.{MixerView}
-use Rattle.mixer_state.proofs.Courses.{AreKept-filter}
-use Rattle.mixer_state.proofs.Pasts.{takes_reset_layer}
+use Rattle.mixer_state.specs.inner.Changes.{with_entry}
+use Rattle.mixer_state.specs.inner.Ranges.{AreRunning}
+use Rattle.mixer_state.proofs.Kept.{IsKept-places}
+use Rattle.mixer_state.proofs.Pasts.{reset_layer_represents}
+use Rattle.mixer_state.proofs.Ways.{AreRunning-with, AreCourses-standing}
 use Rattle.mixer_state.proofs.mixer.Mixer.clear_layer.Goals as goal
-
--- the settings of other places are kept
-others : (c : goal.After-retain) → c.retain.new.self.items ≡ filter (λ (kept : KeptSetting). not (same_place (place_of kept) c.args.place)) c.self.inside.settings.items
-others c =
-    filter_same _ (λ (kept : KeptSetting). not (same_place (place_of kept) c.args.place)) _ (λ x b f k. search rules) _ _ c.retain.ensures.filtered
 
 pub invariant_of-self : goal.invariant_of-self
 invariant_of-self c =
-    subst (λ (xs : List KeptSetting). AreKept 0 xs c.self.inside.latest) (sym (others c)) (AreKept-filter _ c.self.inside.settings.items 0 c.self.inside.latest c.self.invariant)
+    let inside = c.self.inside in
+    IsKept-places inside.places c.remove.new.self inside.latest inside.latest inside.waiting.items c.self.invariant c.remove.ensures.channels
+    (subst (AreRunning inside.latest) (sym c.remove.ensures.entries) (AreRunning-with inside.latest c.args.place None (table_of inside.places.entries) (AreCourses-standing inside.latest) c.self.invariant.running))
 
 pub returns-clause-acts : goal.returns-clause-acts
-returns-clause-acts c ticks =
-    takes_reset_layer c.args.self.now _ c.self.inside.settings.items (sym (ap (λ (m : MixerView). m.tuned) c.self.view_is))
-    c.self.inside.latest c.self.invariant c.args.place ticks (ap tuned_by (others c))
-    (ap (λ (m : MixerView). m.channels) c.self.view_is) (ap (λ (m : MixerView). m.latest) c.self.view_is)
-    (ap (λ (m : MixerView). m.waiting) c.self.view_is)
+returns-clause-acts c ticks acts represents =
+    let inside = c.self.inside in
+    reset_layer_represents c.args.self.now _ acts ticks represents inside.latest
+    (subst (λ (mixer : MixerView). AreRunning inside.latest (table_of mixer.tuned)) c.self.view_is c.self.invariant.running) c.args.place
+    (c.remove.ensures.entries ∙ ap (λ (mixer : MixerView). with_entry c.args.place None (table_of mixer.tuned)) c.self.view_is)
+    (ap (λ (mixer : MixerView). mixer.channels) c.self.view_is) (ap (λ (mixer : MixerView). mixer.latest) c.self.view_is)
+    (ap (λ (mixer : MixerView). mixer.waiting) c.self.view_is)

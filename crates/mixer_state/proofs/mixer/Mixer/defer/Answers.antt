@@ -3,7 +3,7 @@ use Rattle.std.proofs.lemmas.List.{get_or_default}
 use Rattle.play_types.specs.Place.{PlaceView}
 use Rattle.play_types.specs.Scene.{IsConfigured}
 use Rattle.play_types.specs.Setting.{SettingView}
-use Rattle.mixer_state.specs.Kept.{deferred_setting, waiting_lists}
+use Rattle.mixer_state.specs.Entries.{deferred_setting, waiting_lists}
 use Rattle.mixer_state.specs.Mixer.{MixerView, waiting_on}
 use Rattle.mixer_state.proofs.Pasts.{takes_deferred, waiting-push}
 use Rattle.mixer_state.proofs.mixer.Mixer.defer.Goals as goal

@@ -2,7 +2,7 @@ use Rattle.std.proofs.Common.{subst}
 use Rattle.run_script.specs.inner.Player.{PlaysLine}
 use Rattle.run_script.proofs.Counting.{few_made}
 use Rattle.run_script.proofs.Lines.{comment_played, stop_played, ticks_played}
-use Rattle.run_script.proofs.OneLine.{text_one_line}
+use Rattle.history_model.proofs.OneLines.{text_one_line}
 use Rattle.run_script.proofs.player.Player.take_line.Goals as goal
 
 pub returns-in-Comment-clause-plays : goal.returns-in-Comment-clause-plays

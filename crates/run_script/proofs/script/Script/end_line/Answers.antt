@@ -6,7 +6,7 @@ use Rattle.history_model.specs.scripts.Line.{meaning}
 use Rattle.history_model.specs.scripts.Input.{unended}
 use Rattle.run_script.specs.inner.Player.{PlaysLine}
 use Rattle.run_script.proofs.Growth.{fed_done, fed_stops}
-use Rattle.run_script.proofs.OneLine.{stripped_one_line}
+use Rattle.history_model.proofs.OneLines.{stripped_one_line}
 use Rattle.run_script.proofs.script.Script.end_line.Goals as goal
 use Rattle.run_script.proofs.Counting.{stripped_shorter}
 

@@ -2,7 +2,7 @@ use Rattle.std.proofs.Common.{◌≡◌, ℕ, ◌<◌, ◌≤◌, [], get_or, se
 use Rattle.std.proofs.lemmas.List.{ext_get_or, get_or_default}
 use Rattle.std.proofs.lemmas.List.Edits.{fill_by_more}
 use Rattle.history_model.specs.stage.Places.{Places}
-use Rattle.stage_core.specs.Board.{Channels}
+use Rattle.stage_core.specs.LiveState.{Channels}
 use Rattle.stage_core.proofs.channels.LivePlaces.copy_from.Goals as goal
 
 -- one channel more is copied

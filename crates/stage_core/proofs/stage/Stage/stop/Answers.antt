@@ -18,5 +18,5 @@ unreachable-requires c =
 
 pub invariant_of-self : goal.invariant_of-self
 invariant_of-self c =
-    subst (λ (j : JournalView). IsStage j.events c.self.inside.board c.self.inside.saved c.self.inside.mixer c.self.inside.routes) (sym c.push_stop.ensures)
-    (IsStage-stop c.self.inside.journal.events c.self.inside.board c.self.inside.saved c.self.inside.mixer c.self.inside.routes c.self.invariant c.args.tag)
+    subst (λ (j : JournalView). IsStage j.events c.self.inside.live c.self.inside.saved c.self.inside.mixer c.self.inside.routes) (sym c.push_stop.ensures)
+    (IsStage-stop c.self.inside.journal.events c.self.inside.live c.self.inside.saved c.self.inside.mixer c.self.inside.routes c.self.invariant c.args.tag)

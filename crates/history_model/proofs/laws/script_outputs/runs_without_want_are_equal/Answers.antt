@@ -1,8 +1,0 @@
-use Rattle.history_model.proofs.Runs.{output-equal, events-equal}
-use Rattle.history_model.proofs.laws.script_outputs.runs_without_want_are_equal.Goals as goal
-
-pub returns-clause-output : goal.returns-clause-output
-returns-clause-output c = output-equal
-
-pub returns-clause-history : goal.returns-clause-history
-returns-clause-history c = events-equal

@@ -1,9 +1,0 @@
-use Rattle.std.proofs.Common.{◌≡◌, ◌++◌, map, take, drop}
-use Rattle.history_model.specs.stage.Trail.{channel_swapped_place}
-use Rattle.mixer_state.specs.inner.Changes.{moved}
-use Rattle.mixer_state.proofs.kept.swap_channels.Given as goal
-
--- the settings so far are moved
-abbrev pub invariant-loop-kept : goal.invariant-loop-kept
-invariant-loop-kept l =
-    l.settings ≡ map (moved (channel_swapped_place l.a l.b)) (take l.kept-index l.initial.settings) ++ drop l.kept-index l.initial.settings

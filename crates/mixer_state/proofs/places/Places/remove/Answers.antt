@@ -1,0 +1,15 @@
+use Rattle.std.proofs.Common.{sym, ap, ◌∙◌, subst}
+use Rattle.std.specs.Prelude.{None}
+use Rattle.play_types.specs.Scene.{IsConfigured}
+use Rattle.mixer_state.specs.Entries.{table_of}
+use Rattle.mixer_state.specs.inner.Changes.{with_entry}
+use Rattle.mixer_state.specs.inner.Found.{PlacesView}
+use Rattle.mixer_state.proofs.Tables.{table-changed}
+use Rattle.mixer_state.proofs.places.Places.remove.Goals as goal
+
+pub returns-clause-entries : goal.returns-clause-entries
+returns-clause-entries c =
+    table-changed c.self.inside.channels.items c.from.result c.remove.new.self c.args.place c.layer.result c.index_mut.result.now None
+    (c.from.ensures ∙ c.channel.ensures.value) c.layer.ensures.value c.index_mut.ensures.value
+    (subst (λ (places : PlacesView). IsConfigured places.channels c.args.place.channel) (sym c.self.view_is) c.requires) c.remove.ensures.value
+    ∙ ap (λ (places : PlacesView). with_entry c.args.place None (table_of places.entries)) c.self.view_is

@@ -1,0 +1,16 @@
+-- What a mixer keeps.
+use Rattle.std.specs.Prelude.{◌≡◌, ℕ, ◌+◌, List, [], length, All, slice_index_or}
+use Rattle.play_types.specs.Setting.{SettingView}
+use Rattle.mixer_state.specs.Entries.{table_of}
+use Rattle.mixer_state.specs.inner.Found.{PlacesView}
+use Rattle.mixer_state.specs.inner.Ranges.{AreRunning}
+
+-- each setting is for a place of this channel
+abbrev pub AreOn : ℕ → List SettingView → Type 0
+AreOn channel settings = All (λ setting. setting.place.channel ≡ channel) settings
+
+-- the courses are in range and set out by the latest ticks, and each list of waiting settings is of its channel
+pub record IsKept (places : PlacesView) (latest : ℕ) (waiting : List (List SettingView)) : Type 0 where
+  pub counted : length waiting ≡ places.channels
+  pub running : AreRunning latest (table_of places.entries)
+  pub on_channels : (at : ℕ) → AreOn (at + 1) (slice_index_or waiting at [])

@@ -32,7 +32,7 @@ use Rattle.history_model.specs.stage.Answer.{number_count}
 use Rattle.history_model.specs.text.Commands.{Word, Plain, arguments, capital_digits, clip_name_at, curve_text, direction_text, flag_words, micro_word, number_word, part_words, place_text, place_word, producer_word, setting_words, take_words, timed_words, timing_words, transition_words}
 use Rattle.cmd_print.specs.inner.Bytes.{word_bytes}
 use Rattle.cmd_print.proofs.Known.{IsChannelOf, IsPlaceOf, IsKnownTrans, IsKnownClip, IsKnownSpec, IsKnownTake, IsKnown}
-use Rattle.history_replay.specs.Replay.{IsPrintedName}
+use Rattle.history_replay.specs.Replay.{HasShortName, IsShortName, IsTextName, NamesShortClip}
 use Rattle.history_replay.proofs.Quoted.{length-quoted}
 use Rattle.history_replay.proofs.Sizes.{Take, Take-append, Take-cons, Take-fewer, Take-flag, Take-micro, Take-none, Take-number, Take-one}
 
@@ -151,19 +151,20 @@ module _ (config : ConfigView) (few : length config.channels ≤ MAX_CHANNELS) w
   channel_takes channel words most few at h =
       Take-fewer (number_word channel ∷ words) (3 + most) 4088 few (Take-channel channel words most at h)
 
-  module _ (media : List MediaNameView) (printed : All IsPrintedName media) where
+  module _ (media : List MediaNameView) (texts : All IsTextName media) where
     -- the clip that is played, by its name
-    printed_clip : (id : ℕ) (take : TakeView) (known : IsKnownClip media id take) → IsPrintedName known.clip
-    printed_clip id take known =
-        subst IsPrintedName (get_or_from_slice_get media id known.clip known.clip known.is.at)
-        (printed id known.clip (slice_get_within media id known.clip known.is.at))
+    text_of_clip : (id : ℕ) (take : TakeView) (known : IsKnownClip media id take) → IsTextName known.clip
+    text_of_clip id take known =
+        subst IsTextName (get_or_from_slice_get media id known.clip known.clip known.is.at)
+        (texts id known.clip (slice_get_within media id known.clip known.is.at))
 
     name_of_clip : (id : ℕ) (take : TakeView) (known : IsKnownClip media id take) → clip_name_at media id ≡ known.clip.name
     name_of_clip id take known = ap (λ (found : Option MediaNameView). option_map_or (λ (clip : MediaNameView). clip.name) found []) known.is.at
 
-    length-clip : (id : ℕ) (take : TakeView) → IsKnownClip media id take → length (word_bytes (producer_word media (Clip id))) ≤ 3902
-    length-clip id take known =
-        let short = (printed_clip id take known).short in
+    length-clip : (id : ℕ) (take : TakeView) → IsKnownClip media id take → IsShortName (clip_name_at media id) →
+        length (word_bytes (producer_word media (Clip id))) ≤ 3902
+    length-clip id take known named =
+        let short : IsShortName known.clip.name = subst IsShortName (name_of_clip id take known) named in
         omega (arith, ap (λ name. length (encode_utf8_all (quoted name))) (name_of_clip id take known), length-quoted known.clip.name, short)
 
     part_takes : (id : ℕ) (take : TakeView) → IsKnownClip media id take → Take (part_words (Clip id) take) 33
@@ -178,59 +179,61 @@ module _ (config : ConfigView) (few : length config.channels ≤ MAX_CHANNELS) w
         (Take-number take.length [] 0 (omega (arith, part, few)) Take-none))))
 
     -- a producer and what is played of it
-    producer_takes : (spec : Spec) (take : TakeView) → IsKnownSpec config media take spec → Take (producer_word media spec ∷ part_words spec take) 3936
-    producer_takes (Clip id) take known =
+    producer_takes : (spec : Spec) (take : TakeView) → IsKnownSpec config media take spec → HasShortName media spec →
+        Take (producer_word media spec ∷ part_words spec take) 3936
+    producer_takes (Clip id) take known named =
         Take-cons (producer_word media (Clip id)) (part_words (Clip id) take) 3902 33
-        (ap all_scalars (name_of_clip id take known) ∙ (printed_clip id take known).characters) (length-clip id take known) (part_takes id take known)
-    producer_takes (Colour value) take known =
+        (ap all_scalars (name_of_clip id take known) ∙ text_of_clip id take known) (length-clip id take known named) (part_takes id take known)
+    producer_takes (Colour value) take known named =
         Take-fewer (producer_word media (Colour value) ∷ []) 10 3936 (omega arith)
         (Take-one (35 ∷ capital_digits 8 value) 9 (omega (arith, length-capitals 8 value)))
-    producer_takes (RouteChannel channel) take known =
+    producer_takes (RouteChannel channel) take known named =
         Take-fewer (producer_word media (RouteChannel channel) ∷ []) 11 3936 (omega arith)
         (Take-one (codes "route://" ++ decimal channel) 10 (omega (arith, length_channel channel known.0, length-append (codes "route://") (decimal channel))))
-    producer_takes (RouteLayer place) take known =
+    producer_takes (RouteLayer place) take known named =
         Take-fewer (producer_word media (RouteLayer place) ∷ []) 16 3936 (omega arith)
         (Take-one (codes "route://" ++ place_text place) 15 (omega (arith, length_place place known.0, length-append (codes "route://") (place_text place))))
 
-    take_takes : (take : TakeView) → IsKnownTake config media take → Take (take_words media take) 3968
-    take_takes take known =
+    take_takes : (take : TakeView) → IsKnownTake config media take → HasShortName media take.spec → Take (take_words media take) 3968
+    take_takes take known named =
         let trans = transition_words take.trans.kind take.trans in
         let auto = flag_words take.auto (codes "AUTO") in
-        Take-append (producer_word media take.spec ∷ part_words take.spec take) (trans ++ auto) 3936 32 (producer_takes take.spec take known.spec)
+        Take-append (producer_word media take.spec ∷ part_words take.spec take) (trans ++ auto) 3936 32 (producer_takes take.spec take known.spec named)
         (Take-append trans auto 27 5 (transition_takes take.trans.kind take.trans known.trans) (Take-flag take.auto (codes "AUTO") 4 (lit≤ tt)))
 
-    play_takes : (place : PlaceView) (take : TakeView) → IsPlaceOf config place → IsKnownTake config media take → Take (place_word place ∷ take_words media take) 4088
-    play_takes place take at known =
-        Take-fewer (place_word place ∷ take_words media take) 3976 4088 (omega arith) (Take-place place (take_words media take) 3968 at (take_takes take known))
+    play_takes : (place : PlaceView) (take : TakeView) → IsPlaceOf config place → IsKnownTake config media take → HasShortName media take.spec →
+        Take (place_word place ∷ take_words media take) 4088
+    play_takes place take at known named =
+        Take-fewer (place_word place ∷ take_words media take) 3976 4088 (omega arith) (Take-place place (take_words media take) 3968 at (take_takes take known named))
 
     -- what a command takes after its name
-    pub command_takes : (command : Cmd) → IsKnown config media command → Take (arguments media command) 4088
-    command_takes (cmd.Load place take) known = play_takes place take known.0 known.1
-    command_takes (cmd.LoadBg place take) known = play_takes place take known.0 known.1
-    command_takes (cmd.Play place) known = place_takes place known
-    command_takes (cmd.PlayTake place take) known = play_takes place take known.0 known.1
-    command_takes (cmd.Pause place) known = place_takes place known
-    command_takes (cmd.Resume place) known = place_takes place known
-    command_takes (cmd.StopLayer place) known = place_takes place known
-    command_takes (cmd.ClearLayer place) known = place_takes place known
-    command_takes (cmd.ClearChannel channel) known = channel_takes channel [] 0 (omega arith) known Take-none
-    command_takes (cmd.SwapLayers one other transforms) known =
+    pub command_takes : (command : Cmd) → IsKnown config media command → NamesShortClip media command → Take (arguments media command) 4088
+    command_takes (cmd.Load place take) known named = play_takes place take known.0 known.1 named
+    command_takes (cmd.LoadBg place take) known named = play_takes place take known.0 known.1 named
+    command_takes (cmd.Play place) known named = place_takes place known
+    command_takes (cmd.PlayTake place take) known named = play_takes place take known.0 known.1 named
+    command_takes (cmd.Pause place) known named = place_takes place known
+    command_takes (cmd.Resume place) known named = place_takes place known
+    command_takes (cmd.StopLayer place) known named = place_takes place known
+    command_takes (cmd.ClearLayer place) known named = place_takes place known
+    command_takes (cmd.ClearChannel channel) known named = channel_takes channel [] 0 (omega arith) known Take-none
+    command_takes (cmd.SwapLayers one other transforms) known named =
         let flag = flag_words transforms (codes "TRANSFORMS") in
         Take-fewer (place_word one ∷ place_word other ∷ flag) 27 4088 (omega arith)
         (Take-place one (place_word other ∷ flag) 19 known.0 (Take-place other flag 11 known.1 (Take-flag transforms (codes "TRANSFORMS") 10 (lit≤ tt))))
-    command_takes (cmd.SwapChannels one other transforms) known =
+    command_takes (cmd.SwapChannels one other transforms) known named =
         let flag = flag_words transforms (codes "TRANSFORMS") in
         channel_takes one (number_word other ∷ flag) 14 (omega arith) known.0
         (Take-channel other flag 11 known.1 (Take-flag transforms (codes "TRANSFORMS") 10 (lit≤ tt)))
-    command_takes (cmd.Set setting) known =
+    command_takes (cmd.Set setting) known named =
         Take-fewer (place_word setting.place ∷ setting_words setting) 329 4088 (omega arith)
         (Take-place setting.place (setting_words setting) 321 known.place (setting_takes setting known.short))
-    command_takes (cmd.CommitMixer channel) known = channel_takes channel (Plain (codes "COMMIT") ∷ []) 7 (omega arith) known (Take-one (codes "COMMIT") 6 (lit≤ tt))
-    command_takes (cmd.ResetLayer place) known =
+    command_takes (cmd.CommitMixer channel) known named = channel_takes channel (Plain (codes "COMMIT") ∷ []) 7 (omega arith) known (Take-one (codes "COMMIT") 6 (lit≤ tt))
+    command_takes (cmd.ResetLayer place) known named =
         Take-fewer (place_word place ∷ Plain (codes "CLEAR") ∷ []) 14 4088 (omega arith)
         (Take-place place (Plain (codes "CLEAR") ∷ []) 6 known (Take-one (codes "CLEAR") 5 (lit≤ tt)))
-    command_takes (cmd.ResetChannel channel) known = channel_takes channel (Plain (codes "CLEAR") ∷ []) 6 (omega arith) known (Take-one (codes "CLEAR") 5 (lit≤ tt))
-    command_takes (cmd.Value place property) known =
+    command_takes (cmd.ResetChannel channel) known named = channel_takes channel (Plain (codes "CLEAR") ∷ []) 6 (omega arith) known (Take-one (codes "CLEAR") 5 (lit≤ tt))
+    command_takes (cmd.Value place property) known named =
         Take-fewer (place_word place ∷ Plain (prop_text property) ∷ []) 16 4088 (omega arith)
         (Take-place place (Plain (prop_text property) ∷ []) 8 known (Take-one (prop_text property) 7 (prop_short property)))
-    command_takes cmd.Info known = Take-fewer [] 0 4088 (omega arith) Take-none
+    command_takes cmd.Info known named = Take-fewer [] 0 4088 (omega arith) Take-none

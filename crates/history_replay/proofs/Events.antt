@@ -29,7 +29,8 @@ use Rattle.history_model.proofs.Sides.{asked_of, own_step}
 use Rattle.history_model.proofs.Tags.{text_by-else}
 use Rattle.history_model.specs.scripts.Memory.{with_memory}
 use Rattle.history_model.proofs.Besides.{same_asks}
-use Rattle.history_replay.specs.Replay.{IsAskedFor, IsBatchedCommand, IsPlayout}
+use Rattle.history_replay.specs.Replay.{IsPlayout}
+use Rattle.history_replay.proofs.Printable.{IsPrintable, IsPrintableInBatch}
 use Rattle.history_replay.specs.ReplayOutput.{event_output, waiting_output}
 use Rattle.history_replay.proofs.Playing.{At, At-as, At-said, asked_more, each_tag, own_step-asks}
 use Rattle.history_replay.proofs.Spoken.{begin_asked, begin_spoken, command_asked, command_spoken, commit_asked, commit_spoken}
@@ -177,12 +178,12 @@ module _ (playout : Playout) (before : List PlayedLine) (events : List Event) (o
       (is_open-closing (asked_of playout tag before) Commit refl) inside.others
 
 -- the text of a command is a client's line that asks for it
-module _ (playout : Playout) (known : IsPlayout playout) (cmd : Cmd) (asked : IsAskedFor playout cmd) where
+module _ (playout : Playout) (known : IsPlayout playout) (cmd : Cmd) (asked : IsPrintable playout cmd) where
   pub command_line_spoken : IsSpoken (encode_utf8_all (command_text playout.names cmd))
-  command_line_spoken = command_spoken playout.config playout.names known.config known.names known.printed cmd asked.words asked.ask
+  command_line_spoken = command_spoken playout.config playout.names known.config known.names known.texts cmd asked.by.words asked.by.ask asked.short
 
   pub command_line_asked : line_meaning playout.config playout.names (line_of_text (encode_utf8_all (command_text playout.names cmd))) ≡ Asks (Stage cmd)
-  command_line_asked = command_asked playout.config playout.names known.config known.names known.printed cmd asked.words asked.ask
+  command_line_asked = command_asked playout.config playout.names known.config known.names known.texts cmd asked.by.words asked.by.ask asked.short
 
 -- the lines of the commands of a batch
 pub record Waits (playout : Playout) (before : List PlayedLine) (events : List Event) (output : List ℕ) (tag : Tag) (cmds : List Cmd) : Type 0 where
@@ -190,14 +191,14 @@ pub record Waits (playout : Playout) (before : List PlayedLine) (events : List E
   pub inside : IsInBatch playout before tag cmds
 
 pub all_wait : (playout : Playout) (known : IsPlayout playout) (before : List PlayedLine) (events : List Event) (output : List ℕ) (tag : Tag) (done cmds : List Cmd)
-    → All (IsBatchedCommand playout) cmds → length done + length cmds ≤ MAX_BATCH_COMMANDS → Waits playout before events output tag done
+    → All (IsPrintableInBatch playout) cmds → length done + length cmds ≤ MAX_BATCH_COMMANDS → Waits playout before events output tag done
     → Waits playout (before ++ map with_memory (map (command_says playout.names tag) cmds)) events (output ++ flat_map (waiting_output playout tag) cmds) tag (done ++ cmds)
 all_wait playout known before events output tag done [] each few h =
     rw (append-nil before, append-nil output, append-nil done) h
 all_wait playout known before events output tag done (cmd ∷ cmds) each few h =
     let text = encode_utf8_all (command_text playout.names cmd) in
     let line = with_memory (Said tag text) in
-    let first = All-head (IsBatchedCommand playout) cmd cmds each in
+    let first = All-head (IsPrintableInBatch playout) cmd cmds each in
     let one = (command_line_spoken playout known cmd first.asked).one in
     let meant = command_line_asked playout known cmd first.asked in
     let room : length done < MAX_BATCH_COMMANDS = omega (arith, few) in
@@ -208,7 +209,7 @@ all_wait playout known before events output tag done (cmd ∷ cmds) each few h =
       ← append_assoc done (cmd ∷ []) cmds,
     )
     (all_wait playout known (before ++ line ∷ []) events (output ++ waiting_output playout tag cmd) tag (done ++ cmd ∷ []) cmds
-    (All-tail (IsBatchedCommand playout) cmd cmds each) few'
+    (All-tail (IsPrintableInBatch playout) cmd cmds each) few'
     (record {
       at = At-waits playout before events output h.at tag text cmd one meant first.acts done room h.inside;
       inside = open-waits playout before events output h.at tag text cmd one meant first.acts done room h.inside;

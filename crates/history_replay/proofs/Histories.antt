@@ -20,7 +20,8 @@ use Rattle.history_model.specs.scripts.Line as line
 use Rattle.history_model.specs.scripts.History.{Playout, PlayedLine, is_full, same_tag, server}
 use Rattle.history_model.specs.scripts.Output.{tick_output, ticks_output}
 use Rattle.history_model.specs.scripts.Memory.{with_memory}
-use Rattle.history_replay.specs.Replay.{IsAccepted, IsAskedFor, IsBatchedCommand, IsConnection, IsPlayout, IsReplayable, IsWritten, script_of}
+use Rattle.history_replay.specs.Replay.{IsAccepted, IsConnection, IsPlayout, IsReplayable, script_of}
+use Rattle.history_replay.proofs.Printable.{all_playable, IsPlayable, IsPrintable, IsPrintableInBatch}
 use Rattle.history_replay.specs.ReplayOutput.{event_output, events_output, history_output}
 use Rattle.history_replay.proofs.Events.{none_open, batch_says, command_line_spoken, command_says}
 use Rattle.history_replay.proofs.Lines.{Says-ticks, tick_says}
@@ -40,18 +41,18 @@ says_after media count (event.Tick ∷ events) = says_after media (count + 1) ev
 says_after media count (event.Stop tag ∷ events) = tick_says count ++ ((stop_says tag ∷ []) ++ says_after media 0 events)
 
 module _ (playout : Playout) (known : IsPlayout playout) where
-  Says-command : (tag : Tag) (cmd : Cmd) → IsConnection tag → IsAskedFor playout cmd → Says (command_line playout.names tag cmd) (command_says playout.names tag cmd ∷ [])
+  Says-command : (tag : Tag) (cmd : Cmd) → IsConnection tag → IsPrintable playout cmd → Says (command_line playout.names tag cmd) (command_says playout.names tag cmd ∷ [])
   Says-command tag cmd named asked = Says-said tag named (encode_utf8_all (command_text playout.names cmd)) (command_line_spoken playout known cmd asked)
 
-  Says-commands : (tag : Tag) (cmds : List Cmd) → IsConnection tag → All (IsBatchedCommand playout) cmds
+  Says-commands : (tag : Tag) (cmds : List Cmd) → IsConnection tag → All (IsPrintableInBatch playout) cmds
       → Says (flat_map (command_line playout.names tag) cmds) (map (command_says playout.names tag) cmds)
   Says-commands tag [] named each = Says-none
   Says-commands tag (cmd ∷ cmds) named each =
       Says-append (command_line playout.names tag cmd) (flat_map (command_line playout.names tag) cmds) (command_says playout.names tag cmd ∷ [])
-      (map (command_says playout.names tag) cmds) (Says-command tag cmd named (All-head (IsBatchedCommand playout) cmd cmds each).asked)
-      (Says-commands tag cmds named (All-tail (IsBatchedCommand playout) cmd cmds each))
+      (map (command_says playout.names tag) cmds) (Says-command tag cmd named (All-head (IsPrintableInBatch playout) cmd cmds each).asked)
+      (Says-commands tag cmds named (All-tail (IsPrintableInBatch playout) cmd cmds each))
 
-  Says-batch : (tag : Tag) (cmds : List Cmd) → IsConnection tag → All (IsBatchedCommand playout) cmds
+  Says-batch : (tag : Tag) (cmds : List Cmd) → IsConnection tag → All (IsPrintableInBatch playout) cmds
       → Says (batch_lines playout.names tag cmds) (batch_says playout.names tag cmds)
   Says-batch tag cmds named each =
       let commit = connection_line tag (codes "COMMIT") in
@@ -61,26 +62,26 @@ module _ (playout : Playout) (known : IsPlayout playout) where
       (Says-commands tag cmds named each) (Says-said tag named (codes "COMMIT") commit_spoken))
 
   -- the lines of the text
-  Says-after : (count : ℕ) (events : List Event) → All (IsWritten playout) events → Says (text_after playout.names count events) (says_after playout.names count events)
+  Says-after : (count : ℕ) (events : List Event) → All (IsPlayable playout) events → Says (text_after playout.names count events) (says_after playout.names count events)
   Says-after count [] written = Says-ticks count
   Says-after count (event.Do tag cmd ∷ events) written =
-      let first = All-head (IsWritten playout) (event.Do tag cmd) events written in
-      let rest = All-tail (IsWritten playout) (event.Do tag cmd) events written in
+      let first = All-head (IsPlayable playout) (event.Do tag cmd) events written in
+      let rest = All-tail (IsPlayable playout) (event.Do tag cmd) events written in
       Says-append (tick_lines count) (command_line playout.names tag cmd ++ text_after playout.names 0 events) (tick_says count)
       ((command_says playout.names tag cmd ∷ []) ++ says_after playout.names 0 events) (Says-ticks count)
       (Says-append (command_line playout.names tag cmd) (text_after playout.names 0 events) (command_says playout.names tag cmd ∷ [])
       (says_after playout.names 0 events) (Says-command tag cmd first.0 first.1) (Says-after 0 events rest))
   Says-after count (event.Batch tag cmds ∷ events) written =
-      let first = All-head (IsWritten playout) (event.Batch tag cmds) events written in
-      let rest = All-tail (IsWritten playout) (event.Batch tag cmds) events written in
+      let first = All-head (IsPlayable playout) (event.Batch tag cmds) events written in
+      let rest = All-tail (IsPlayable playout) (event.Batch tag cmds) events written in
       Says-append (tick_lines count) (batch_lines playout.names tag cmds ++ text_after playout.names 0 events) (tick_says count)
       (batch_says playout.names tag cmds ++ says_after playout.names 0 events) (Says-ticks count)
       (Says-append (batch_lines playout.names tag cmds) (text_after playout.names 0 events) (batch_says playout.names tag cmds)
       (says_after playout.names 0 events) (Says-batch tag cmds first.0 first.2) (Says-after 0 events rest))
-  Says-after count (event.Tick ∷ events) written = Says-after (count + 1) events (All-tail (IsWritten playout) event.Tick events written)
+  Says-after count (event.Tick ∷ events) written = Says-after (count + 1) events (All-tail (IsPlayable playout) event.Tick events written)
   Says-after count (event.Stop tag ∷ events) written =
-      let first = All-head (IsWritten playout) (event.Stop tag) events written in
-      let rest = All-tail (IsWritten playout) (event.Stop tag) events written in
+      let first = All-head (IsPlayable playout) (event.Stop tag) events written in
+      let rest = All-tail (IsPlayable playout) (event.Stop tag) events written in
       Says-append (tick_lines count) (stop_line tag ++ text_after playout.names 0 events) (tick_says count)
       ((stop_says tag ∷ []) ++ says_after playout.names 0 events) (Says-ticks count)
       (Says-append (stop_line tag) (text_after playout.names 0 events) (stop_says tag ∷ [])
@@ -145,7 +146,7 @@ module _ (playout : Playout) (before : List PlayedLine) (events : List Event) (o
 
 -- the lines of events after others make them
 Plays-after : (playout : Playout) (known : IsPlayout playout) (before : List PlayedLine) (events : List Event) (output : List ℕ) (count : ℕ) (later : List Event)
-    → AtRest playout before events output → IsHistory later → All (IsWritten playout) later → held events + held later ≤ playout.config.journal_limit
+    → AtRest playout before events output → IsHistory later → All (IsPlayable playout) later → held events + held later ≤ playout.config.journal_limit
     → Plays playout (before ++ map with_memory (says_after playout.names count later)) (events ++ (replicate count event.Tick ++ later))
     (output ++ events_output playout events (replicate count event.Tick ++ later)) (not (list_any is_stop later))
 unfolding tick_says
@@ -159,37 +160,37 @@ Plays-after playout known before events output count (event.Do tag cmd ∷ later
     let ticks = before ++ map with_memory (tick_says count) in
     let ticked = events ++ replicate count event.Tick in
     let wrote = output ++ ticks_output playout events count in
-    let first = All-head (IsWritten playout) one later written in
+    let first = All-head (IsPlayable playout) one later written in
     joined playout before events output count one later said (says_after playout.names 0 later) (not (list_any is_stop later))
     (Plays-after playout known (ticks ++ map with_memory said) (ticked ++ one ∷ []) (wrote ++ event_output playout ticked one) 0 later
     (Rest-command playout known ticks ticked wrote tag cmd first.1 (has_room playout before events output count one later within)
     (Rest-ticks playout before events output count h))
-    whole (All-tail (IsWritten playout) one later written) (held-next playout before events output count one later within))
+    whole (All-tail (IsPlayable playout) one later written) (held-next playout before events output count one later within))
 Plays-after playout known before events output count (event.Batch tag cmds ∷ later) h whole written within =
     let one = event.Batch tag cmds in
     let said = batch_says playout.names tag cmds in
     let ticks = before ++ map with_memory (tick_says count) in
     let ticked = events ++ replicate count event.Tick in
     let wrote = output ++ ticks_output playout events count in
-    let first = All-head (IsWritten playout) one later written in
+    let first = All-head (IsPlayable playout) one later written in
     joined playout before events output count one later said (says_after playout.names 0 later) (not (list_any is_stop later))
     (Plays-after playout known (ticks ++ map with_memory said) (ticked ++ one ∷ []) (wrote ++ event_output playout ticked one) 0 later
     (Rest-batch playout known ticks ticked wrote tag cmds whole.0 first.1 first.2 (has_room playout before events output count one later within)
     (Rest-ticks playout before events output count h))
-    whole.1 (All-tail (IsWritten playout) one later written) (held-next playout before events output count one later within))
+    whole.1 (All-tail (IsPlayable playout) one later written) (held-next playout before events output count one later within))
 Plays-after playout known before events output count (event.Tick ∷ later) h whole written within =
     let same : replicate (count + 1) event.Tick ++ later ≡ replicate count event.Tick ++ event.Tick ∷ later =
     ap (λ es. es ++ later) (sym (replicate-append-replicate count 1 event.Tick)) ∙ append_assoc (replicate count event.Tick) (event.Tick ∷ []) later in
     subst (λ es. Plays playout (before ++ map with_memory (says_after playout.names (count + 1) later)) (events ++ es)
     (output ++ events_output playout events es) (not (list_any is_stop later))) same
-    (Plays-after playout known before events output (count + 1) later h whole (All-tail (IsWritten playout) event.Tick later written) (omega (arith, within)))
+    (Plays-after playout known before events output (count + 1) later h whole (All-tail (IsPlayable playout) event.Tick later written) (omega (arith, within)))
 Plays-after playout known before events output count (event.Stop tag ∷ later) h whole written within =
     let one = event.Stop tag in
     let said = stop_says tag ∷ [] in
     let ticks = before ++ map with_memory (tick_says count) in
     let ticked = events ++ replicate count event.Tick in
     let wrote = output ++ ticks_output playout events count in
-    let stopped = Plays-stop playout ticks ticked wrote (Rest-ticks playout before events output count h) tag (All-head (IsWritten playout) one later written) in
+    let stopped = Plays-stop playout ticks ticked wrote (Rest-ticks playout before events output count h) tag (All-head (IsPlayable playout) one later written) in
     rw whole
     (joined playout before events output count one [] said (says_after playout.names 0 []) false
     (rw (append-nil (ticks ++ map with_memory said), append-nil (ticked ++ one ∷ []), append-nil (wrote ++ event_output playout ticked one)) stopped))
@@ -241,7 +242,7 @@ all_accepted media count (event.Stop tag ∷ events) =
 module _ (playout : Playout) (history : List Event) (h : IsReplayable playout history) where
   pub script-is : script_of (history_text playout.names history) ≡ says_after playout.names 0 history
   unfolding history_text
-  script-is = Says-whole (text_after playout.names 0 history) (says_after playout.names 0 history) (Says-after playout h.on 0 history h.written)
+  script-is = Says-whole (text_after playout.names 0 history) (says_after playout.names 0 history) (Says-after playout h.on 0 history (all_playable playout history h.written h.named))
 
   pub text_accepted : All IsAccepted (script_of (history_text playout.names history))
   text_accepted = subst (All IsAccepted) (sym script-is) (all_accepted playout.names 0 history)
@@ -251,4 +252,4 @@ module _ (playout : Playout) (history : List Event) (h : IsReplayable playout hi
   text_plays =
       let within = h.within in
       rw script-is
-      (Plays-after playout h.on [] [] [] 0 history (record { at = At-none playout; closed = none_open playout }) h.whole h.written (omega (arith, within)))
+      (Plays-after playout h.on [] [] [] 0 history (record { at = At-none playout; closed = none_open playout }) h.whole (all_playable playout history h.written h.named) (omega (arith, within)))

@@ -7,6 +7,7 @@ pub mod Sizes
 pub mod CommandSizes
 pub mod Spoken
 pub mod Playing
+pub mod Printable
 pub mod Events
 pub mod Replaying
 pub mod Stops

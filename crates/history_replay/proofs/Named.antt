@@ -13,7 +13,7 @@ use Rattle.history_model.specs.scripts.History.{PlayedLine, Playout, script_even
 use Rattle.history_model.specs.scripts.Memory.{lines_played, with_memory}
 use Rattle.history_model.proofs.Scripts.{script_kept}
 use Rattle.history_model.specs.text.History.{history_text}
-use Rattle.history_replay.specs.Replay.{IsConnection, IsPlayout, IsReplayable, NamesConnection, script_of}
+use Rattle.history_replay.specs.Replay.{IsConnection, IsPlayout, IsReplayable, NamesConnection, NamesShortClips, script_of}
 use Rattle.history_replay.proofs.Histories.{text_plays}
 use Rattle.history_replay.proofs.Written.{script_events-written}
 
@@ -88,12 +88,14 @@ text_named text = All-map NamesConnection meaning (lines text) (λ k one inside.
 
 -- the history of a script
 module _ (playout : Playout) (known : IsPlayout playout) where
-  pub script_replayable : (played : List PlayedLine) → All NamesConnection (lines_played played) → IsReplayable playout (script_events playout played)
-  script_replayable played named =
+  pub script_replayable : (played : List PlayedLine) → All NamesConnection (lines_played played) →
+      All (NamesShortClips playout.names) (script_events playout played) → IsReplayable playout (script_events playout played)
+  script_replayable played named short =
       let kept = script_kept playout played in
-      record { on = known; whole = kept.history; written = script_events-written playout played named; within = kept.within }
+      record { on = known; whole = kept.history; written = script_events-written playout played named; named = short; within = kept.within }
 
-  pub script_replayed : (text : List ℕ) (played : List PlayedLine) → lines_played played ≡ script_of text
+  pub script_replayed : (text : List ℕ) (played : List PlayedLine) → lines_played played ≡ script_of text →
+      All (NamesShortClips playout.names) (script_events playout played)
       → script_events playout (map with_memory (script_of (history_text playout.names (script_events playout played)))) ≡ script_events playout played
-  script_replayed text played same =
-      (text_plays playout (script_events playout played) (script_replayable played (subst (All NamesConnection) (sym same) (text_named text)))).made
+  script_replayed text played same short =
+      (text_plays playout (script_events playout played) (script_replayable played (subst (All NamesConnection) (sym same) (text_named text)) short)).made

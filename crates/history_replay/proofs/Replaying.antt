@@ -21,7 +21,8 @@ use Rattle.history_model.specs.scripts.History.{Playout, PlayedLine, is_full}
 use Rattle.history_model.specs.scripts.Output.{reply_output, ticks_output}
 use Rattle.history_model.specs.scripts.Memory.{with_memory}
 use Rattle.history_model.proofs.Besides.{same_asks}
-use Rattle.history_replay.specs.Replay.{IsAskedFor, IsBatchedCommand, IsPlayout}
+use Rattle.history_replay.specs.Replay.{IsPlayout}
+use Rattle.history_replay.proofs.Printable.{IsPrintable, IsPrintableInBatch}
 use Rattle.history_replay.specs.ReplayOutput.{event_output, waiting_output}
 use Rattle.history_replay.proofs.Events.{At-begin, At-command, At-commit, IsClosed, all_wait, batch_says, closed-command, closed-commit, command_line_asked, command_line_spoken, command_says, open-begin}
 use Rattle.history_replay.proofs.Lines.{tick_says}
@@ -77,7 +78,7 @@ Rest-ticks playout before events output (suc rest) h =
 
 -- a command
 pub Rest-command : (playout : Playout) (known : IsPlayout playout) (before : List PlayedLine) (events : List Event) (output : List ℕ) (tag : Tag) (cmd : Cmd)
-    → IsAskedFor playout cmd → is_full playout events 1 ≡ false → AtRest playout before events output
+    → IsPrintable playout cmd → is_full playout events 1 ≡ false → AtRest playout before events output
     → AtRest playout (before ++ with_memory (command_says playout.names tag cmd) ∷ []) (events ++ event.Do tag cmd ∷ [])
     (output ++ event_output playout events (event.Do tag cmd))
 Rest-command playout known before events output tag cmd asked room h =
@@ -91,7 +92,7 @@ Rest-command playout known before events output tag cmd asked room h =
 
 -- a batch
 pub Rest-batch : (playout : Playout) (known : IsPlayout playout) (before : List PlayedLine) (events : List Event) (output : List ℕ) (tag : Tag) (cmds : List Cmd)
-    → 0 < length cmds → length cmds ≤ MAX_BATCH_COMMANDS → All (IsBatchedCommand playout) cmds → is_full playout events (length cmds) ≡ false
+    → 0 < length cmds → length cmds ≤ MAX_BATCH_COMMANDS → All (IsPrintableInBatch playout) cmds → is_full playout events (length cmds) ≡ false
     → AtRest playout before events output
     → AtRest playout (before ++ map with_memory (batch_says playout.names tag cmds)) (events ++ event.Batch tag cmds ∷ [])
     (output ++ event_output playout events (event.Batch tag cmds))

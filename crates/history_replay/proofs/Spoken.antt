@@ -27,7 +27,7 @@ use Rattle.cmd_print.proofs.Settings.{parsed_known}
 use Rattle.cmd_print.proofs.Spaced.{spaced_one}
 use Rattle.cmd_print.proofs.Texts.{are_fit, ascii_of_plain, command_text-bytes, fit_arguments, fit_name, is_fit, is_plain, plain_of_fit}
 use Rattle.cmd_print.proofs.Tokens.{words_of-printed}
-use Rattle.history_replay.specs.Replay.{IsPrintedName}
+use Rattle.history_replay.specs.Replay.{IsTextName, NamesShortClip}
 use Rattle.history_replay.proofs.CommandSizes.{command_takes, name_short}
 use Rattle.history_replay.proofs.Digits.{none_among, not_last}
 use Rattle.history_replay.proofs.Quoted.{IsInLine, IsInLine-append, IsInLine-nil, quoted_end, quoted_in_line}
@@ -95,11 +95,11 @@ unfolding command_text
 words_read media command =
     words_of-printed (Plain (name_text (command_name command))) (arguments media command) (fit_name (command_name command)) (fit_arguments media command)
 
-module _ (config : ConfigView) (media : List MediaNameView) (kept : IsConfig config) (names : All IsMediaName media) (printed : All IsPrintedName media) where
-  module _ (command : Cmd) (words : List (List ℕ)) (asked : parsed config media words ≡ Ok (Stage command)) where
+module _ (config : ConfigView) (media : List MediaNameView) (kept : IsConfig config) (names : All IsMediaName media) (texts : All IsTextName media) where
+  module _ (command : Cmd) (words : List (List ℕ)) (asked : parsed config media words ≡ Ok (Stage command)) (named : NamesShortClip media command) where
     text_in_line : IsInLine (encode_utf8_all (command_text media command))
     text_in_line =
-        let takes = command_takes config kept.parts.few_channels media printed command (parsed_known config media words command names asked) in
+        let takes = command_takes config kept.parts.few_channels media texts command (parsed_known config media words command names asked) named in
         let name = name_text (command_name command) in
         subst IsInLine (sym (command_text-bytes media command))
         (IsInLine-append name (spaced (arguments media command)) (plain_in_line name (fit_name (command_name command)))
@@ -108,7 +108,7 @@ module _ (config : ConfigView) (media : List MediaNameView) (kept : IsConfig con
     -- the text of the command is a client's line
     pub command_spoken : IsSpoken (encode_utf8_all (command_text media command))
     command_spoken =
-        let takes = command_takes config kept.parts.few_channels media printed command (parsed_known config media words command names asked) in
+        let takes = command_takes config kept.parts.few_channels media texts command (parsed_known config media words command names asked) named in
         let within = takes.within in
         let name = name_text (command_name command) in
         record {

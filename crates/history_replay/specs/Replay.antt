@@ -5,6 +5,11 @@ use Rattle.std.specs.Str.Lines.{lines}
 use Rattle.amcp_text.specs.Escapes.{escaped}
 use Rattle.play_types.specs.Commands.{is_query}
 use Rattle.play_types.specs.Config.{IsConfig}
+use Rattle.play_types.specs.Shape.{shape_of}
+use Rattle.play_types.specs.declared.shape.CommandShape.TheVariants as shape
+use Rattle.play_types.specs.declared.take.Spec.{Spec}
+use Rattle.play_types.specs.declared.take.Spec.TheVariants.{Clip, Colour, RouteChannel, RouteLayer}
+use Rattle.history_model.specs.text.Commands.{clip_name_at}
 use Rattle.play_types.specs.History.{IsHistory, held}
 use Rattle.play_types.specs.Media.{IsMediaName, MediaNameView}
 use Rattle.play_types.specs.declared.command.Cmd.{Cmd}
@@ -46,10 +51,41 @@ IsWritten playout (Batch tag cmds) =
 IsWritten playout Tick = Unit {0}
 IsWritten playout (Stop tag) = (tag ≡ server) ⊎ IsConnection tag
 
--- the name of a clip is a text, and is short enough for each command that plays the clip
-pub record IsPrintedName (clip : MediaNameView) : Type 0 where
-  pub characters : all_scalars clip.name ≡ true
-  pub short : length (encode_utf8_all (flat_map escaped clip.name)) ≤ MAX_PRINTED_NAME_BYTES
+-- the name of a clip is a text
+abbrev pub IsTextName : MediaNameView → Type 0
+IsTextName clip = all_scalars clip.name ≡ true
+
+-- a name that is short enough for each command that plays its clip
+abbrev pub IsShortName : List ℕ → Type 0
+IsShortName name = length (encode_utf8_all (flat_map escaped name)) ≤ MAX_PRINTED_NAME_BYTES
+
+-- the clip that a producer plays has such a name
+abbrev pub HasShortName : List MediaNameView → Spec → Type 0
+HasShortName media (Clip id) = IsShortName (clip_name_at media id)
+HasShortName media (Colour value) = Unit {0}
+HasShortName media (RouteChannel channel) = Unit {0}
+HasShortName media (RouteLayer place) = Unit {0}
+
+-- so has the clip that a command names
+abbrev pub NamesShortClip : List MediaNameView → Cmd → Type 0
+NamesShortClip media cmd = elim (shape_of cmd) [
+  | shape.Take place take ↦ HasShortName media take.spec
+  | shape.Change place ↦ Unit {0}
+  | shape.ClearChannel channel ↦ Unit {0}
+  | shape.SwapLayers a b transforms ↦ Unit {0}
+  | shape.SwapChannels a b transforms ↦ Unit {0}
+  | shape.Set setting ↦ Unit {0}
+  | shape.CommitMixer channel ↦ Unit {0}
+  | shape.Reset target ↦ Unit {0}
+  | shape.Ask query ↦ Unit {0}
+]
+
+-- and each clip that an event names
+abbrev pub NamesShortClips : List MediaNameView → Event → Type 0
+NamesShortClips media (Do tag cmd) = NamesShortClip media cmd
+NamesShortClips media (Batch tag cmds) = All (NamesShortClip media) cmds
+NamesShortClips media Tick = Unit {0}
+NamesShortClips media (Stop tag) = Unit {0}
 
 -- what a history is played on
 pub record IsPlayout (playout : Playout) : Type 0 where
@@ -57,8 +93,8 @@ pub record IsPlayout (playout : Playout) : Type 0 where
   pub config : IsConfig playout.config
   -- so are the names of the media table
   pub names : All IsMediaName playout.names
-  -- and each of them can be printed in a line
-  pub printed : All IsPrintedName playout.names
+  -- and each of them is a text
+  pub texts : All IsTextName playout.names
 
 -- a history that a server can have written
 pub record IsReplayable (playout : Playout) (history : List Event) : Type 0 where
@@ -68,6 +104,8 @@ pub record IsReplayable (playout : Playout) (history : List Event) : Type 0 wher
   pub whole : IsHistory history
   -- each event is one that a script can ask for
   pub written : All (IsWritten playout) history
+  -- each clip that it names has a name that can be printed in a line
+  pub named : All (NamesShortClips playout.names) history
   -- the journal has a place for each command
   pub within : held history ≤ playout.config.journal_limit
 

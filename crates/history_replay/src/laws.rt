@@ -8,7 +8,7 @@ ghost use Rattle.history_model.specs.scripts.Memory.{HasMemory, lines_played, wi
 ghost use Rattle.history_model.specs.scripts.Output.{script_output};
 ghost use Rattle.history_model.specs.sessions.Session.{steps};
 ghost use Rattle.history_model.specs.text.History.{history_text};
-ghost use Rattle.history_replay.specs.Replay.{IsAccepted, IsPlayout, IsReplayable, IsWrittenStep, NamesConnection, script_of};
+ghost use Rattle.history_replay.specs.Replay.{IsAccepted, IsPlayout, IsReplayable, IsWrittenStep, NamesConnection, NamesShortClips, script_of};
 ghost use Rattle.history_replay.specs.ReplayOutput.{history_output};
 
 /// The text of a history that a server can have written is a script with this history.
@@ -42,14 +42,16 @@ pub fn replays_have_the_history()
 {}
 
 /// Each history that a script makes can be played again from its text, whatever memory did: what a connection asks the stage for,
-/// words ask for, and a batch that it asks for has no query and at most 256 commands.
+/// words ask for, and a batch that it asks for has no query and at most 256 commands. Only the names of the clips that the history
+/// names have to be short.
 pub fn histories_of_scripts_are_played_again()
     ensures steps { (playout : Playout) (given_up stream : List ℕ) →
         All (IsWrittenStep playout) (steps playout.config playout.names given_up stream) }
     ensures tags { (text : List ℕ) → All NamesConnection (script_of text) }
     ensures replayable { (playout : Playout) (played : List PlayedLine) → IsPlayout playout → All NamesConnection (lines_played played) →
-        IsReplayable playout (script_events playout played) }
+        All (NamesShortClips playout.names) (script_events playout played) → IsReplayable playout (script_events playout played) }
     ensures again { (playout : Playout) (text : List ℕ) (played : List PlayedLine) → IsPlayout playout → lines_played played ≡ script_of text →
+        All (NamesShortClips playout.names) (script_events playout played) →
         let history = script_events playout played in
         script_events playout (map with_memory (script_of (history_text playout.names history))) ≡ history }
 {}

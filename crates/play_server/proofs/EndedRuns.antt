@@ -1,12 +1,12 @@
 -- The history of a run of the program that ended without a fault.
 use Rattle.std.proofs.Common.{◌≡◌, ℕ, Bool, false, true≢false, List, length, refl, sym, ◌∙◌}
-use Rattle.std.specs.Prelude.{Some}
+use Rattle.std.specs.Prelude.{All, Some}
 use Rattle.play_outside.specs.SinkState.{SinkState}
 use Rattle.play_outside.specs.declared.sink.Sent.{Sent}
 use Rattle.play_outside.specs.declared.sink.Sent.TheVariants as sent
 use Rattle.clip_format.specs.Table.{media_names}
 use Rattle.history_model.specs.text.History.{history_text}
-use Rattle.history_replay.specs.Replay.{IsPlayout, IsReplayable}
+use Rattle.history_replay.specs.Replay.{IsPlayout, IsReplayable, NamesShortClips}
 use Rattle.play_server.specs.Program.{AtSite, program_of}
 use Rattle.play_server.specs.Replay.{playout_of}
 use Rattle.play_server.specs.Run.{is_cut}
@@ -34,7 +34,8 @@ module _ {C D O L : Type 0} (device : DeviceWords C D O L) (tells : L → SinkSt
 
   -- it is a history that its text plays again
   pub program_replayable : (digests : Bool) → IsPlayout (playout_of (program_of run.setup) digests)
+      → All (NamesShortClips (media_names run.setup.media)) run.served.serves.history
       → IsReplayable (playout_of (program_of run.setup) digests) run.served.serves.history
-  program_replayable digests known =
+  program_replayable digests known named =
       let doors : length run.served.given.doors.items ≡ run.setup.config.connections = sym run.served.given.doors.ok.0 ∙ run.served.ready.doors in
-      run_replayable device tells (program_of run.setup) serve.Ended (run.served.given, run.served.finished) digests run.served.serves doors known
+      run_replayable device tells (program_of run.setup) serve.Ended (run.served.given, run.served.finished) digests run.served.serves doors known named

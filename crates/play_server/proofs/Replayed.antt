@@ -16,7 +16,7 @@ use Rattle.play_outside.specs.declared.devices.Devices.{Devices}
 use Rattle.stage_lock.specs.Calls.{tag_of}
 use Rattle.history_model.specs.declared.limits.TheConstants.{MAX_WORKER}
 use Rattle.history_model.specs.scripts.History.{Playout, server}
-use Rattle.history_replay.specs.Replay.{IsConnection, IsPlayout, IsReplayable, IsWritten, IsWrittenStep}
+use Rattle.history_replay.specs.Replay.{IsConnection, IsPlayout, IsReplayable, IsWritten, IsWrittenStep, NamesShortClips}
 use Rattle.history_replay.proofs.Written.{step-written, steps_are_written}
 use Rattle.conn_worker.specs.Explained.{covered}
 use Rattle.conn_worker.specs.Followed.{Followed, Service, events_of, given_up_of, steps_in, steps_of, turn_of}
@@ -139,8 +139,9 @@ module _ {L : Type 0} (program : Program) (tells : L → SinkState) (digests : B
 module _ {C D O L : Type 0} (words : DeviceWords C D O L) (tells : L → SinkState) (program : Program) (end : ServeEnd) (devices : Devices C D O × Devices C D O)
     (digests : Bool) where
   pub run_replayable : (run : HasRun words tells program end devices) → length devices.0.doors.items ≡ program.config.connections
-      → IsPlayout (playout_of program digests) → IsReplayable (playout_of program digests) run.history
-  run_replayable run many known =
+      → IsPlayout (playout_of program digests) → All (NamesShortClips (media_names program.media)) run.history
+      → IsReplayable (playout_of program digests) run.history
+  run_replayable run many known named =
       let limit = known.config.parts.connections in
       let few : 1 + length devices.0.doors.items ≤ MAX_WORKER + 1 = omega (arith, many, limit) in
       record {
@@ -148,5 +149,6 @@ module _ {C D O L : Type 0} (words : DeviceWords C D O L) (tells : L → SinkSta
         whole = run.whole;
         written = each_event (IsWritten (playout_of program digests)) run.runs tt (inl refl) run.history run.made
             (doors_written program tells digests run.history words.door 1 run.runs devices.0.doors.items devices.1.doors.items run.doors (omega arith) few);
+        named = named;
         within = run.within;
       }

@@ -10,7 +10,7 @@ ghost use Rattle.history_model.specs.scripts.History.{PlayedLine, script_events}
 ghost use Rattle.history_model.specs.scripts.Memory.{HasMemory, lines_played};
 ghost use Rattle.history_model.specs.scripts.Output.{script_output};
 ghost use Rattle.history_model.specs.text.History.{history_text};
-ghost use Rattle.history_replay.specs.Replay.{IsPlayout, IsReplayable, script_of};
+ghost use Rattle.history_replay.specs.Replay.{IsPlayout, IsReplayable, NamesShortClips, script_of};
 ghost use Rattle.history_replay.specs.ReplayOutput.{history_output};
 ghost use Rattle.conn_worker.specs.Explained.{covered};
 ghost use Rattle.conn_worker.specs.Followed.{Followed, events_of};
@@ -27,14 +27,15 @@ use play_outside::{Clock, Listener, Sink};
 
 /// The history of each run can be played again from its text.
 ///
-/// There are as many doors as the configuration has connections, and each name of a clip can be printed. The text is what the
+/// There are as many doors as the configuration has connections, and the name of each clip that the history names is short enough to
+/// be printed in a line. The text is what the
 /// output for the history has taken, where it was new and did not fail. Each run of the text as a script on the same configuration
 /// and clips, of which no reply says that memory ran out, has the history of the first run, and writes its answers and its frames.
 pub fn runs_are_played_again<C: Clock, D: Listener, O: Sink>()
     ensures replayable { (program : Program) (end : ServeEnd) (devices : Devices C D O × Devices C D O) (digests : Bool)
         (run : HasRun (record { clock = C.state; door = D.state; out = O.state }) D.Line.state program end devices) →
         length devices.0.doors.items ≡ program.config.connections → IsPlayout (playout_of program digests) →
-        IsReplayable (playout_of program digests) run.history }
+        All (NamesShortClips (media_names program.media)) run.history → IsReplayable (playout_of program digests) run.history }
     ensures text { (program : Program) (end : ServeEnd) (devices : Devices C D O × Devices C D O)
         (run : HasRun (record { clock = C.state; door = D.state; out = O.state }) D.Line.state program end devices) →
         IsNewSink (O.state devices.0.history) → run.written ≡ sent.All →
@@ -42,12 +43,14 @@ pub fn runs_are_played_again<C: Clock, D: Listener, O: Sink>()
     ensures again { (program : Program) (end : ServeEnd) (devices : Devices C D O × Devices C D O) (digests : Bool)
         (run : HasRun (record { clock = C.state; door = D.state; out = O.state }) D.Line.state program end devices) →
         length devices.0.doors.items ≡ program.config.connections → IsPlayout (playout_of program digests) →
+        All (NamesShortClips (media_names program.media)) run.history →
         (played : List PlayedLine) → lines_played played ≡ script_of (history_text (media_names program.media) run.history) →
         HasMemory (playout_of program digests) played →
         script_events (playout_of program digests) played ≡ run.history }
     ensures output { (program : Program) (end : ServeEnd) (devices : Devices C D O × Devices C D O) (digests : Bool)
         (run : HasRun (record { clock = C.state; door = D.state; out = O.state }) D.Line.state program end devices) →
         length devices.0.doors.items ≡ program.config.connections → IsPlayout (playout_of program digests) →
+        All (NamesShortClips (media_names program.media)) run.history →
         (played : List PlayedLine) → lines_played played ≡ script_of (history_text (media_names program.media) run.history) →
         HasMemory (playout_of program digests) played →
         script_output (playout_of program digests) played ≡ history_output (playout_of program digests) run.history }
@@ -93,12 +96,14 @@ pub fn programs_are_played_again<C: Clock, D: Listener, O: Sink>()
     ensures again { (line : List (List ℕ)) (moments : AtSite C D O × AtSite C D O) (digests : Bool)
         (run : HasServedClients (record { clock = C.state; door = D.state; out = O.state }) D.Line.state line serve.Ended moments) →
         IsPlayout (playout_of (program_of run.setup) digests) →
+        All (NamesShortClips (media_names run.setup.media)) run.served.serves.history →
         (played : List PlayedLine) → lines_played played ≡ script_of (history_text (media_names run.setup.media) run.served.serves.history) →
         HasMemory (playout_of (program_of run.setup) digests) played →
         script_events (playout_of (program_of run.setup) digests) played ≡ run.served.serves.history }
     ensures output { (line : List (List ℕ)) (moments : AtSite C D O × AtSite C D O) (digests : Bool)
         (run : HasServedClients (record { clock = C.state; door = D.state; out = O.state }) D.Line.state line serve.Ended moments) →
         IsPlayout (playout_of (program_of run.setup) digests) →
+        All (NamesShortClips (media_names run.setup.media)) run.served.serves.history →
         (played : List PlayedLine) → lines_played played ≡ script_of (history_text (media_names run.setup.media) run.served.serves.history) →
         HasMemory (playout_of (program_of run.setup) digests) played →
         script_output (playout_of (program_of run.setup) digests) played ≡ history_output (playout_of (program_of run.setup) digests) run.served.serves.history }

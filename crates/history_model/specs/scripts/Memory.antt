@@ -25,7 +25,7 @@ abbrev pub IsNoneOrOfMemory : Option Reply → Type 0
 IsNoneOrOfMemory None = Unit {0}
 IsNoneOrOfMemory (Some answer) = IsOfMemory answer
 
--- the reply to a line after those before it, where there is one
+-- the reply to a line after those before it, if there is one
 abbrev pub reply_at : Playout → List PlayedLine → PlayedLine → ScriptLine → Option Reply
 reply_at playout before line Comment = None
 reply_at playout before line (Ticks count) = None
@@ -34,7 +34,7 @@ reply_at playout before line (Said tag text) =
 reply_at playout before line Stop = None
 reply_at playout before line Rejected = None
 
--- what holds of the lines after one, where the run goes on
+-- what holds of the lines after one, if the run goes on
 abbrev pub UnlessEnded : Bool → Type 0 → Type 0
 UnlessEnded true Later = Unit {0}
 UnlessEnded false Later = Later

@@ -61,7 +61,7 @@ abbrev pub settled_act : ℕ → SettingView → Act
 settled_act ticks setting = act_after ticks (Set (record setting { deferred = false }))
 
 -- the acts that follow a deferred setting, in their order, with the setting behind the first commit of its channel, and as of
--- that commit: it is left out where none is among them
+-- that commit: it is left out if none is among them
 abbrev pub with_settled : SettingView → List Act → List Act
 with_settled setting [] = []
 with_settled setting (act ∷ later) =

@@ -9,7 +9,7 @@ pub returns-clause-tags : goal.returns-clause-tags
 returns-clause-tags c = text_named
 
 pub returns-clause-replayable : goal.returns-clause-replayable
-returns-clause-replayable c = λ playout played known named. script_replayable playout known played named
+returns-clause-replayable c = λ playout played known named short. script_replayable playout known played named short
 
 pub returns-clause-again : goal.returns-clause-again
-returns-clause-again c = λ playout text played known same. script_replayed playout known text played same
+returns-clause-again c = λ playout text played known same short. script_replayed playout known text played same short

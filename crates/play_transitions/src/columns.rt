@@ -47,7 +47,7 @@ pub fn pick(kind: Kind, leftward: bool, j: u32, d: u32, width: u16, x: u16) -> C
 }
 
 /// Returns how many columns of `width` the new picture has taken at step `j` of `d`.
-fn taken(j: u32, d: u32, width: u16) -> u16
+pub(crate) fn taken(j: u32, d: u32, width: u16) -> u16
     requires { j < d }
     ensures value { result ≡ taken j d width }
     ensures range { result ≤ width }

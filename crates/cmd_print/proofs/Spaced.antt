@@ -1,22 +1,20 @@
--- Words that are sent one after another, each after a space.
+-- Words that are added one after another, each after a space.
 use Rattle.std.proofs.Common.{◌≡◌, ℕ, List, [], ◌∷◌, ◌++◌, map, ℤ, to_z, of_z, w64, sym, ap, ◌∙◌, append_assoc, append-nil, subst, arith}
 use Rattle.std.specs.List.{flat_map}
-use Rattle.std.specs.Str.{IsUtf8, chars}
 use Rattle.std.proofs.lemmas.Int.{ints}
 use Rattle.std.proofs.lemmas.List.Folds.{flat_map-map}
-use Rattle.amcp_text.specs.Escapes.{escaped}
 use Rattle.amcp_text.specs.Micros.{printed_micro}
-use Rattle.amcp_text.proofs.Escapes.{quoted-bytes}
 use Rattle.play_types.specs.Setting.{IsWide}
 use Rattle.std.specs.Prelude.{decimal, codes}
 use Rattle.std.proofs.lemmas.Grind.{flat_map-append}
 use Rattle.play_types.specs.Place.{PlaceView}
-use Rattle.play_outside.specs.SinkState.{SinkState, after_taking}
-use Rattle.play_outside.specs.Sink.{Fails, Sends}
+use Rattle.play_outside.specs.SinkState.{SinkState}
+use Rattle.play_outside.specs.Gathered.{Gathered, Adds}
 use Rattle.play_outside.specs.declared.sink.Sent.{Sent}
-use Rattle.play_outside.proofs.Sending.{Fails-before}
-use Rattle.play_outside.proofs.Taking.{after_taking-nil}
-use Rattle.history_model.specs.text.Commands.{Word, Plain, Quoted, micro_word, place_text, place_word}
+use Rattle.play_outside.specs.declared.sink.Sent.TheVariants as sent
+use Rattle.play_outside.proofs.Gathering.{Gathered-none}
+use Rattle.play_outside.proofs.Following.{added-then, added-left}
+use Rattle.history_model.specs.text.Commands.{Word, Plain, micro_word, place_text, place_word}
 use Rattle.cmd_print.specs.inner.Bytes.{word_bytes, spaced}
 
 pub spaced-append : (xs ys : List Word) → spaced (xs ++ ys) ≡ spaced xs ++ spaced ys
@@ -27,10 +25,6 @@ spaced-append xs ys = flat_map-append (λ word. 32 ∷ word_bytes word) xs ys
 pub spaced_one : (word : Word) → spaced (word ∷ []) ≡ 32 ∷ word_bytes word
 unfolding spaced
 spaced_one word = append-nil (32 ∷ word_bytes word)
-
--- a name in quotation marks
-pub spaced-quoted : (name : List ℕ) → IsUtf8 name → spaced (Quoted (chars name) ∷ []) ≡ ((32 ∷ 34 ∷ []) ++ flat_map escaped name) ++ 34 ∷ []
-spaced-quoted name utf8 = spaced_one (Quoted (chars name)) ∙ ap (λ (text : List ℕ). 32 ∷ text) (quoted-bytes name utf8)
 
 -- a channel, a dash and a layer
 pub place-parts : (place : PlaceView)
@@ -48,23 +42,33 @@ pub place-route : (place : PlaceView)
 unfolding spaced
 place-route place = simp (append_assoc, append-nil)
 
--- nothing is sent for no words
-pub nothing_sent : (state : SinkState) → state ≡ after_taking state (spaced [])
+-- nothing is added for no words
+pub nothing_added : (text : List ℕ) (state : SinkState) → Adds sent.All (text ++ spaced []) text state state
 unfolding spaced
-nothing_sent state = sym (after_taking-nil state)
+nothing_added text state = rw append-nil (Gathered-none text state)
 
--- the sink failed in the first of two parts
-pub first_failed : (whole a b : List ℕ) (first after : SinkState) → whole ≡ a ++ b → Fails a first after → Fails whole first after
-first_failed whole a b first after parts fails = subst (λ text. Fails text first after) (sym parts) (Fails-before a b first after fails)
+-- the first words were added, and then the others
+pub words-then : (xs ys : List Word) (result : Sent) (start waiting more : List ℕ) (first state after : SinkState)
+    → Gathered (start ++ spaced xs) waiting first state → Adds result (waiting ++ spaced ys) more state after
+    → Adds result (start ++ spaced (xs ++ ys)) more first after
+words-then xs ys result start waiting more first state after so_far step =
+    rw (spaced-append xs ys) (added-then result start (spaced xs) (spaced ys) waiting more first state after so_far step)
+
+-- a write failed as the first words were added, and so the words were left
+pub words-left : (xs ys : List Word) (one left : Sent) (start more : List ℕ) (first after : SinkState)
+    → Adds one (start ++ spaced xs) more first after → one ≡ sent.Failed → left ≡ sent.Failed
+    → Adds left (start ++ spaced (xs ++ ys)) more first after
+words-left xs ys one left start more first after step failed leaves =
+    rw (spaced-append xs ys) (added-left one left start (spaced xs) (spaced ys) more first after step failed leaves)
 
 -- numbers in range are kept as they are
 pub wide_kept : (value : ℤ) → IsWide value → to_z w64 (of_z w64 value) ≡ value
 wide_kept value wide = omega (arith, ints)
 
--- numbers that were sent, each after a space
-pub numbers_sent : (result : Sent) (values sent : List ℤ) (first after : SinkState) → values ≡ sent
-    → Sends result (flat_map (λ value. 32 ∷ printed_micro value) sent) first after → Sends result (spaced (map micro_word values)) first after
+-- numbers that were added, each after a space
+pub numbers_added : (values added : List ℤ) (result : Sent) (start more : List ℕ) (first after : SinkState) → values ≡ added
+    → Adds result (start ++ flat_map (λ value. 32 ∷ printed_micro value) added) more first after → Adds result (start ++ spaced (map micro_word values)) more first after
 unfolding spaced
-numbers_sent result values sent first after same sends =
-    subst (λ text. Sends result text first after)
-    (sym (flat_map-map (λ word. 32 ∷ word_bytes word) micro_word values ∙ ap (flat_map (λ value. 32 ∷ printed_micro value)) same)) sends
+numbers_added values added result start more first after same adds =
+    subst (λ text. Adds result (start ++ text) more first after)
+    (sym (flat_map-map (λ word. 32 ∷ word_bytes word) micro_word values ∙ ap (flat_map (λ value. 32 ∷ printed_micro value)) same)) adds

@@ -6,15 +6,13 @@ use Rattle.play_types.specs.Media.{MediaNameView}
 use Rattle.play_types.specs.declared.event.Event.TheVariants.{Do, Batch, Tick, Stop}
 use Rattle.play_types.specs.declared.event.Tag.{Tag}
 use Rattle.play_types.specs.declared.command.Cmd.{Cmd}
-use Rattle.play_outside.specs.SinkState.{SinkState, after_taking}
-use Rattle.play_outside.specs.Sink.{Sends, Fails}
+use Rattle.play_outside.specs.SinkState.{SinkState}
+use Rattle.play_outside.specs.Gathered.{Gathered, Adds}
 use Rattle.play_outside.specs.declared.sink.Sent.{Sent}
 use Rattle.play_outside.specs.declared.sink.Sent.TheVariants as sent
-use Rattle.play_outside.proofs.Sending.{Sends-last}
-use Rattle.play_outside.proofs.Parts.{Fails-at, taken_at}
+use Rattle.play_outside.proofs.Gathering.{Adds-first, Adds-turn, Adds-end, Gathered-turn}
 use Rattle.history_model.specs.declared.limits.TheConstants.{MAX_TICKS_PER_LINE}
 use Rattle.history_model.specs.text.History.{batch_lines, command_line, stop_line, tick_line, tick_lines, text_after, history_text}
-use Rattle.cmd_print.proofs.Spaced.{first_failed}
 
 -- the numbers of ticks of the full lines
 abbrev pub full_lines : ℕ → List ℕ
@@ -28,29 +26,32 @@ tick_lines-parts (suc before) some =
     let e : suc before - 1 ≡ before = omega arith in
     rw e refl
 
-module _ (times at : ℕ) (first state after : SinkState) (written : state ≡ after_taking first (flat_map tick_line (take at (full_lines times)))) where
+module _ (times at : ℕ) (start waiting more : List ℕ) (first state after : SinkState)
+    (added : Gathered (start ++ flat_map tick_line (take at (full_lines times))) waiting first state) where
   inside : at < (times - 1) / MAX_TICKS_PER_LINE → at < length (full_lines times)
   inside below = omega (arith, below, length-replicate {A = ℕ} ((times - 1) / MAX_TICKS_PER_LINE) MAX_TICKS_PER_LINE)
 
-  pub ticks_failed : 1 ≤ times → at < (times - 1) / MAX_TICKS_PER_LINE → Fails (tick_line MAX_TICKS_PER_LINE) state after → Fails (tick_lines times) first after
-  ticks_failed some below fails =
-      first_failed (tick_lines times) (flat_map tick_line (full_lines times)) (tick_line ((times - 1) % MAX_TICKS_PER_LINE + 1)) first after (tick_lines-parts times some)
-      (Fails-at tick_line (full_lines times) at 0 first state after (inside below) written
-      (subst (λ n. Fails (tick_line n) state after) (sym (get_or-replicate ((times - 1) / MAX_TICKS_PER_LINE) at MAX_TICKS_PER_LINE 0 below)) fails))
+  pub ticks_left : 1 ≤ times → at < (times - 1) / MAX_TICKS_PER_LINE → Adds sent.Failed (waiting ++ tick_line MAX_TICKS_PER_LINE) more state after
+      → Adds sent.Failed (start ++ tick_lines times) more first after
+  ticks_left some below fails =
+      rw (tick_lines-parts times some)
+      (Adds-first start (flat_map tick_line (full_lines times)) (tick_line ((times - 1) % MAX_TICKS_PER_LINE + 1)) more first after
+      (Adds-turn start tick_line (full_lines times) at 0 waiting more first state after (inside below) added
+      (subst (λ n. Adds sent.Failed (waiting ++ tick_line n) more state after) (sym (get_or-replicate ((times - 1) / MAX_TICKS_PER_LINE) at MAX_TICKS_PER_LINE 0 below)) fails)))
 
-  pub ticks_more : at < (times - 1) / MAX_TICKS_PER_LINE → Sends sent.All (tick_line MAX_TICKS_PER_LINE) state after
-      → after ≡ after_taking first (flat_map tick_line (take (at + 1) (full_lines times)))
+  pub ticks_more : at < (times - 1) / MAX_TICKS_PER_LINE → Gathered (waiting ++ tick_line MAX_TICKS_PER_LINE) more state after
+      → Gathered (start ++ flat_map tick_line (take (at + 1) (full_lines times))) more first after
   ticks_more below all =
-      taken_at tick_line (full_lines times) at 0 first state after (inside below) written
-      (subst (λ n. Sends sent.All (tick_line n) state after) (sym (get_or-replicate ((times - 1) / MAX_TICKS_PER_LINE) at MAX_TICKS_PER_LINE 0 below)) all)
+      Gathered-turn start tick_line (full_lines times) at 0 waiting more first state after (inside below) added
+      (subst (λ n. Gathered (waiting ++ tick_line n) more state after) (sym (get_or-replicate ((times - 1) / MAX_TICKS_PER_LINE) at MAX_TICKS_PER_LINE 0 below)) all)
 
   pub ticks_last : (result : Sent) → 1 ≤ times → (times - 1) / MAX_TICKS_PER_LINE ≤ at
-      → Sends result (tick_line ((times - 1) % MAX_TICKS_PER_LINE + 1)) state after → Sends result (tick_lines times) first after
+      → Adds result (waiting ++ tick_line ((times - 1) % MAX_TICKS_PER_LINE + 1)) more state after → Adds result (start ++ tick_lines times) more first after
   ticks_last result some end last =
       let all : take at (full_lines times) ≡ full_lines times =
       take_all at (full_lines times) (omega (arith, end, length-replicate {A = ℕ} ((times - 1) / MAX_TICKS_PER_LINE) MAX_TICKS_PER_LINE)) in
-      Sends-last result (tick_lines times) (flat_map tick_line (full_lines times)) (tick_line ((times - 1) % MAX_TICKS_PER_LINE + 1)) first state after
-      (tick_lines-parts times some) (written ∙ ap (λ lines. after_taking first (flat_map tick_line lines)) all) last
+      Adds-end result start (tick_lines times) (flat_map tick_line (full_lines times)) (tick_line ((times - 1) % MAX_TICKS_PER_LINE + 1)) waiting more first state after
+      (tick_lines-parts times some) (rw all at added) last
 
 -- ticks in a row, after others
 text_of_ticks : (media : List MediaNameView) (before times : ℕ) → text_after media before (replicate times Tick) ≡ tick_lines (before + times)

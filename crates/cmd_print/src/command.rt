@@ -1,138 +1,133 @@
 //! Commands of the stage.
-ghost use Rattle.std.specs.Prelude.{encode_utf8_all, codes, ◌∷◌, []};
+ghost use Rattle.std.specs.Prelude.{encode_utf8_all, codes, ◌∷◌, ◌++◌, []};
 ghost use Rattle.play_outside.specs.Sink.{Sends};
+ghost use Rattle.play_outside.specs.Gathered.{Adds};
 ghost use Rattle.history_model.specs.text.Commands.{Plain, arguments, command_text, flag_words, number_word, place_word, setting_words, take_words};
 ghost use Rattle.cmd_print.specs.inner.Bytes.{spaced};
 
-use crate::setting::print_setting;
-use crate::take::print_take;
-use crate::word::{print_channel, print_flag, print_place, print_word};
-use play_outside::{Sent, Sink, send};
+use crate::setting::add_setting;
+use crate::take::add_take;
+use crate::text::Text;
+use crate::word::{add_flag, add_number, add_place, add_word};
+use play_outside::{Sent, Sink};
 use play_types::{Cmd, MediaNames, Place, Setting, Take};
 
-/// Writes the text of a command: its name and its words, with one space between them. It takes no memory.
+/// Writes the text of a command: its name and its words, with one space between them. It takes no memory, and a text of at
+/// most 4,096 bytes is one write.
 ///
-/// A clip is named as in `media`, and has no name where `media` does not have its number. A line of this text asks for the
-/// command where the configuration and `media` are those by which the command was read. The result is `Failed` only where
+/// A clip is named as in `media`, and has no name if `media` does not have its number. A line of this text asks for the
+/// command if the configuration and `media` are those by which the command was read. The result is `Failed` only if
 /// `to` failed, and then a prefix of the text was written.
 pub fn print<K: Sink>(cmd: &Cmd, media: &MediaNames, to: &mut K) -> Sent
     ensures { Sends result (encode_utf8_all (command_text media.now cmd.now)) (K.state to.old) (K.state to.new) }
 {
-    match send(cmd.name().as_str().as_bytes(), to) {
-        Sent::All => print_arguments(cmd, media, to),
-        Sent::Failed => Sent::Failed,
-    }
+    let mut text = Text::new();
+    add_command(cmd, media, &mut text, to)?;
+    text.finish(to)
 }
 
-/// Writes the words after the name of a command.
-fn print_arguments<K: Sink>(cmd: &Cmd, media: &MediaNames, to: &mut K) -> Sent
-    ensures { Sends result (spaced (arguments media.now cmd.now)) (K.state to.old) (K.state to.new) }
+/// Adds the text of a command.
+pub(crate) fn add_command<K: Sink>(
+    cmd: &Cmd,
+    media: &MediaNames,
+    text: &mut Text,
+    to: &mut K,
+) -> Sent
+    ensures { Adds result (text.old ++ encode_utf8_all (command_text media.now cmd.now)) text.new (K.state to.old) (K.state to.new) }
+{
+    text.add(cmd.name().as_str().as_bytes(), to)?;
+    add_arguments(cmd, media, text, to)
+}
+
+/// Adds the words after the name of a command.
+fn add_arguments<K: Sink>(cmd: &Cmd, media: &MediaNames, text: &mut Text, to: &mut K) -> Sent
+    ensures { Adds result (text.old ++ spaced (arguments media.now cmd.now)) text.new (K.state to.old) (K.state to.new) }
 {
     match cmd {
         Cmd::Load(place, take) | Cmd::LoadBg(place, take) | Cmd::PlayTake(place, take) => {
-            print_place_and_take(*place, *take, media, to)
+            add_place_and_take(*place, *take, media, text, to)
         }
         Cmd::Play(place)
         | Cmd::Pause(place)
         | Cmd::Resume(place)
         | Cmd::StopLayer(place)
-        | Cmd::ClearLayer(place) => print_place(*place, to),
-        Cmd::ClearChannel(channel) => print_channel(*channel, to),
-        Cmd::SwapLayers(one, other, transforms) => print_layers(*one, *other, *transforms, to),
-        Cmd::SwapChannels(one, other, transforms) => print_channels(*one, *other, *transforms, to),
-        Cmd::Set(setting) => print_place_and_setting(*setting, to),
-        Cmd::CommitMixer(channel) => print_of_channel(*channel, "COMMIT", to),
-        Cmd::ResetLayer(place) => print_of_place(*place, "CLEAR", to),
-        Cmd::ResetChannel(channel) => print_of_channel(*channel, "CLEAR", to),
-        Cmd::Value(place, prop) => print_of_place(*place, prop.as_str(), to),
+        | Cmd::ClearLayer(place) => add_place(*place, text, to),
+        Cmd::ClearChannel(channel) => add_number(u32::from(*channel), text, to),
+        Cmd::SwapLayers(one, other, transforms) => add_layers(*one, *other, *transforms, text, to),
+        Cmd::SwapChannels(one, other, transforms) => {
+            add_channels(*one, *other, *transforms, text, to)
+        }
+        Cmd::Set(setting) => add_place_and_setting(*setting, text, to),
+        Cmd::CommitMixer(channel) => add_channel_and_word(*channel, "COMMIT", text, to),
+        Cmd::ResetLayer(place) => add_place_and_word(*place, "CLEAR", text, to),
+        Cmd::ResetChannel(channel) => add_channel_and_word(*channel, "CLEAR", text, to),
+        Cmd::Value(place, prop) => add_place_and_word(*place, prop.as_str(), text, to),
         Cmd::Info => Sent::All,
     }
 }
 
-/// Writes a place and the take that is played there.
-fn print_place_and_take<K: Sink>(place: Place, take: Take, media: &MediaNames, to: &mut K) -> Sent
-    ensures { Sends result (spaced (place_word place ∷ take_words media.now take)) (K.state to.old) (K.state to.new) }
+/// Adds a place and the take that is played there.
+fn add_place_and_take<K: Sink>(
+    place: Place,
+    take: Take,
+    media: &MediaNames,
+    text: &mut Text,
+    to: &mut K,
+) -> Sent
+    ensures { Adds result (text.old ++ spaced (place_word place ∷ take_words media.now take)) text.new (K.state to.old) (K.state to.new) }
 {
-    match print_place(place, to) {
-        Sent::All => print_take(take, media, to),
-        Sent::Failed => Sent::Failed,
-    }
+    add_place(place, text, to)?;
+    add_take(take, media, text, to)
 }
 
-/// Writes the place of a setting and what the setting says.
-fn print_place_and_setting<K: Sink>(setting: Setting, to: &mut K) -> Sent
-    ensures { Sends result (spaced (place_word setting.place ∷ setting_words setting)) (K.state to.old) (K.state to.new) }
+/// Adds the place of a setting and what the setting says.
+fn add_place_and_setting<K: Sink>(setting: Setting, text: &mut Text, to: &mut K) -> Sent
+    ensures { Adds result (text.old ++ spaced (place_word setting.place ∷ setting_words setting)) text.new (K.state to.old) (K.state to.new) }
 {
-    match print_place(setting.place(), to) {
-        Sent::All => print_setting(setting, to),
-        Sent::Failed => Sent::Failed,
-    }
+    add_place(setting.place(), text, to)?;
+    add_setting(setting, text, to)
 }
 
-/// Writes two places, and whether their mixer values are exchanged too.
-fn print_layers<K: Sink>(one: Place, other: Place, transforms: bool, to: &mut K) -> Sent
-    ensures { Sends result
-        (spaced (place_word one ∷ place_word other ∷ flag_words transforms (codes "TRANSFORMS")))
-        (K.state to.old) (K.state to.new) }
+/// Adds two places, and whether their mixer values are exchanged too.
+fn add_layers<K: Sink>(
+    one: Place,
+    other: Place,
+    transforms: bool,
+    text: &mut Text,
+    to: &mut K,
+) -> Sent
+    ensures { Adds result
+        (text.old ++ spaced (place_word one ∷ place_word other ∷ flag_words transforms (codes "TRANSFORMS")))
+        text.new (K.state to.old) (K.state to.new) }
 {
-    match print_place(one, to) {
-        Sent::All => print_other_layer(other, transforms, to),
-        Sent::Failed => Sent::Failed,
-    }
+    add_place(one, text, to)?;
+    add_place(other, text, to)?;
+    add_flag(transforms, "TRANSFORMS", text, to)
 }
 
-/// Writes the second place of an exchange, and whether mixer values are exchanged too.
-fn print_other_layer<K: Sink>(other: Place, transforms: bool, to: &mut K) -> Sent
-    ensures { Sends result
-        (spaced (place_word other ∷ flag_words transforms (codes "TRANSFORMS")))
-        (K.state to.old) (K.state to.new) }
+/// Adds two channels, and whether their mixer values are exchanged too.
+fn add_channels<K: Sink>(one: u8, other: u8, transforms: bool, text: &mut Text, to: &mut K) -> Sent
+    ensures { Adds result
+        (text.old ++ spaced (number_word one ∷ number_word other ∷ flag_words transforms (codes "TRANSFORMS")))
+        text.new (K.state to.old) (K.state to.new) }
 {
-    match print_place(other, to) {
-        Sent::All => print_flag(transforms, "TRANSFORMS", to),
-        Sent::Failed => Sent::Failed,
-    }
+    add_number(u32::from(one), text, to)?;
+    add_number(u32::from(other), text, to)?;
+    add_flag(transforms, "TRANSFORMS", text, to)
 }
 
-/// Writes two channels, and whether their mixer values are exchanged too.
-fn print_channels<K: Sink>(one: u8, other: u8, transforms: bool, to: &mut K) -> Sent
-    ensures { Sends result
-        (spaced (number_word one ∷ number_word other ∷ flag_words transforms (codes "TRANSFORMS")))
-        (K.state to.old) (K.state to.new) }
+/// Adds a place and a word.
+fn add_place_and_word<K: Sink>(place: Place, word: &str, text: &mut Text, to: &mut K) -> Sent
+    ensures { Adds result (text.old ++ spaced (place_word place ∷ Plain word.now ∷ [])) text.new (K.state to.old) (K.state to.new) }
 {
-    match print_channel(one, to) {
-        Sent::All => print_other_channel(other, transforms, to),
-        Sent::Failed => Sent::Failed,
-    }
+    add_place(place, text, to)?;
+    add_word(word, text, to)
 }
 
-/// Writes the second channel of an exchange, and whether mixer values are exchanged too.
-fn print_other_channel<K: Sink>(other: u8, transforms: bool, to: &mut K) -> Sent
-    ensures { Sends result
-        (spaced (number_word other ∷ flag_words transforms (codes "TRANSFORMS")))
-        (K.state to.old) (K.state to.new) }
+/// Adds a channel and a word.
+fn add_channel_and_word<K: Sink>(channel: u8, word: &str, text: &mut Text, to: &mut K) -> Sent
+    ensures { Adds result (text.old ++ spaced (number_word channel ∷ Plain word.now ∷ [])) text.new (K.state to.old) (K.state to.new) }
 {
-    match print_channel(other, to) {
-        Sent::All => print_flag(transforms, "TRANSFORMS", to),
-        Sent::Failed => Sent::Failed,
-    }
-}
-
-/// Writes a place and a word.
-fn print_of_place<K: Sink>(place: Place, word: &str, to: &mut K) -> Sent
-    ensures { Sends result (spaced (place_word place ∷ Plain word.now ∷ [])) (K.state to.old) (K.state to.new) }
-{
-    match print_place(place, to) {
-        Sent::All => print_word(word, to),
-        Sent::Failed => Sent::Failed,
-    }
-}
-
-/// Writes a channel and a word.
-fn print_of_channel<K: Sink>(channel: u8, word: &str, to: &mut K) -> Sent
-    ensures { Sends result (spaced (number_word channel ∷ Plain word.now ∷ [])) (K.state to.old) (K.state to.new) }
-{
-    match print_channel(channel, to) {
-        Sent::All => print_word(word, to),
-        Sent::Failed => Sent::Failed,
-    }
+    add_number(u32::from(channel), text, to)?;
+    add_word(word, text, to)
 }

@@ -3,96 +3,67 @@ ghost use Rattle.std.specs.Prelude.{◌≡◌, ◌∷◌, [], ◌++◌, All, map
 ghost use Rattle.std.specs.List.{flat_map};
 ghost use Rattle.amcp_text.specs.Micros.{printed_micro};
 ghost use Rattle.play_types.specs.Setting.{IsWide};
-ghost use Rattle.play_outside.specs.Sink.{Sends};
+ghost use Rattle.play_outside.specs.Gathered.{Adds};
 ghost use Rattle.history_model.specs.stage.Answer.{number_count};
 ghost use Rattle.history_model.specs.text.Commands.{Plain, curve_text, flag_words, micro_word, number_word, setting_words, timing_words};
 ghost use Rattle.cmd_print.specs.inner.Bytes.{spaced};
 
-use crate::word::{print_flag, print_number, print_word};
+use crate::text::Text;
+use crate::word::{add_flag, add_number, add_word};
 use fixed_params::MicroText;
-use play_outside::{Sent, Sink, send_parts};
+use play_outside::{Sent, Sink};
 use play_types::{Curve, Prop, Setting};
 
-/// Writes what a setting says after its place: its property, its numbers, its timing, and whether it waits.
-pub(crate) fn print_setting<K: Sink>(setting: Setting, to: &mut K) -> Sent
-    ensures { Sends result (spaced (setting_words setting)) (K.state to.old) (K.state to.new) }
+/// Adds what a setting says after its place: its property, its numbers, its timing, and whether it waits.
+pub(crate) fn add_setting<K: Sink>(setting: Setting, text: &mut Text, to: &mut K) -> Sent
+    ensures { Adds result (text.old ++ spaced (setting_words setting)) text.new (K.state to.old) (K.state to.new) }
 {
-    match print_word(setting.prop().as_str(), to) {
-        Sent::All => print_numbers_and_timing(setting, to),
-        Sent::Failed => Sent::Failed,
-    }
+    add_word(setting.prop().as_str(), text, to)?;
+    add_numbers(setting, text, to)?;
+    add_timing(setting, text, to)?;
+    add_flag(setting.deferred(), "DEFER", text, to)
 }
 
-/// Writes the numbers of a setting, its timing, and whether it waits.
-fn print_numbers_and_timing<K: Sink>(setting: Setting, to: &mut K) -> Sent
-    ensures { Sends result
-        (spaced (map micro_word (take (number_count setting.prop) setting.values)
-        ++ (timing_words setting.prop setting ++ flag_words setting.deferred (codes "DEFER"))))
-        (K.state to.old) (K.state to.new) }
-{
-    match print_numbers(setting, to) {
-        Sent::All => print_timing_and_flag(setting, to),
-        Sent::Failed => Sent::Failed,
-    }
-}
-
-/// Writes the timing of a setting, and whether it waits.
-fn print_timing_and_flag<K: Sink>(setting: Setting, to: &mut K) -> Sent
-    ensures { Sends result
-        (spaced (timing_words setting.prop setting ++ flag_words setting.deferred (codes "DEFER")))
-        (K.state to.old) (K.state to.new) }
-{
-    match print_timing(setting, to) {
-        Sent::All => print_flag(setting.deferred(), "DEFER", to),
-        Sent::Failed => Sent::Failed,
-    }
-}
-
-/// Writes the numbers that the property of a setting has.
-fn print_numbers<K: Sink>(setting: Setting, to: &mut K) -> Sent
-    ensures { Sends result (spaced (map micro_word (take (number_count setting.prop) setting.values))) (K.state to.old) (K.state to.new) }
+/// Adds the numbers that the property of a setting has.
+fn add_numbers<K: Sink>(setting: Setting, text: &mut Text, to: &mut K) -> Sent
+    ensures { Adds result (text.old ++ spaced (map micro_word (take (number_count setting.prop) setting.values))) text.new (K.state to.old) (K.state to.new) }
 {
     let values = setting.values();
     match setting.prop() {
-        Prop::Opacity | Prop::Volume | Prop::Keyer => print_micros(&values[..1], to),
-        Prop::Fill | Prop::Clip => print_micros(&values, to),
+        Prop::Opacity | Prop::Volume | Prop::Keyer => add_micros(&values[..1], text, to),
+        Prop::Fill | Prop::Clip => add_micros(&values, text, to),
     }
 }
 
-/// Writes numbers in millionths.
-fn print_micros<K: Sink>(values: &[i64], to: &mut K) -> Sent
+/// Adds numbers in millionths.
+fn add_micros<K: Sink>(values: &[i64], text: &mut Text, to: &mut K) -> Sent
     requires { All IsWide values.now }
-    ensures { Sends result (flat_map (λ value. 32 ∷ printed_micro value) values.now) (K.state to.old) (K.state to.new) }
+    ensures { Adds result (text.old ++ flat_map (λ value. 32 ∷ printed_micro value) values.now) text.new (K.state to.old) (K.state to.new) }
 {
     for value in values {
-        match send_parts(&[b" ", MicroText::of(*value).as_bytes()], to) {
-            Sent::All => {}
-            Sent::Failed => return Sent::Failed,
-        }
+        text.add_parts(&[b" ", MicroText::of(*value).as_bytes()], to)?;
     }
     Sent::All
 }
 
-/// Writes the duration and the curve of a setting, except for a keyer.
-fn print_timing<K: Sink>(setting: Setting, to: &mut K) -> Sent
-    ensures { Sends result (spaced (timing_words setting.prop setting)) (K.state to.old) (K.state to.new) }
+/// Adds the duration and the curve of a setting, except for a keyer.
+fn add_timing<K: Sink>(setting: Setting, text: &mut Text, to: &mut K) -> Sent
+    ensures { Adds result (text.old ++ spaced (timing_words setting.prop setting)) text.new (K.state to.old) (K.state to.new) }
 {
     match setting.prop() {
         Prop::Opacity | Prop::Fill | Prop::Clip | Prop::Volume => {
-            print_tween(setting.duration(), setting.curve(), to)
+            add_tween(setting.duration(), setting.curve(), text, to)
         }
         Prop::Keyer => Sent::All,
     }
 }
 
-/// Writes a duration in ticks and a curve.
-fn print_tween<K: Sink>(duration: u32, curve: Curve, to: &mut K) -> Sent
-    ensures { Sends result (spaced (number_word duration ∷ Plain (curve_text curve) ∷ [])) (K.state to.old) (K.state to.new) }
+/// Adds a duration in ticks and a curve.
+fn add_tween<K: Sink>(duration: u32, curve: Curve, text: &mut Text, to: &mut K) -> Sent
+    ensures { Adds result (text.old ++ spaced (number_word duration ∷ Plain (curve_text curve) ∷ [])) text.new (K.state to.old) (K.state to.new) }
 {
-    match print_number(duration, to) {
-        Sent::All => print_word(curve_name(curve), to),
-        Sent::Failed => Sent::Failed,
-    }
+    add_number(duration, text, to)?;
+    add_word(curve_name(curve), text, to)
 }
 
 /// Returns the word of a curve.

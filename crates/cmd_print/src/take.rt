@@ -1,66 +1,43 @@
 //! Takes: a producer and its options.
 ghost use Rattle.std.specs.Prelude.{◌≡◌, ◌<◌, ◌∷◌, [], ◌++◌, true, codes};
 ghost use Rattle.std.specs.Fmt.{digit_glyph};
-ghost use Rattle.play_outside.specs.Sink.{Sends};
+ghost use Rattle.play_outside.specs.Gathered.{Adds};
 ghost use Rattle.history_model.specs.text.Commands.{Plain, capital_digits, direction_text, flag_words, number_word, part_words, producer_word, take_words, timed_words, transition_words};
 ghost use Rattle.cmd_print.specs.inner.Bytes.{spaced};
 
-use crate::quote::print_quoted;
+use crate::quote::add_name;
 use crate::setting::curve_name;
-use crate::word::{print_flag, print_number, print_word};
+use crate::text::Text;
+use crate::word::add_flag;
 use itoa::Buffer;
-use play_outside::{Sent, Sink, send_parts};
+use play_outside::{Sent, Sink};
 use play_types::{Kind, MediaNames, Spec, Take, Trans};
 
-/// Writes a take: its producer, the part of a clip that is played, its transition, and whether it starts by itself.
-pub(crate) fn print_take<K: Sink>(take: Take, media: &MediaNames, to: &mut K) -> Sent
-    ensures { Sends result (spaced (take_words media.now take)) (K.state to.old) (K.state to.new) }
+/// Adds a take: its producer, the part of a clip that is played, its transition, and whether it starts by itself.
+pub(crate) fn add_take<K: Sink>(take: Take, media: &MediaNames, text: &mut Text, to: &mut K) -> Sent
+    ensures { Adds result (text.old ++ spaced (take_words media.now take)) text.new (K.state to.old) (K.state to.new) }
 {
-    match print_producer(take.spec(), media, to) {
-        Sent::All => print_options(take, to),
-        Sent::Failed => Sent::Failed,
-    }
+    add_producer(take.spec(), media, text, to)?;
+    add_part(take, text, to)?;
+    add_transition(take.trans(), text, to)?;
+    add_flag(take.auto(), "AUTO", text, to)
 }
 
-/// Writes what stands after the producer of a take.
-fn print_options<K: Sink>(take: Take, to: &mut K) -> Sent
-    ensures { Sends result
-        (spaced (part_words take.spec take ++ (transition_words take.trans.kind take.trans ++ flag_words take.auto (codes "AUTO"))))
-        (K.state to.old) (K.state to.new) }
-{
-    match print_part(take, to) {
-        Sent::All => print_start(take, to),
-        Sent::Failed => Sent::Failed,
-    }
-}
-
-/// Writes how a take starts: its transition, and whether it starts by itself.
-fn print_start<K: Sink>(take: Take, to: &mut K) -> Sent
-    ensures { Sends result
-        (spaced (transition_words take.trans.kind take.trans ++ flag_words take.auto (codes "AUTO")))
-        (K.state to.old) (K.state to.new) }
-{
-    match print_transition(take.trans(), to) {
-        Sent::All => print_flag(take.auto(), "AUTO", to),
-        Sent::Failed => Sent::Failed,
-    }
-}
-
-/// Writes a producer.
-fn print_producer<K: Sink>(spec: Spec, media: &MediaNames, to: &mut K) -> Sent
-    ensures { Sends result (spaced (producer_word media.now spec ∷ [])) (K.state to.old) (K.state to.new) }
+/// Adds a producer.
+fn add_producer<K: Sink>(spec: Spec, media: &MediaNames, text: &mut Text, to: &mut K) -> Sent
+    ensures { Adds result (text.old ++ spaced (producer_word media.now spec ∷ [])) text.new (K.state to.old) (K.state to.new) }
 {
     match spec {
         Spec::Clip(id) => match media.get(id as usize) {
-            Some(clip) => print_quoted(clip.name().as_str(), to),
-            None => print_quoted("", to),
+            Some(clip) => add_name(clip.name().as_str(), text, to),
+            None => add_name("", text, to),
         },
-        Spec::Colour(value) => send_parts(&[b" #", &capital_digits(value)], to),
-        Spec::RouteChannel(channel) => send_parts(
+        Spec::Colour(value) => text.add_parts(&[b" #", &capital_digits(value)], to),
+        Spec::RouteChannel(channel) => text.add_parts(
             &[b" route://", Buffer::new().format(channel).as_bytes()],
             to,
         ),
-        Spec::RouteLayer(place) => send_parts(
+        Spec::RouteLayer(place) => text.add_parts(
             &[
                 b" route://",
                 Buffer::new().format(place.channel()).as_bytes(),
@@ -100,36 +77,25 @@ fn capital_digit(number: u32) -> u8
     }
 }
 
-/// Writes which frames of a clip are played, and whether again and again. Another producer has no frames.
-fn print_part<K: Sink>(take: Take, to: &mut K) -> Sent
-    ensures { Sends result (spaced (part_words take.spec take)) (K.state to.old) (K.state to.new) }
+/// Adds which frames of a clip are played, and whether again and again. Another producer has no frames.
+fn add_part<K: Sink>(take: Take, text: &mut Text, to: &mut K) -> Sent
+    ensures { Adds result (text.old ++ spaced (part_words take.spec take)) text.new (K.state to.old) (K.state to.new) }
 {
     match take.spec() {
-        Spec::Clip(_) => print_clip_part(take.looped(), take.seek(), take.length(), to),
+        Spec::Clip(_) => add_clip_part(take.looped(), take.seek(), take.length(), text, to),
         Spec::Colour(_) | Spec::RouteChannel(_) | Spec::RouteLayer(_) => Sent::All,
     }
 }
 
-/// Writes whether a clip is looped, the first frame that is played, and the number of frames.
-fn print_clip_part<K: Sink>(looped: bool, seek: u32, length: u32, to: &mut K) -> Sent
-    ensures { Sends result
-        (spaced (flag_words looped (codes "LOOP")
+/// Adds whether a clip is looped, the first frame that is played, counted from 0, and the number of frames.
+fn add_clip_part<K: Sink>(looped: bool, seek: u32, length: u32, text: &mut Text, to: &mut K) -> Sent
+    ensures { Adds result
+        (text.old ++ spaced (flag_words looped (codes "LOOP")
         ++ Plain (codes "SEEK") ∷ number_word seek ∷ Plain (codes "LENGTH") ∷ number_word length ∷ []))
-        (K.state to.old) (K.state to.new) }
+        text.new (K.state to.old) (K.state to.new) }
 {
-    match print_flag(looped, "LOOP", to) {
-        Sent::All => print_frames(seek, length, to),
-        Sent::Failed => Sent::Failed,
-    }
-}
-
-/// Writes the first frame that is played, counted from 0, and the number of frames.
-fn print_frames<K: Sink>(seek: u32, length: u32, to: &mut K) -> Sent
-    ensures { Sends result
-        (spaced (Plain (codes "SEEK") ∷ number_word seek ∷ Plain (codes "LENGTH") ∷ number_word length ∷ []))
-        (K.state to.old) (K.state to.new) }
-{
-    send_parts(
+    add_flag(looped, "LOOP", text, to)?;
+    text.add_parts(
         &[
             b" SEEK ",
             Buffer::new().format(seek).as_bytes(),
@@ -140,21 +106,21 @@ fn print_frames<K: Sink>(seek: u32, length: u32, to: &mut K) -> Sent
     )
 }
 
-/// Writes a transition, where it is no cut.
-fn print_transition<K: Sink>(trans: Trans, to: &mut K) -> Sent
-    ensures { Sends result (spaced (transition_words trans.kind trans)) (K.state to.old) (K.state to.new) }
+/// Adds a transition, unless it is a cut.
+fn add_transition<K: Sink>(trans: Trans, text: &mut Text, to: &mut K) -> Sent
+    ensures { Adds result (text.old ++ spaced (transition_words trans.kind trans)) text.new (K.state to.old) (K.state to.new) }
 {
     match trans.kind() {
         Kind::Cut => Sent::All,
-        Kind::Mix | Kind::Push | Kind::Slide | Kind::Wipe => print_timed(trans, to),
+        Kind::Mix | Kind::Push | Kind::Slide | Kind::Wipe => add_timed(trans, text, to),
     }
 }
 
-/// Writes the kind of a transition, its duration in ticks, its curve and its direction.
-fn print_timed<K: Sink>(trans: Trans, to: &mut K) -> Sent
-    ensures { Sends result (spaced (timed_words trans.kind trans)) (K.state to.old) (K.state to.new) }
+/// Adds the kind of a transition, its duration in ticks, its curve and its direction.
+fn add_timed<K: Sink>(trans: Trans, text: &mut Text, to: &mut K) -> Sent
+    ensures { Adds result (text.old ++ spaced (timed_words trans.kind trans)) text.new (K.state to.old) (K.state to.new) }
 {
-    send_parts(
+    text.add_parts(
         &[
             b" ",
             trans.kind().as_str().as_bytes(),

@@ -1,50 +1,44 @@
-//! Words of a printed command. Each is written after a space.
-ghost use Rattle.std.specs.Prelude.{◌∷◌, []};
-ghost use Rattle.play_outside.specs.Sink.{Sends};
+//! Words of a printed command. Each stands after a space.
+ghost use Rattle.std.specs.Prelude.{◌∷◌, ◌++◌, []};
+ghost use Rattle.play_outside.specs.Gathered.{Adds};
 ghost use Rattle.history_model.specs.text.Commands.{Plain, place_word, number_word, flag_words};
 ghost use Rattle.cmd_print.specs.inner.Bytes.{spaced};
 
+use crate::text::Text;
 use itoa::Buffer;
-use play_outside::{Sent, Sink, send_parts};
+use play_outside::{Sent, Sink};
 use play_types::Place;
 
-/// Writes a word as it stands.
-pub(crate) fn print_word<K: Sink>(word: &str, to: &mut K) -> Sent
-    ensures { Sends result (spaced (Plain word.now ∷ [])) (K.state to.old) (K.state to.new) }
+/// Adds a word as it stands.
+pub(crate) fn add_word<K: Sink>(word: &str, text: &mut Text, to: &mut K) -> Sent
+    ensures { Adds result (text.old ++ spaced (Plain word.now ∷ [])) text.new (K.state to.old) (K.state to.new) }
 {
-    send_parts(&[b" ", word.as_bytes()], to)
+    text.add_parts(&[b" ", word.as_bytes()], to)
 }
 
-/// Writes a word, where it is set.
-pub(crate) fn print_flag<K: Sink>(is_set: bool, word: &str, to: &mut K) -> Sent
-    ensures { Sends result (spaced (flag_words is_set word.now)) (K.state to.old) (K.state to.new) }
+/// Adds a word, if it is set.
+pub(crate) fn add_flag<K: Sink>(is_set: bool, word: &str, text: &mut Text, to: &mut K) -> Sent
+    ensures { Adds result (text.old ++ spaced (flag_words is_set word.now)) text.new (K.state to.old) (K.state to.new) }
 {
     if is_set {
-        print_word(word, to)
+        add_word(word, text, to)
     } else {
         Sent::All
     }
 }
 
-/// Writes a number in digits.
-pub(crate) fn print_number<K: Sink>(number: u32, to: &mut K) -> Sent
-    ensures { Sends result (spaced (number_word number ∷ [])) (K.state to.old) (K.state to.new) }
+/// Adds a number in digits.
+pub(crate) fn add_number<K: Sink>(number: u32, text: &mut Text, to: &mut K) -> Sent
+    ensures { Adds result (text.old ++ spaced (number_word number ∷ [])) text.new (K.state to.old) (K.state to.new) }
 {
-    send_parts(&[b" ", Buffer::new().format(number).as_bytes()], to)
+    text.add_parts(&[b" ", Buffer::new().format(number).as_bytes()], to)
 }
 
-/// Writes the number of a channel.
-pub(crate) fn print_channel<K: Sink>(channel: u8, to: &mut K) -> Sent
-    ensures { Sends result (spaced (number_word channel ∷ [])) (K.state to.old) (K.state to.new) }
+/// Adds a place: its channel, a dash and its layer.
+pub(crate) fn add_place<K: Sink>(place: Place, text: &mut Text, to: &mut K) -> Sent
+    ensures { Adds result (text.old ++ spaced (place_word place ∷ [])) text.new (K.state to.old) (K.state to.new) }
 {
-    send_parts(&[b" ", Buffer::new().format(channel).as_bytes()], to)
-}
-
-/// Writes a place: its channel, a dash and its layer.
-pub(crate) fn print_place<K: Sink>(place: Place, to: &mut K) -> Sent
-    ensures { Sends result (spaced (place_word place ∷ [])) (K.state to.old) (K.state to.new) }
-{
-    send_parts(
+    text.add_parts(
         &[
             b" ",
             Buffer::new().format(place.channel()).as_bytes(),

@@ -1,10 +1,12 @@
-//! Decimals in millionths: reading one from a text and printing one.
+//! Parameters as text: decimals in millionths, read and printed, and names in quotation marks.
 //!
-//! A value lies within -1000 to 1000. What is printed reads back to the value. Both calls take no memory.
+//! A value lies within -1000 to 1000. What is printed reads back to the value. No call takes memory.
 #![tactic(auto)]
 
 mod print;
+mod quote;
 mod read;
 
 pub use print::{MicroText, print_micro};
+pub use quote::add_quoted;
 pub use read::read_micro;

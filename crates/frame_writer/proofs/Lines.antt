@@ -1,5 +1,5 @@
 -- The lines of a frame in the parts in which they are sent.
-use Rattle.std.proofs.Common.{◌≡◌, ◌≢◌, ℕ, ◌*◌, ◌==◌, false, List, [], ◌∷◌, ◌++◌, refl, append-nil}
+use Rattle.std.proofs.Common.{◌≡◌, ◌≢◌, ℕ, ◌*◌, ◌==◌, false, List, [], ◌∷◌, ◌++◌, refl, append_assoc}
 use Rattle.std.proofs.lemmas.Bool.{ne_eqb}
 use Rattle.play_types.specs.declared.geometry.Geometry.{Geometry}
 use Rattle.hex.specs.Hex.{encode_lower}
@@ -7,29 +7,18 @@ use Rattle.history_model.specs.text.Frames.{frame_lines, head_line, row_lines, s
 
 -- the three parts of a frame
 pub frame_lines-parts : (channel tick : ℕ) (size : Geometry) (frame sound : List ℕ) → frame_lines channel tick size frame sound
-    ≡ (head_line channel tick ++ row_lines (4 * size.width) size.height frame) ++ sound_line size.pairs sound
+    ≡ head_line channel tick ++ (row_lines (4 * size.width) size.height frame ++ sound_line size.pairs sound)
 unfolding frame_lines
-frame_lines-parts channel tick size frame sound = refl
+frame_lines-parts channel tick size frame sound =
+    append_assoc (head_line channel tick) (row_lines (4 * size.width) size.height frame) (sound_line size.pairs sound)
 
-sound_line-none : (pairs : ℕ) (sound : List ℕ) → pairs ≡ 0 → sound_line pairs sound ≡ []
+-- no sound has no line
+pub sound_line-none : (pairs : ℕ) (sound : List ℕ) → pairs ≡ 0 → sound_line pairs sound ≡ []
 unfolding sound_line
 sound_line-none pairs sound none = rw none refl
 
-sound_line-some : (pairs : ℕ) (sound : List ℕ) → pairs ≢ 0 → sound_line pairs sound ≡ encode_lower sound ++ 10 ∷ []
+-- the line of some sound
+pub sound_line-some : (pairs : ℕ) (sound : List ℕ) → pairs ≢ 0 → sound_line pairs sound ≡ encode_lower sound ++ 10 ∷ []
 unfolding sound_line
 sound_line-some pairs sound some =
     let test : (pairs == 0) ≡ false = ne_eqb pairs 0 some in rw test refl
-
--- a channel without sound has the head line and the rows
-pub frame_lines-silent : (channel tick : ℕ) (size : Geometry) (frame sound : List ℕ) → size.pairs ≡ 0
-    → frame_lines channel tick size frame sound ≡ head_line channel tick ++ row_lines (4 * size.width) size.height frame
-unfolding frame_lines
-frame_lines-silent channel tick size frame sound none =
-    rw (sound_line-none size.pairs sound none) (append-nil (head_line channel tick ++ row_lines (4 * size.width) size.height frame))
-
--- a channel with sound has the line of the sound after them
-pub frame_lines-sounding : (channel tick : ℕ) (size : Geometry) (frame sound : List ℕ) → size.pairs ≢ 0
-    → frame_lines channel tick size frame sound
-    ≡ (head_line channel tick ++ row_lines (4 * size.width) size.height frame) ++ (encode_lower sound ++ 10 ∷ [])
-unfolding frame_lines
-frame_lines-sounding channel tick size frame sound some = rw (sound_line-some size.pairs sound some) refl

@@ -2,7 +2,7 @@
 ghost use Rattle.std.specs.Prelude.{◌≡◌, ◌*◌, ◌++◌, length};
 ghost use Rattle.play_outside.specs.Sink.{Sends};
 ghost use Rattle.play_outside.specs.Gathered.{Adds};
-ghost use Rattle.history_model.specs.text.Frames.{frame_lines, head_line, row_lines};
+ghost use Rattle.history_model.specs.text.Frames.{frame_lines, head_line, row_lines, sound_line};
 
 use crate::line::{Text, add_line};
 use itoa::Buffer;
@@ -25,22 +25,11 @@ pub fn write_hex<K: Sink>(
     ensures { Sends result (frame_lines channel tick size frame.now sound.now) (K.state to.old) (K.state to.new) }
 {
     let mut text = Text::new();
-    match add_head(channel, tick, &mut text, to) {
-        Sent::All => {}
-        Sent::Failed => return Sent::Failed,
-    }
+    add_head(channel, tick, &mut text, to)?;
     let row_length = 4 * usize::from(size.width);
-    match add_rows(row_length, size.height, frame, &mut text, to) {
-        Sent::All => {}
-        Sent::Failed => return Sent::Failed,
-    }
-    if size.pairs == 0 {
-        return text.finish(to);
-    }
-    match add_line(sound, &mut text, to) {
-        Sent::All => text.finish(to),
-        Sent::Failed => Sent::Failed,
-    }
+    add_rows(row_length, size.height, frame, &mut text, to)?;
+    add_sound(size.pairs, sound, &mut text, to)?;
+    text.finish(to)
 }
 
 /// Adds the line that names the channel and the tick.
@@ -72,10 +61,18 @@ fn add_rows<K: Sink>(
 {
     for row in 0..rows {
         let at = usize::from(row) * row_length;
-        match add_line(&frame[at..at + row_length], text, to) {
-            Sent::All => {}
-            Sent::Failed => return Sent::Failed,
-        }
+        add_line(&frame[at..at + row_length], text, to)?;
     }
     Sent::All
+}
+
+/// Adds the line of the sound, if the channel has sound.
+fn add_sound<K: Sink>(pairs: u16, sound: &[u8], text: &mut Text, to: &mut K) -> Sent
+    ensures { Adds result (text.old ++ sound_line pairs sound.now) text.new (K.state to.old) (K.state to.new) }
+{
+    if pairs == 0 {
+        Sent::All
+    } else {
+        add_line(sound, text, to)
+    }
 }

@@ -20,15 +20,11 @@ pub(crate) fn add_line<K: Sink>(bytes: &[u8], text: &mut Text, to: &mut K) -> Se
 {
     let mut at = 0;
     while bytes.len() - at > PIECE {
-        match add_digits(&bytes[at..at + PIECE], text, to) {
-            Sent::All => at += PIECE,
-            Sent::Failed => return Sent::Failed,
-        }
+        add_digits(&bytes[at..at + PIECE], text, to)?;
+        at += PIECE;
     }
-    match add_digits(&bytes[at..], text, to) {
-        Sent::All => text.add(b"\n", to),
-        Sent::Failed => Sent::Failed,
-    }
+    add_digits(&bytes[at..], text, to)?;
+    text.add(b"\n", to)
 }
 
 /// Adds at most `PIECE` bytes in hexadecimal.

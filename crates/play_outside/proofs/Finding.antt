@@ -3,9 +3,9 @@ use Rattle.std.proofs.Common.{◌≡◌, ap, refl, arith, ℕ, Bool, List, [], �
 use Rattle.std.specs.Prelude.{Some, option_map, string_bytes, bytes_eq, ◌&&◌}
 use Rattle.std.specs.List.{find, filter}
 use Rattle.play_outside.specs.Folder.{config_at, names_in, bytes_at}
-use Rattle.play_outside.specs.Held.{config_file, media_file, files_of}
-use Rattle.play_outside.specs.declared.mem_media.MemConfig.{MemConfig}
-use Rattle.play_outside.specs.declared.mem_media.MemFile.{MemFile}
+use Rattle.play_outside.specs.memory.Media.{config_file, media_file, files_of}
+use Rattle.play_outside.specs.declared.memory.media.MemConfig.{MemConfig}
+use Rattle.play_outside.specs.declared.memory.media.MemFile.{MemFile}
 
 abbrev bytes_of_config : MemConfig → List ℕ
 bytes_of_config config = config.bytes.items

@@ -1,6 +1,7 @@
 pub mod Counting
 mod Finding
 pub mod Gathering
+pub mod Following
 mod Giving
 pub mod Parts
 pub mod Reading

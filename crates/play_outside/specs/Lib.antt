@@ -13,11 +13,6 @@ pub mod Listener
 pub mod Fresh
 pub mod FolderState
 pub mod Folder
-pub mod Held
-pub mod Parted
-pub mod PlainClock
-pub mod MemSink
-pub mod MemClock
-pub mod MemLink
-pub mod MemDoor
+pub mod plain
+pub mod memory
 pub mod inner

@@ -45,10 +45,7 @@ impl<const ROOM: usize> Gather<ROOM> {
         ensures waits { length self.old + length bytes.now ≤ ROOM → (result ≡ All) × (self.new ≡ self.old ++ bytes.now) × (K.state to.new ≡ K.state to.old) }
     {
         if bytes.len() > ROOM - self.count {
-            match self.finish(to) {
-                Sent::All => {}
-                Sent::Failed => return Sent::Failed,
-            }
+            self.finish(to)?;
             if bytes.len() > ROOM {
                 return send(bytes, to);
             }
@@ -62,10 +59,7 @@ impl<const ROOM: usize> Gather<ROOM> {
         ensures { Adds result (self.old ++ flat_map (λ part. part.now) parts.now) self.new (K.state to.old) (K.state to.new) }
     {
         for part in parts {
-            match self.add(part, to) {
-                Sent::All => {}
-                Sent::Failed => return Sent::Failed,
-            }
+            self.add(part, to)?;
         }
         Sent::All
     }

@@ -13,18 +13,10 @@ mod gather;
 mod held;
 mod link;
 mod listener;
-mod mem_clock;
-mod mem_door;
-mod mem_link;
-mod mem_media;
-mod mem_sink;
-mod mem_source;
-mod pieces;
+mod memory;
 mod plain;
-mod planned_faults;
 mod sink;
 mod source;
-mod unread;
 
 pub use clock::{Beat, Clock};
 pub use devices::Devices;
@@ -33,12 +25,10 @@ pub use gather::Gather;
 pub use held::{Flag, FlaggedCall, HeldClock, HeldDoor, HeldLink, HeldSink};
 pub use link::{Link, LinkStep, Look};
 pub use listener::{Arrival, Listener, MOST_AWAY};
-pub use mem_clock::MemClock;
-pub use mem_door::{DoorAnswer, MemDoor};
-pub use mem_link::{LinkPlan, MemLink};
-pub use mem_media::{MemConfig, MemFile, MemMedia};
-pub use mem_sink::MemSink;
-pub use mem_source::MemSource;
+pub use memory::{
+    DoorAnswer, LinkPlan, MemClock, MemConfig, MemDoor, MemFile, MemLink, MemMedia, MemSink,
+    MemSource,
+};
 pub use plain::{PlainClock, PlainDoor, PlainLink, PlainMedia, PlainSink, PlainSource};
-pub use sink::{Sent, Sink, WriteStep, send, send_number, send_parts};
+pub use sink::{Sent, Sink, WriteFailed, WriteStep, send, send_number, send_parts};
 pub use source::{ReadStep, Source};

@@ -1,10 +1,12 @@
 //! What is written to.
-ghost use Rattle.std.specs.Prelude.{◌<◌, length, decimal, flat_map};
+ghost use Rattle.std.specs.Prelude.{◌≡◌, ◌<◌, length, decimal, flat_map};
 ghost use Rattle.play_outside.specs.SinkState.{SinkState};
-ghost use Rattle.play_outside.specs.Sink.{Writes, Sends};
+ghost use Rattle.play_outside.specs.Sink.{Writes, Sends, sent_from};
+ghost use Rattle.play_outside.specs.declared.sink.Sent.TheVariants as sent;
 
 use super::Gather;
 use itoa::Buffer;
+use std::ops::{ControlFlow, FromResidual, Try};
 
 /// How many bytes of small parts are gathered before they are written.
 const SMALL: usize = 4_096;
@@ -25,6 +27,38 @@ pub enum Sent {
     All,
     /// The sink took a prefix of the bytes; then a write failed, and nothing more was written.
     Failed,
+}
+
+/// What `?` hands on after a `Sent` that is `Failed`.
+#[derive(Clone, Copy, Debug, PartialEq, Eq)]
+pub struct WriteFailed;
+
+/// After `All` a `?` goes on, and after `Failed` it returns `Failed`.
+impl Try for Sent {
+    type Output = ();
+
+    type Residual = WriteFailed;
+
+    ghost branch_gives = { λ result flow. result ≡ sent_from flow };
+
+    fn branch(self) -> ControlFlow<WriteFailed, ()> {
+        match self {
+            Sent::All => ControlFlow::Continue(()),
+            Sent::Failed => ControlFlow::Break(WriteFailed),
+        }
+    }
+
+    fn from_output(_output: ()) -> Sent {
+        Sent::All
+    }
+}
+
+impl FromResidual<WriteFailed> for Sent {
+    ghost from_residual_gives = { λ _ result. result ≡ sent.Failed };
+
+    fn from_residual(_failed: WriteFailed) -> Sent {
+        Sent::Failed
+    }
 }
 
 /// A place to write bytes to.
@@ -59,10 +93,8 @@ pub fn send_parts<K: Sink>(parts: &[&[u8]], to: &mut K) -> Sent
     ensures { Sends result (flat_map (λ part. part.now) parts.now) (K.state to.old) (K.state to.new) }
 {
     let mut gather = Gather::<SMALL>::new();
-    match gather.add_parts(parts, to) {
-        Sent::All => gather.finish(to),
-        Sent::Failed => Sent::Failed,
-    }
+    gather.add_parts(parts, to)?;
+    gather.finish(to)
 }
 
 /// Writes a number in decimal digits, without leading zeros.

@@ -1,5 +1,5 @@
 -- Lines in the parts in which they are sent.
-use Rattle.std.proofs.Common.{◌≡◌, ℕ, ◌+◌, true, false, refl, sym, ap, ◌∙◌, List, [], ◌∷◌, ◌++◌, append_assoc, append-nil}
+use Rattle.std.proofs.Common.{◌≡◌, ℕ, ◌+◌, true, false, refl, ap, ◌∙◌, List, [], ◌∷◌, ◌++◌, append_assoc, append-nil}
 use Rattle.std.specs.Prelude.{codes, decimal, encode_utf8_all}
 use Rattle.std.specs.List.{flat_map, zip, enumerate_from}
 use Rattle.std.proofs.lemmas.Grind.{flat_map-append}
@@ -27,16 +27,20 @@ pub channel_line-parts : (number : ℕ) (channel : ChannelView) (state : Status)
 unfolding channel_line size_text
 channel_line-parts number channel state = simp (append_assoc, append-nil)
 
--- a space, width and height, frames and pairs, and what ends the line
-pub numbers_text-parts : (clip : MediaNameView) (after : List ℕ)
-    → 32 ∷ ((decimal clip.width ++ (120 ∷ (decimal clip.height ++ (32 ∷ (decimal clip.frames ++ (32 ∷ (decimal clip.pairs ++ []))))))) ++ after)
-    ≡ codes " " ++ numbers_text clip ++ after
+-- a space, width and height, frames and pairs
+pub numbers_text-parts : (clip : MediaNameView)
+    → 32 ∷ (decimal clip.width ++ (120 ∷ (decimal clip.height ++ (32 ∷ (decimal clip.frames ++ (32 ∷ (decimal clip.pairs ++ [])))))))
+    ≡ codes " " ++ numbers_text clip
 unfolding numbers_text size_text
-numbers_text-parts clip after = simp (append_assoc, append-nil)
+numbers_text-parts clip = simp (append_assoc, append-nil)
 
--- the line of a clip is what stands before it, the name, and what follows the name
+-- a line is what stands before it, the line itself, and what ends it
+pub styled-parts : (style : LineStyle) (line : List ℕ) → styled style line ≡ head_of style ++ (line ++ style.after.now)
+styled-parts style line = append_assoc (head_of style) line style.after.now
+
+-- the line of a clip is what stands before it, the name, what follows the name, and what ends the line
 pub media_line-parts : (style : LineStyle) (clip : MediaNameView)
-    → styled style (media_line clip) ≡ (head_of style ++ encode_utf8_all (quoted clip.name)) ++ (codes " " ++ clip_text clip ++ style.after.now)
+    → styled style (media_line clip) ≡ head_of style ++ (encode_utf8_all (quoted clip.name) ++ ((codes " " ++ clip_text clip) ++ style.after.now))
 unfolding media_line
 media_line-parts style clip = simp append_assoc
 
@@ -66,7 +70,5 @@ channel_lines-numbered style channels states =
 
 -- a list of lines between a line and an empty one
 pub listed_lines : (style : LineStyle) (first : List ℕ) (lines : List (List ℕ))
-    → flat_map (styled style) (first ∷ lines ++ [] ∷ []) ≡ (styled style first ++ flat_map (styled style) lines) ++ styled style []
-listed_lines style first lines =
-    rw (flat_map-append (styled style) lines ([] ∷ []), append-nil (styled style []))
-    (sym (append_assoc (styled style first) (flat_map (styled style) lines) (styled style [])))
+    → flat_map (styled style) (first ∷ lines ++ [] ∷ []) ≡ styled style first ++ (flat_map (styled style) lines ++ styled style [])
+listed_lines style first lines = rw (flat_map-append (styled style) lines ([] ∷ []), append-nil (styled style [])) refl

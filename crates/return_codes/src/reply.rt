@@ -2,21 +2,23 @@
 ghost use Rattle.std.specs.Prelude.{◌≡◌, ◌∷◌, ◌++◌, [], length, take, map, codes};
 ghost use Rattle.std.specs.List.{flat_map};
 ghost use Rattle.play_outside.specs.Sink.{Sends};
+ghost use Rattle.play_outside.specs.Gathered.{Adds};
 ghost use Rattle.history_model.specs.text.Replies.{IsReplyTo, refusal_word, code_line, channel_lines, media_line, wrapped, reply_lines, reply_bytes};
 ghost use Rattle.return_codes.specs.inner.Style.{styled};
 
-use crate::line::LineStyle;
-use crate::media::send_names;
-use crate::status::send_statuses;
-use crate::value::send_values;
+use crate::line::{LineStyle, Text};
+use crate::media::add_names;
+use crate::status::add_statuses;
+use crate::value::add_values;
 use itoa::Buffer;
 use play_outside::{Sent, Sink};
 use play_types::{ChannelList, Config, MediaNames, Name, Reply, StatusList};
 
-/// Writes the lines of a reply, each ended by CR LF. It takes no memory.
+/// Writes the lines of a reply, each ended by CR LF. It takes no memory, and lines of at most 4,096 bytes together are one
+/// write.
 ///
 /// An `Info` has a status for each channel of the configuration, and a `Refused` has one of the codes 401 to 404 and 501
-/// to 503. The reply to CLS lists the names of `media`. The result is `Failed` only where `to` failed, and then a prefix of
+/// to 503. The reply to CLS lists the names of `media`. The result is `Failed` only if `to` failed, and then a prefix of
 /// the lines was written.
 pub fn send_reply<K: Sink>(reply: &Reply, config: &Config, media: &MediaNames, to: &mut K) -> Sent
     requires { IsReplyTo config.now reply.now }
@@ -27,7 +29,7 @@ pub fn send_reply<K: Sink>(reply: &Reply, config: &Config, media: &MediaNames, t
 
 /// Writes the lines of a reply, each with the parts of `before` before it and ended by `after`. It takes no memory.
 ///
-/// The reply is one that `send_reply` takes, and the result is `Failed` only where `to` failed.
+/// The reply is one that `send_reply` takes, and the result is `Failed` only if `to` failed.
 pub fn send_reply_lines<'a, K: Sink>(
     reply: &Reply,
     config: &Config,
@@ -41,32 +43,58 @@ pub fn send_reply_lines<'a, K: Sink>(
         (flat_map (wrapped (flat_map (λ part. part.now) before.now) after.now) (reply_lines config.now media.now reply.now))
         (K.state to.old) (K.state to.new) }
 {
-    let style = &LineStyle { before, after };
+    let mut text = Text::new();
+    add_reply(
+        reply,
+        config,
+        media,
+        &LineStyle { before, after },
+        &mut text,
+        to,
+    )?;
+    text.finish(to)
+}
+
+/// Adds the lines of a reply.
+fn add_reply<K: Sink>(
+    reply: &Reply,
+    config: &Config,
+    media: &MediaNames,
+    style: &LineStyle,
+    text: &mut Text,
+    to: &mut K,
+) -> Sent
+    requires { IsReplyTo config.now reply.now }
+    ensures { Adds result
+        (text.old ++ flat_map (styled style.now) (reply_lines config.now media.now reply.now))
+        text.new (K.state to.old) (K.state to.new) }
+{
     match reply {
-        Reply::Done(name) => send_code(202, *name, "OK", style, to),
-        Reply::Value(micros) => send_values(*micros, style, to),
-        Reply::Info(statuses) => send_info(config.channels(), *statuses, style, to),
-        Reply::Cls => send_cls(media, style, to),
-        Reply::Version => style.send_two_lines(b"201 VERSION OK", &[b"2.0 PLAYD"], to),
+        Reply::Done(name) => add_code(202, *name, "OK", style, text, to),
+        Reply::Value(micros) => add_values(*micros, style, text, to),
+        Reply::Info(statuses) => add_info(config.channels(), *statuses, style, text, to),
+        Reply::Cls => add_cls(media, style, text, to),
+        Reply::Version => style.add_two_lines(b"201 VERSION OK", &[b"2.0 PLAYD"], text, to),
         Reply::Unknown(line) => {
-            style.send_two_lines(b"400 ERROR", &[line.as_str().as_bytes()], to)
+            style.add_two_lines(b"400 ERROR", &[line.as_str().as_bytes()], text, to)
         }
-        Reply::Refused(code, name) => send_code(*code, *name, refusal(*code), style, to),
-        Reply::NoMemory => style.send_line(&[b"500 FAILED"], to),
+        Reply::Refused(code, name) => add_code(*code, *name, refusal(*code), style, text, to),
+        Reply::NoMemory => style.add_line(&[b"500 FAILED"], text, to),
     }
 }
 
-/// Writes the line of a code, the name of a command, and the word that says what became of the command.
-fn send_code<K: Sink>(
+/// Adds the line of a code, the name of a command, and the word that says what became of the command.
+fn add_code<K: Sink>(
     code: u16,
     name: Name,
     word: &'static str,
     style: &LineStyle,
+    text: &mut Text,
     to: &mut K,
 ) -> Sent
-    ensures { Sends result (styled style.now (code_line code name word.now)) (K.state to.old) (K.state to.new) }
+    ensures { Adds result (text.old ++ styled style.now (code_line code name word.now)) text.new (K.state to.old) (K.state to.new) }
 {
-    style.send_line(
+    style.add_line(
         &[
             Buffer::new().format(code).as_bytes(),
             b" ",
@@ -74,46 +102,38 @@ fn send_code<K: Sink>(
             b" ",
             word.as_bytes(),
         ],
+        text,
         to,
     )
 }
 
-/// Writes the reply to INFO: its first line, the status of each channel, and an empty line.
-fn send_info<K: Sink>(
+/// Adds the reply to INFO: its first line, the status of each channel, and an empty line.
+fn add_info<K: Sink>(
     channels: &ChannelList,
     statuses: StatusList,
     style: &LineStyle,
+    text: &mut Text,
     to: &mut K,
 ) -> Sent
     requires { statuses.count ≡ length channels.now }
-    ensures { Sends result
-        (flat_map (styled style.now) (codes "200 INFO OK" ∷ channel_lines channels.now (take statuses.count statuses.channels) ++ [] ∷ []))
-        (K.state to.old) (K.state to.new) }
+    ensures { Adds result
+        (text.old ++ flat_map (styled style.now) (codes "200 INFO OK" ∷ channel_lines channels.now (take statuses.count statuses.channels) ++ [] ∷ []))
+        text.new (K.state to.old) (K.state to.new) }
 {
-    match style.send_line(&[b"200 INFO OK"], to) {
-        Sent::All => {}
-        Sent::Failed => return Sent::Failed,
-    }
-    match send_statuses(channels, statuses, style, to) {
-        Sent::All => style.send_line(&[], to),
-        Sent::Failed => Sent::Failed,
-    }
+    style.add_line(&[b"200 INFO OK"], text, to)?;
+    add_statuses(channels, statuses, style, text, to)?;
+    style.add_line(&[], text, to)
 }
 
-/// Writes the reply to CLS: its first line, the names of the media table, and an empty line.
-fn send_cls<K: Sink>(media: &MediaNames, style: &LineStyle, to: &mut K) -> Sent
-    ensures { Sends result
-        (flat_map (styled style.now) (codes "200 CLS OK" ∷ map media_line media.now ++ [] ∷ []))
-        (K.state to.old) (K.state to.new) }
+/// Adds the reply to CLS: its first line, the names of the media table, and an empty line.
+fn add_cls<K: Sink>(media: &MediaNames, style: &LineStyle, text: &mut Text, to: &mut K) -> Sent
+    ensures { Adds result
+        (text.old ++ flat_map (styled style.now) (codes "200 CLS OK" ∷ map media_line media.now ++ [] ∷ []))
+        text.new (K.state to.old) (K.state to.new) }
 {
-    match style.send_line(&[b"200 CLS OK"], to) {
-        Sent::All => {}
-        Sent::Failed => return Sent::Failed,
-    }
-    match send_names(media, style, to) {
-        Sent::All => style.send_line(&[], to),
-        Sent::Failed => Sent::Failed,
-    }
+    style.add_line(&[b"200 CLS OK"], text, to)?;
+    add_names(media, style, text, to)?;
+    style.add_line(&[], text, to)
 }
 
 /// Returns the word for a command that was refused with this code: `ERROR` below 500, where the client is at fault, and

@@ -1,63 +1,63 @@
 //! The status of the channels.
-ghost use Rattle.std.specs.Prelude.{◌≡◌, length, take};
+ghost use Rattle.std.specs.Prelude.{◌≡◌, ◌++◌, length, take};
 ghost use Rattle.std.specs.List.{flat_map};
 ghost use Rattle.history_model.specs.text.Replies.{channel_line, channel_lines};
-ghost use Rattle.play_outside.specs.Sink.{Sends};
+ghost use Rattle.play_outside.specs.Gathered.{Adds};
 ghost use Rattle.return_codes.specs.inner.Style.{styled};
 
-use crate::line::LineStyle;
+use crate::line::{LineStyle, Text};
 use itoa::Buffer;
 use play_outside::{Sent, Sink};
 use play_types::{Channel, ChannelList, Status, StatusList};
 
-/// Writes a line for each channel, with its status.
-pub(crate) fn send_statuses<K: Sink>(
+/// Adds a line for each channel, with its status.
+pub(crate) fn add_statuses<K: Sink>(
     channels: &ChannelList,
     statuses: StatusList,
     style: &LineStyle,
+    text: &mut Text,
     to: &mut K,
 ) -> Sent
     requires { statuses.count ≡ length channels.now }
-    ensures { Sends result
-        (flat_map (styled style.now) (channel_lines channels.now (take statuses.count statuses.channels)))
-        (K.state to.old) (K.state to.new) }
+    ensures { Adds result
+        (text.old ++ flat_map (styled style.now) (channel_lines channels.now (take statuses.count statuses.channels)))
+        text.new (K.state to.old) (K.state to.new) }
 {
     let count = usize::from(statuses.count());
-    send_channels(channels, &statuses.channels()[..count], style, to)
+    add_channels(channels, &statuses.channels()[..count], style, text, to)
 }
 
-/// Writes a line for each channel, with its status: that of the first channel comes first.
-fn send_channels<K: Sink>(
+/// Adds a line for each channel, with its status: that of the first channel comes first.
+fn add_channels<K: Sink>(
     channels: &ChannelList,
     statuses: &[Status],
     style: &LineStyle,
+    text: &mut Text,
     to: &mut K,
 ) -> Sent
     requires { length statuses.now ≡ length channels.now }
-    ensures { Sends result
-        (flat_map (styled style.now) (channel_lines channels.now statuses.now))
-        (K.state to.old) (K.state to.new) }
+    ensures { Adds result
+        (text.old ++ flat_map (styled style.now) (channel_lines channels.now statuses.now))
+        text.new (K.state to.old) (K.state to.new) }
 {
     for (at, (channel, status)) in channels.iter().zip(statuses).enumerate() {
-        match send_channel(at + 1, channel, *status, style, to) {
-            Sent::All => {}
-            Sent::Failed => return Sent::Failed,
-        }
+        add_channel(at + 1, channel, *status, style, text, to)?;
     }
     Sent::All
 }
 
-/// Writes the line of the channel with this number, from 1.
-fn send_channel<K: Sink>(
+/// Adds the line of the channel with this number, from 1.
+fn add_channel<K: Sink>(
     number: usize,
     channel: &Channel,
     status: Status,
     style: &LineStyle,
+    text: &mut Text,
     to: &mut K,
 ) -> Sent
-    ensures { Sends result (styled style.now (channel_line number channel.now status)) (K.state to.old) (K.state to.new) }
+    ensures { Adds result (text.old ++ styled style.now (channel_line number channel.now status)) text.new (K.state to.old) (K.state to.new) }
 {
-    style.send_line(
+    style.add_line(
         &[
             Buffer::new().format(number).as_bytes(),
             b" ",
@@ -67,6 +67,7 @@ fn send_channel<K: Sink>(
             b" ",
             status.as_str().as_bytes(),
         ],
+        text,
         to,
     )
 }

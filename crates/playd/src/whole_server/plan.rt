@@ -31,7 +31,7 @@ impl Calls {
     };
 }
 
-/// A client, to whom one link belongs. The link's calls are its reads and its writes, each line of a reply in one write.
+/// A client, to whom one link belongs. The link's calls are its reads and its writes, each reply in one write.
 #[derive(Clone, Copy)]
 pub struct Client {
     /// What it sends.

@@ -46,8 +46,8 @@ const TWO_CONNECTIONS: Show = Show {
                 piece: 23,
                 idle: &[],
                 calls: Calls {
-                    waits: Some((6, Written)),
-                    sets: Some((6, Released)),
+                    waits: Some((5, Written)),
+                    sets: Some((5, Released)),
                     ..Calls::FREE
                 },
                 replies: "202 MIXER OK\r\n201 MIXER OK\r\n0.3\r\n202 KILL OK\r\n",
@@ -100,7 +100,7 @@ const READ_AFTER_REPLY: Show = Show {
                 piece: 100,
                 idle: &[],
                 calls: Calls {
-                    sets: Some((5, Answered)),
+                    sets: Some((3, Answered)),
                     ..Calls::FREE
                 },
                 replies: "200 INFO OK\r\n1 1x1 EMPTY\r\n\r\n",
@@ -200,7 +200,7 @@ const BATCH: Show = Show {
                 piece: 100,
                 idle: &[],
                 calls: Calls {
-                    sets: Some((4, Answered)),
+                    sets: Some((3, Answered)),
                     ..Calls::FREE
                 },
                 replies: "201 MIXER OK\r\n1\r\n",

@@ -1,21 +1,10 @@
-use Rattle.std.proofs.Common.{◌≡◌}
-use Rattle.cmd_print.proofs.Ticks.{history_of_ticks, history_of_command, history_of_batch, history_of_stop}
+use Rattle.play_outside.proofs.Gathering.{Sends-gathered}
 use Rattle.cmd_print.proofs.event.print_event.Goals as goal
 
-pub returns-in-Do : goal.returns-in-Do
-returns-in-Do g c =
-    let once : c.args.times ≡ 1 = rw c.in-Do.is at c.requires in
-    rw (c.in-Do.is, once, history_of_command c.args.media.now c.in-Do.tag c.in-Do.cmd) c.print_command.ensures
+pub returns-in_err-add_event : goal.returns-in_err-add_event
+returns-in_err-add_event g c =
+    rw c.from_residual.ensures
+    (rw (c.new-text.ensures, c.in_err-add_event.ensures) at c.add_event.ensures).0
 
-pub returns-in-Batch : goal.returns-in-Batch
-returns-in-Batch g c =
-    let once : c.args.times ≡ 1 = rw c.in-Batch.is at c.requires in
-    rw (c.in-Batch.is, once, history_of_batch c.args.media.now c.in-Batch.tag c.in-Batch.cmds) c.print_batch.ensures
-
-pub returns-in-Tick : goal.returns-in-Tick
-returns-in-Tick g c = rw (c.in-Tick.is, history_of_ticks c.args.media.now c.args.times) c.print_ticks.ensures
-
-pub returns-in-Stop : goal.returns-in-Stop
-returns-in-Stop g c =
-    let once : c.args.times ≡ 1 = rw c.in-Stop.is at c.requires in
-    rw (c.in-Stop.is, once, history_of_stop c.args.media.now c.in-Stop.tag) c.print_stop.ensures
+pub returns : goal.returns
+returns g c = Sends-gathered _ _ _ _ _ _ (rw (c.new-text.ensures, c.in_ok-add_event.ensures) at c.add_event.ensures) c.finish.ensures.sends

@@ -12,18 +12,21 @@ loop-at-init g c = record {
 pub loop-at-preserved : goal.loop-at-preserved
 loop-at-preserved g c = record {
   within = omega arith;
-  added = Gathered-next _ _ _ _ _ _ _ _ _ (encode_lower-more c.loop-at.at 512 c.args.bytes.now) c.loop-at.invariant.added c.in-All.ensures;
+  added = Gathered-next _ _ _ _ _ _ _ _ _ (encode_lower-more c.loop-at.at 512 c.args.bytes.now) c.loop-at.invariant.added
+      (rw c.in_ok-add_digits.ensures at c.add_digits.ensures);
 }
 
-pub returns-in-Failed : goal.returns-in-Failed
-returns-in-Failed g c =
-    Adds-next _ _ _ _ _ _ _ _ _ _ (line-parts c.loop-at.at 512 c.args.bytes.now) c.loop-at.invariant.added c.in-Failed.ensures
+pub returns-in_err-add_digits : goal.returns-in_err-add_digits
+returns-in_err-add_digits g c =
+    rw c.from_residual.ensures
+    (Adds-next _ _ _ _ _ _ _ _ _ _ (line-parts c.loop-at.at 512 c.args.bytes.now) c.loop-at.invariant.added (rw c.in_err-add_digits.ensures at c.add_digits.ensures))
 
-pub returns-in-Failed-add_digits : goal.returns-in-Failed-add_digits
-returns-in-Failed-add_digits g c =
-    Adds-next _ _ _ _ _ _ _ _ _ _ (line-end c.loop-at.at c.args.bytes.now) c.loop-at.invariant.added c.in-Failed-add_digits.ensures
+pub returns-in_err-add_digits-2 : goal.returns-in_err-add_digits-2
+returns-in_err-add_digits-2 g c =
+    rw c.from_residual-in_err-add_digits-2.ensures
+    (Adds-next _ _ _ _ _ _ _ _ _ _ (line-end c.loop-at.at c.args.bytes.now) c.loop-at.invariant.added (rw c.in_err-add_digits-2.ensures at c.add_digits-2.ensures))
 
-pub returns-in-All-add_digits : goal.returns-in-All-add_digits
-returns-in-All-add_digits g c =
-    let digits = Gathered-next _ _ _ _ _ _ _ _ _ refl c.loop-at.invariant.added c.in-All-add_digits.ensures in
+pub returns : goal.returns
+returns g c =
+    let digits = Gathered-next _ _ _ _ _ _ _ _ _ refl c.loop-at.invariant.added (rw c.in_ok-add_digits-2.ensures at c.add_digits-2.ensures) in
     Adds-end _ _ _ _ _ _ _ _ _ _ (line-end c.loop-at.at c.args.bytes.now) digits c.add.ensures.adds

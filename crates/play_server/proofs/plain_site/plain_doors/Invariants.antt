@@ -1,6 +1,6 @@
 use Rattle.std.proofs.Common.{◌≡◌, All, None, vec_len}
-use Rattle.play_outside.specs.declared.plain.PlainDoor.{PlainDoor}
-use Rattle.play_outside.specs.declared.plain.PlainLink.{PlainLink}
+use Rattle.play_outside.specs.declared.plain.door.PlainDoor.{PlainDoor}
+use Rattle.play_outside.specs.declared.plain.link.PlainLink.{PlainLink}
 use Rattle.play_server.specs.Site.{AreNumbered, IsNewDoor}
 use Rattle.play_server.proofs.plain_site.plain_doors.Given as goal
 

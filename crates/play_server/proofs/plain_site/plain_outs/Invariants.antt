@@ -1,5 +1,5 @@
 use Rattle.std.proofs.Common.{◌≡◌, vec_len}
-use Rattle.play_outside.specs.declared.plain.PlainSink.{PlainSink}
+use Rattle.play_outside.specs.declared.plain.sink.PlainSink.{PlainSink}
 use Rattle.play_server.specs.Site.{AreNumbered}
 use Rattle.play_server.proofs.plain_site.plain_outs.Given as goal
 

@@ -1,20 +1,10 @@
-use Rattle.std.proofs.Common.{append-nil}
-use Rattle.amcp_text.proofs.TextLaws.{bytes_of_chars}
+use Rattle.play_outside.proofs.Gathering.{Sends-gathered}
 use Rattle.return_codes.proofs.reply.send_reply_lines.Goals as goal
 
-pub returns-in-Done : goal.returns-in-Done
-returns-in-Done g c = rw (c.in-Done.is, append-nil) c.send_code.ensures
+pub returns-in_err-add_reply : goal.returns-in_err-add_reply
+returns-in_err-add_reply g c =
+    rw c.from_residual.ensures
+    (rw (c.new-text.ensures, c.in_err-add_reply.ensures) at c.add_reply.ensures).0
 
-pub returns-in-Version : goal.returns-in-Version
-returns-in-Version g c = rw c.in-Version.is c.send_two_lines.ensures
-
-pub returns-in-Unknown : goal.returns-in-Unknown
-returns-in-Unknown g c =
-    rw (c.in-Unknown.is, ← bytes_of_chars c.as_str.result.now c.in-Unknown.line c.as_str.utf8 c.as_str.ensures)
-    (rw (c.as_bytes.ensures.value, append-nil c.as_str.result.now) at c.send_two_lines-in-Unknown.ensures)
-
-pub returns-in-Refused : goal.returns-in-Refused
-returns-in-Refused g c = rw (c.in-Refused.is, append-nil, ← c.refusal.ensures) c.send_code-in-Refused.ensures
-
-pub returns-in-NoMemory : goal.returns-in-NoMemory
-returns-in-NoMemory g c = rw (c.in-NoMemory.is, append-nil) c.send_line.ensures
+pub returns : goal.returns
+returns g c = Sends-gathered _ _ _ _ _ _ (rw (c.new-text.ensures, c.in_ok-add_reply.ensures) at c.add_reply.ensures) c.finish.ensures.sends

@@ -1,7 +1,7 @@
 use Rattle.std.proofs.Common.{◌≡◌, All, Some, vec_len}
 use Rattle.play_outside.specs.contracts.held.HeldLinkSink.TheImpl as link
-use Rattle.play_outside.specs.declared.held.HeldLink.{HeldLink}
-use Rattle.play_outside.specs.declared.mem_door.MemDoor.{MemDoor}
+use Rattle.play_outside.specs.declared.held.link.HeldLink.{HeldLink}
+use Rattle.play_outside.specs.declared.memory.door.MemDoor.{MemDoor}
 use Rattle.play_server.specs.Site.{AreNumbered, IsNewDoor}
 use Rattle.playd.proofs.whole_server.devices.doors_of.Given as goal
 

@@ -1,6 +1,0 @@
-use Rattle.cmd_print.specs.inner.Bytes.{spaced}
-use Rattle.cmd_print.proofs.word.print_number.Goals as goal
-
-pub returns : goal.returns
-unfolding spaced
-returns g c = rw (c.as_bytes.ensures.value, c.format.ensures.text) at c.send_parts.ensures

@@ -1,0 +1,19 @@
+//! Objects in memory. Their calls fail where it is planned.
+
+mod clock;
+mod door;
+mod link;
+mod media;
+mod pieces;
+mod planned_faults;
+mod sink;
+mod source;
+mod unread;
+
+pub use clock::MemClock;
+pub use door::{DoorAnswer, MemDoor};
+pub use link::{LinkPlan, MemLink};
+pub use media::{MemConfig, MemFile, MemMedia};
+pub use sink::MemSink;
+pub use source::MemSource;
+pub(crate) use unread::Unread;

@@ -25,7 +25,7 @@ told_line event {lines = lines} told tells = record {
       told.first rest ∙ ap (λ (ls : List Line). lines ++ ls) (tells rest) ∙ sym (append_assoc lines (line_view event ∷ []) (lines_of rest));
 }
 
--- where no line is held, all lines of the bytes that were taken were returned
+-- if no line is held, all lines of the bytes that were taken were returned
 pub told_all : {taken bytes : List ℕ} {lines : List Line} → HasTold taken lines bytes → lines_of bytes ≡ [] → lines_of taken ≡ lines
 told_all {taken} {bytes} {lines} told none =
     ap lines_of (sym (append-nil taken)) ∙ told.first []

@@ -30,7 +30,7 @@ whole_number-digits : (text : List ℕ) → 0 < length text → list_all is_asci
 whole_number-digits text some digits =
     chosen (ltb 0 (length text)) (list_all is_ascii_digit text) (digits_value 10 text) (grind (arith, nat_tests)) digits
 
--- there is none where some character is no digit
+-- there is none if some character is no digit
 whole_number-none : (text : List ℕ) → list_all is_ascii_digit text ≡ false → whole_number text ≡ None
 whole_number-none text digits = not_chosen (ltb 0 (length text)) (list_all is_ascii_digit text) (digits_value 10 text) digits
 
@@ -61,7 +61,7 @@ number_within-large least most text i some above =
     by_digits least most text (list_all is_ascii_digit text) refl some
     (omega (arith, digits_value-take-le 10 text i (omega arith)))
 
--- a text of digits has the number, where that is within the ends
+-- a text of digits has the number, if that is within the ends
 pub number_within-digits : (least most : ℕ) (text : List ℕ) → 0 < length text → list_all is_ascii_digit text ≡ true → number_within least most text ≡ within least most (digits_value 10 text)
 number_within-digits least most text some digits =
     ap (option_and_then (within least most)) (whole_number-digits text some digits)
@@ -90,6 +90,6 @@ some_of false number = refl
 pub whole_number_empty : (text : List ℕ) → IsUtf8 text → length text ≡ 0 → is_some (whole_number (chars text)) ≡ false
 whole_number_empty text utf8 empty = rw (whole_number-chars text utf8, empty) refl
 
--- a text with characters is one where all of them are digits
+-- a text with characters is one if all of them are digits
 pub whole_number_some : (text : List ℕ) → IsUtf8 text → 0 < length text → is_some (whole_number (chars text)) ≡ are_digits text
 whole_number_some text utf8 some = rw (whole_number-chars text utf8, lt-ltb 0 (length text) some) (some_of (are_digits text) (digits_value 10 text))

@@ -115,7 +115,7 @@ escape-parts from at bytes within plain =
     rw (← escape-more from at bytes within plain)
     (ap (flat_map escaped) (sym (take-append-drop (at + 1) bytes)) ∙ flat_map-append escaped (take (at + 1) bytes) (drop (at + 1) bytes))
 
--- all bytes, where those after a place have no escape
+-- all bytes, if those after a place have no escape
 pub plain-whole : (from : ℕ) (bytes : List ℕ) → IsPlain from (length bytes) bytes
     → flat_map escaped bytes ≡ flat_map escaped (take from bytes) ++ between from (length bytes) bytes
 plain-whole from bytes plain = rw (take_all (length bytes) bytes (omega arith)) at plain

@@ -116,11 +116,11 @@ line_of_kept part = elim (cases_lt 4097 (length part)) [
   | inr short ↦ rw (le-ltb 4097 (length part) short, take_all 4097 part short) refl
 ]
 
--- where no line is held, the bytes have none
+-- if no line is held, the bytes have none
 pub lines_unheld : (r : ReaderState) (bytes : List ℕ) → Represents r bytes → r.held ≡ false → lines_of bytes ≡ []
 lines_unheld r bytes s unheld = lines_of_none bytes (sym s.held ∙ unheld)
 
--- where a line is held, the bytes are that line
+-- if a line is held, the bytes are that line
 pub record HoldsLine (r : ReaderState) (bytes : List ℕ) : Type 0 where
   pub ended : IsEnded bytes
   pub first : (rest : List ℕ) → lines_of (bytes ++ rest) ≡ line_kept r ∷ lines_of rest

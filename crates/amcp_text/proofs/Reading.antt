@@ -168,7 +168,7 @@ unfolding xor
 turned_is None place = refl
 turned_is (Some mark) place = refl
 
--- the mark that is open at the end is the last one, where the marks of the rest leave quotes open
+-- the mark that is open at the end is the last one, if the marks of the rest leave quotes open
 open_mark_is : (quote : Option ℕ) (place : ℕ) (parts : List Part)
     → open_mark quote place parts ≡ cond (list_any is_mark parts) (cond (xor (is_some quote) (is_unclosed parts)) (Some (place + sum_by byte_len (before_last is_mark parts))) None) quote
 unfolding open_mark

@@ -20,23 +20,23 @@ pub record ReaderAt : Type 0 where
   pub words : List (List ℕ)
   -- whether a word has begun that has not ended
   pub has_begun : Bool
-  -- the bytes of that word, and none where no word has begun
+  -- the bytes of that word, and none if no word has begun
   pub word : List ℕ
-  -- the byte at which the open quotes were opened, where quotes are open
+  -- the byte at which the open quotes were opened, if quotes are open
   pub quote : Option ℕ
-  -- the byte of the backslash before here, where an escape has begun
+  -- the byte of the backslash before here, if an escape has begun
   pub escape : Option ℕ
   -- the number of bytes of the line before here
   pub offset : ℕ
   -- the bytes of the line from here on
   pub rest : List ℕ
 
--- what was read up to here, and where an escape has begun, up to its backslash
+-- what was read up to here, and if an escape has begun, up to its backslash
 abbrev pub read_before : ReaderAt → Read
 read_before s =
     record { words = s.words; word = cond s.has_begun (Some (chars s.word)) None; quote = s.quote; place = unwrap_or s.escape s.offset }
 
--- the characters that are left from there on: those of the rest, after the backslash where an escape has begun
+-- the characters that are left from there on: those of the rest, after the backslash if an escape has begun
 abbrev pub unread : Option ℕ → List ℕ → List ℕ
 unread None rest = chars rest
 unread (Some start) rest = 92 ∷ chars rest

@@ -7,7 +7,7 @@ use Rattle.std.proofs.lemmas.List.{take_at, length-append}
 use Rattle.std.proofs.lemmas.List.Sums.{sum_by-cons, sum_by_push}
 use Rattle.amcp_text.specs.Words.{Part, Role, is_mark, is_unclosed, role_of, roles_of}
 
--- quoted after a part, where it was so before it or not
+-- quoted after a part, if it was so before it or not
 abbrev pub quoted_after : Part → Bool → Bool
 quoted_after part quoted = cond (is_mark part) (not quoted) quoted
 

@@ -12,15 +12,15 @@ are_digits text = list_all is_ascii_digit text
 abbrev pub whole_number : List ℕ → Option ℕ
 whole_number text = if nat_lt 0 (length text) && are_digits text then Some (digits_value 10 text) else None
 
--- a number, where it lies from `least` to `most`
+-- a number, if it lies from `least` to `most`
 abbrev pub within : ℕ → ℕ → ℕ → Option ℕ
 within least most number = if nat_le least number && nat_le number most then Some number else None
 
--- the whole number that a text writes, where it lies from `least` to `most`
+-- the whole number that a text writes, if it lies from `least` to `most`
 abbrev pub number_within : ℕ → ℕ → List ℕ → Option ℕ
 number_within least most text = option_and_then (within least most) (whole_number text)
 
--- the whole number that a text writes without a leading zero, where it lies from `least` to `most`
+-- the whole number that a text writes without a leading zero, if it lies from `least` to `most`
 abbrev pub plain_number_within : ℕ → ℕ → List ℕ → Option ℕ
 plain_number_within least most [] = None
 plain_number_within least most (c ∷ cs) = if c == 48 then None else number_within least most (c ∷ cs)
@@ -28,7 +28,7 @@ plain_number_within least most (c ∷ cs) = if c == 48 then None else number_wit
 abbrev pub is_point : ℕ → Bool
 is_point c = c == 46
 
--- digits, and where a point stands digits after it: at least one digit in all
+-- digits, and after a point digits: at least one digit in all
 abbrev pub is_unsigned_decimal : List ℕ → Bool
 is_unsigned_decimal text =
     let whole = before_first is_point text in

@@ -16,7 +16,7 @@ pub record Represents (reader : ReaderState) (bytes : List ℕ) : Type 0 where
   pub over : reader.over ≡ nat_lt (MAX_LINE_BYTES + 1) (length (before_first is_line_end bytes))
   pub held : reader.held ≡ list_any is_line_end bytes
 
--- how many bytes of a piece are taken: none where a line is held, else those up to and with the first line end
+-- how many bytes of a piece are taken: none if a line is held, else those up to and with the first line end
 abbrev pub taken_len : Bool → List ℕ → ℕ
 taken_len held piece = if held then 0 else min (position_or_len is_line_end piece + 1) (length piece)
 

@@ -5,7 +5,7 @@ use Rattle.amcp_text.specs.Words.{Part, parts_of, byte_len, is_mark, is_bad, is_
 use Rattle.amcp_text.specs.declared.token.TokenFault.{TokenFault}
 use Rattle.amcp_text.specs.declared.token.TokenFault.TheVariants.{OpenQuote, BadEscape, OutOfMemory}
 
--- the words of a line's parts, or its fault: the first bad escape, else the last quotation mark where it is not closed
+-- the words of a line's parts, or its fault: the first bad escape, else the last quotation mark if it is not closed
 abbrev pub words_of_parts : List Part → Result (List (List ℕ)) TokenFault
 words_of_parts parts =
     if list_any is_bad parts then Err (BadEscape (sum_by byte_len (before_first is_bad parts)))

@@ -58,7 +58,7 @@ role_of (Plain c) quoted = if c == 34 then Mark else (if is_blank c && not quote
 role_of (Escape c) quoted = Letter c
 role_of Bad quoted = Mark
 
--- the role of each part: it is quoted where the quotation marks before it are odd in number
+-- the role of each part: it is quoted if the quotation marks before it are odd in number
 abbrev pub roles_of : List Part → List Role
 roles_of parts = map (λ at. role_of at.1 (is_unclosed (take at.0 parts))) (enumerate_from 0 parts)
 
@@ -73,6 +73,6 @@ letter_of Gap = None
 letter_of Mark = None
 letter_of (Letter c) = Some c
 
--- the words: the characters between gaps, where there is anything between them
+-- the words: the characters between gaps, if there is anything between them
 abbrev pub words_between : List Role → List (List ℕ)
 words_between roles = map (filter_map letter_of) (filter (λ group. nat_lt 0 (length group)) (slice_split is_gap roles))

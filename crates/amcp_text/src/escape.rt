@@ -3,7 +3,7 @@ ghost use Rattle.std.specs.Prelude.{◌≡◌, ◌∷◌, ◌++◌, [], codes, I
 ghost use Rattle.amcp_text.specs.Escapes.{escaped};
 
 /// Returns the second byte of the escape of a quotation mark, a backslash or a new line, whose first byte is a backslash.
-/// Another byte has no escape and is written as it is, also where it is one of several bytes of a character.
+/// Another byte has no escape and is written as it is, also if it is one of several bytes of a character.
 pub fn escape_of(byte: u8) -> Option<u8>
     ensures none { IfNone result (escaped byte ≡ byte ∷ []) }
     ensures some { IfSome result (λ letter. escaped byte ≡ codes "\\" ++ letter ∷ []) }

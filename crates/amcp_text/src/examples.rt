@@ -1,5 +1,5 @@
 //! Worked examples of the definitions in `specs/`, which the checker computes. Each is the contract of a function that
-//! does nothing. Bytes are given as numbers where a text cannot have them: LF is 10, CR is 13, and é is 195 and 169.
+//! does nothing. Bytes are given as numbers if a text cannot have them: LF is 10, CR is 13, and é is 195 and 169.
 ghost use Rattle.std.specs.Prelude.{◌≡◌, ◌∷◌, ◌++◌, [], Some, None, Ok, Err, codes, pos, neg_ℤ};
 ghost use Rattle.amcp_text.specs.Lines.{NotUtf8, lines_of};
 ghost use Rattle.amcp_text.specs.Micros.{printed_micro};
@@ -31,7 +31,7 @@ pub fn words_of_lines()
     ensures escapes_in_quotes { words "\"a\\nb\\\"\\\\\" c" ≡ Ok (codes "a\nb\"\\" ∷ codes "c" ∷ []) }
 {}
 
-/// A fault names its byte: that of the first bad escape, and that of open quotes only where there is no bad escape. The
+/// A fault names its byte: that of the first bad escape, and that of open quotes only if there is no bad escape. The
 /// character é takes two bytes of the line, and € takes three.
 pub fn faulty_lines()
     ensures open_quotes { words "PLAY 1-0 \"RED" ≡ Err (OpenQuote 9) }
@@ -44,7 +44,7 @@ pub fn faulty_lines()
     ensures first_of_two { words "PLAY \"\\\\ \\x \\y" ≡ Err (BadEscape 9) }
 {}
 
-/// A whole number has digits alone. Leading zeros are allowed, except where a plain number is asked for.
+/// A whole number has digits alone. Leading zeros are allowed, except if a plain number is asked for.
 pub fn whole_numbers()
     ensures zeros { whole_number (codes "007") ≡ Some 7 }
     ensures empty { whole_number [] ≡ None }

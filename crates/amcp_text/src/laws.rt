@@ -8,7 +8,7 @@ ghost use Rattle.amcp_text.specs.Reader.{HasTold, IsLineOf, line_view};
 ghost use Rattle.amcp_text.specs.declared.line_reader.LineEvent.{LineEvent};
 
 /// However a stream is cut into pieces, a reader returns its lines: those that it returned of the pieces so far are the
-/// first lines of the stream, and all lines of these pieces where no line is held.
+/// first lines of the stream, and all lines of these pieces if no line is held.
 ///
 /// The clauses are the steps of a caller: the reader takes bytes, or returns a line and drops it.
 pub fn lines_of_pieces()
@@ -19,7 +19,7 @@ pub fn lines_of_pieces()
     ensures all { (taken bytes : List ℕ) (lines : List Line) → HasTold taken lines bytes → IsLineOf None bytes → lines_of taken ≡ lines }
 {}
 
-/// Where a stream is cut at the end of a line, its lines are those of the two parts.
+/// If a stream is cut at the end of a line, its lines are those of the two parts.
 pub fn lines_of_two_parts()
     ensures lines { (whole rest : List ℕ) → IsEnded whole → lines_of (whole ++ rest) ≡ lines_of whole ++ lines_of rest }
     ensures ended { (whole rest : List ℕ) → IsEnded whole → IsEnded rest → IsEnded (whole ++ rest) }

@@ -78,7 +78,7 @@ impl LineReader {
         })
     }
 
-    /// Takes the bytes of `piece` up to and with its first LF, and returns how many these are: 0 exactly where a whole
+    /// Takes the bytes of `piece` up to and with its first LF, and returns how many these are: 0 exactly if a whole
     /// line is held or the piece is empty. It takes no memory.
     pub fn feed(&mut self, piece: &[u8]) -> usize
         ensures count { result ≡ taken_len self.old.held piece.now }
@@ -101,7 +101,7 @@ impl LineReader {
         }
     }
 
-    /// Returns the line that is held: `None` exactly where no whole line is held.
+    /// Returns the line that is held: `None` exactly if no whole line is held.
     pub fn line(&self) -> Option<LineEvent<'_>>
         ensures held { is_some result ≡ self.now.held }
         ensures line { (bytes : List ℕ) → Represents self.now bytes → IsLineOf result bytes }
@@ -112,7 +112,7 @@ impl LineReader {
         Some(self.whole_line())
     }
 
-    /// Drops the line that is held. Where no whole line is held, the bytes taken so far are dropped.
+    /// Drops the line that is held. If no whole line is held, the bytes taken so far are dropped.
     pub fn next_line(&mut self)
         ensures { Represents self.new [] }
     {

@@ -51,7 +51,7 @@ impl From<AllocError> for TokenFault {
 /// of a word, and is no part of it, so `""` is the empty word. The escapes, inside quotes and outside, are `\"`, `\\`
 /// and `\n`, the new line. A line of blanks has no word.
 ///
-/// Where a line has bad escapes, the fault is the first of them. Quotes that are left open are the fault only where no
+/// If a line has bad escapes, the fault is the first of them. Quotes that are left open are the fault only if no
 /// escape is bad.
 pub fn tokens(alloc: Global, line: &str) -> Result<WordList, TokenFault>
     ensures { AreTokens (chars line.now) result }

@@ -32,7 +32,7 @@ impl WordList {
         }
     }
 
-    /// Adds a copy of a word at the end. Where memory runs out, the list stays as it was.
+    /// Adds a copy of a word at the end. If memory runs out, the list stays as it was.
     pub fn push(&mut self, word: &str) -> Result<(), AllocError>
         ensures ok { OnOk result (self.new ≡ self.old ++ chars word.now ∷ []) }
         ensures err { OnErr result (self.new ≡ self.old) }
@@ -63,7 +63,7 @@ impl WordList {
         self.words.iter()
     }
 
-    /// Returns the word at position `at`, counted from 0: `None` exactly where `at` is not below the length.
+    /// Returns the word at position `at`, counted from 0: `None` exactly if `at` is not below the length.
     pub fn get(&self, at: usize) -> Option<&str>
         ensures { option_map (λ word. chars word.now) result ≡ slice_get self.now at }
     {

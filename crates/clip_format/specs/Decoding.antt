@@ -21,7 +21,7 @@ number_of_4 bytes at = from_be_bytes w32 (take 4 (drop at bytes))
 abbrev pub is_within : ℕ → ℕ → ℕ → Bool
 is_within low high number = nat_le low number && nat_le number high
 
--- the fields of a header, from the front: whether each is accepted, and the fault where it is not
+-- the fields of a header, from the front: whether each is accepted, and the fault if it is not
 abbrev pub header_fields : List ℕ → List (Bool × ClipFault)
 header_fields bytes =
     (bytes_eq (take 4 bytes) (codes "RCLP"), BadMagic)

@@ -39,7 +39,7 @@ pub record IsMediaTable (entries : List Entry) : Type 0 where
   pub rising : IsRising entries
   pub ready : All (λ entry. IsReady entry.clip) entries
 
--- the clip, where the file is readable
+-- the clip, if the file is readable
 abbrev pub readable : Result ClipView ClipFault → Option ClipView
 readable (Ok clip) = Some clip
 readable (Err fault) = None
@@ -48,7 +48,7 @@ readable (Err fault) = None
 abbrev pub clip_at : List Entry → ℕ → Option ClipView
 clip_at entries id = option_and_then (λ entry. readable entry.clip) (slice_get entries id)
 
--- a name with the numbers of its clip, where the file is readable
+-- a name with the numbers of its clip, if the file is readable
 abbrev pub media_name : List ℕ → Result ClipView ClipFault → MediaNameView
 media_name name (Ok clip) = clip_name name clip.geometry clip.frames
 media_name name (Err fault) = unreadable_name name

@@ -10,7 +10,7 @@ use play_types::{ByteList, Clip, ClipFault};
 /// Reads a clip file. The clip keeps the bytes after the header as they are, and no memory is taken.
 ///
 /// Fewer than 20 bytes are `Short` with 20 needed. Then comes the first field of the header that is not accepted, and
-/// then `Short` or `Long` where the bytes are not as many as the header announces.
+/// then `Short` or `Long` if the bytes are not as many as the header announces.
 pub fn decode(bytes: Vec<u8>) -> Result<Clip, ClipFault>
     ensures exact { result ≡ clip_of bytes.items }
     ensures is_file { IfOk result (λ clip. IsClipFile bytes.items clip) }

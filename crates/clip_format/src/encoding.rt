@@ -9,7 +9,7 @@ use play_outside::{Sent, Sink, send_parts};
 use play_types::Clip;
 
 /// Writes the file of a clip, which [`decode`](crate::decode) reads back as the clip. No memory is taken. `Failed` comes
-/// only where the sink failed, and then a prefix of the file was written.
+/// only if the sink failed, and then a prefix of the file was written.
 pub fn encode<K: Sink>(clip: &Clip, to: &mut K) -> Sent
     ensures written { Sends result (clip_bytes clip.now) (K.state to.old) (K.state to.new) }
     ensures reads_back { clip_of (clip_bytes clip.now) ≡ Ok clip.now }

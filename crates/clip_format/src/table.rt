@@ -41,7 +41,7 @@ impl MediaTable {
         })
     }
 
-    /// Adds an entry at the end. Where memory runs out, the table is as before.
+    /// Adds an entry at the end. If memory runs out, the table is as before.
     pub fn add(&mut self, name: Text, clip: Result<Clip, ClipFault>) -> Result<(), AllocError>
         requires above { IsAbove name self.old }
         requires few { length self.old < MAX_MEDIA_NAMES }
@@ -68,7 +68,7 @@ impl MediaTable {
         self.clips.is_empty()
     }
 
-    /// Returns the clip of a number: `None` exactly where no entry has this number, or its file is no clip.
+    /// Returns the clip of a number: `None` exactly if no entry has this number, or its file is no clip.
     pub fn clip(&self, id: u32) -> Option<&Clip>
         ensures value { option_copied result ≡ clip_at self.now id }
         ensures lowered { IfSome result (λ clip. IsLowered clip.now) }

@@ -36,7 +36,7 @@ after_file read found bytes = record {
   total = read.total + max (length bytes) 1;
 }
 
--- the table and the sum are those of the first `count` files, where the folder tells what it holds
+-- the table and the sum are those of the first `count` files, if the folder tells what it holds
 abbrev pub HasRead : List ℕ → Option Files → List Found → Progress → Type 0
 HasRead folder None order read = Unit {0}
 HasRead folder (Some files) order read =

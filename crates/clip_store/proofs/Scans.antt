@@ -13,7 +13,7 @@ use Rattle.clip_store.specs.Scan.{ordered, table_of, scanned, Tells, Answers}
 use Rattle.clip_store.proofs.Sorting.{IsRisingBy-sorted}
 use Rattle.clip_store.proofs.Twice.{IsStrict-from}
 
--- these are the folder's clip files in order, where it tells them
+-- these are the folder's clip files in order, if it tells them
 abbrev pub AreOrdered : List ℕ → Option Files → List Found → Type 0
 AreOrdered folder None order = Unit {0}
 AreOrdered folder (Some files) order = ordered folder files ≡ order
@@ -25,7 +25,7 @@ AreOrdered-listed folder None listed order held is = tt
 AreOrdered-listed folder (Some files) listed order held is =
     ap (λ (names : Option (List (List ℕ))). sorted (clip_files (unwrap_or names []))) held ∙ sym is
 
--- the table of these files is the folder's, where no name stands twice
+-- the table of these files is the folder's, if no name stands twice
 Tells-scanned : (folder : List ℕ) (o : Option Files) (order : List Found) (answer : Result (List Entry) ScanFault) → AreOrdered folder o order → first_twice order ≡ None
     → Tells (λ files. table_of folder files order) answer o → Tells (scanned folder) answer o
 unfolding scanned

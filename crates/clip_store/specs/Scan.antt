@@ -63,7 +63,7 @@ unfoldable pub scanned : List ℕ → Files → Result (List Entry) ScanFault
 scanned folder files =
     unless_twice (first_twice (ordered folder files)) (table_of folder files (ordered folder files))
 
--- the result is what is so of the files, where the folder tells them
+-- the result is what is so of the files, if the folder tells them
 abbrev pub Tells : (Files → Result (List Entry) ScanFault) → Result (List Entry) ScanFault → Option Files → Type 0
 Tells told answer None = Unit {0}
 Tells told answer (Some files) = answer ≡ told files

@@ -37,7 +37,7 @@ fn named(alloc: Global, listed: &[String]) -> Result<Vec<ClipFile>, AllocError>
     Ok(files)
 }
 
-/// Returns the file under the name of its clip, where it is a clip file.
+/// Returns the file under the name of its clip, if it is a clip file.
 fn clip_file(alloc: Global, file: &str) -> Result<Option<ClipFile>, AllocError>
     ensures { IfOk result (λ found. option_map file_view found ≡ clip_file file.now) }
 {

@@ -27,7 +27,7 @@ use Rattle.cmd_parse.specs.declared.options.Given.{Given}
 use Rattle.cmd_parse.proofs.Keywords.{keyword_named, keyword_kind, cut_word, cut_kind}
 use Rattle.cmd_parse.proofs.Manner.{word_here, manner_from}
 
--- the options that are read where these are written
+-- the options that are read if these are written
 abbrev pub read_of : List Written → Given
 read_of all = record {
   looped = is_some (given meant.Loop all);

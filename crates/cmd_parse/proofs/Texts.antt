@@ -30,7 +30,7 @@ other_bytes sought c low high =
     omega (arith, get_or_default (encode_utf8 c) k d 0 inside, high_bytes c k high inside) in
     not_high sought (get_or (encode_utf8 c) k d) low above)
 
--- a text has an ASCII character exactly where its bytes have it
+-- a text has an ASCII character exactly if its bytes have it
 pub list_any-encodes : (sought : ℕ) → sought < 128 → (cs : List ℕ) → list_any (is_char sought) (encode_utf8_all cs) ≡ list_any (is_char sought) cs
 list_any-encodes sought low [] = refl
 list_any-encodes sought low (c ∷ cs) = elim (cases_lt c 128) [
@@ -102,7 +102,7 @@ cut_text sought low text utf8 some =
           ∙ ap chars (sym parts.after ∙ ap (after_first p) same);
     }
 
--- a text is one ASCII character exactly where its bytes are that one byte
+-- a text is one ASCII character exactly if its bytes are that one byte
 pub one_char : (c : ℕ) → c < 128 → (text : List ℕ) → IsUtf8 text → bytes_eq (chars text) (c ∷ []) ≡ bytes_eq text (c ∷ [])
 one_char c ascii text utf8 =
     let one = IsAscii-cons c [] ascii IsAscii-nil in

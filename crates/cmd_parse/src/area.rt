@@ -11,7 +11,7 @@ use amcp_text::word_within;
 use play_types::{MAX_LAYER, Place, Refusal};
 use std::marker::Model;
 
-/// A channel, and a layer of it where one is written.
+/// A channel, and a layer of it if one is written.
 #[derive(Clone, Copy, Debug)]
 pub struct Area {
     channel: u8,
@@ -32,7 +32,7 @@ impl Model for Area {
 }
 
 impl Area {
-    /// Returns the place of the area: layer 0 where no layer is written.
+    /// Returns the place of the area: layer 0 if no layer is written.
     pub fn place(self) -> Place
         ensures { result ≡ place_of self }
     {

@@ -74,7 +74,7 @@ impl<'a> Line<'a> {
         }
     }
 
-    /// Returns nothing where the line ends before a position. A word there is refused as `Illegal`.
+    /// Returns nothing if the line ends before a position. A word there is refused as `Illegal`.
     pub fn end(&self, at: usize) -> Result<(), Refusal>
         ensures { result ≡ ended self.now at tt }
     {

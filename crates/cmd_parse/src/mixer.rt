@@ -53,7 +53,7 @@ fn reset(area: Area) -> Cmd
     }
 }
 
-/// Returns the command that asks for the value of a property, or that sets the property where words follow.
+/// Returns the command that asks for the value of a property, or that sets the property if words follow.
 fn property_command(line: &Line<'_>, place: Place, property: Prop) -> Result<Cmd, Refusal>
     ensures { result ≡ property_command line.now place property }
 {
@@ -117,7 +117,7 @@ fn number_of(property: Prop, word: &str) -> Option<i64>
     }
 }
 
-/// Returns the number where it is from 0 to `most`.
+/// Returns the number if it is from 0 to `most`.
 fn up_to(most: i64, number: i64) -> Option<i64>
     ensures value { result ≡ up_to most number }
     ensures range { IfSome result (IsWithin (pos 0) most) }
@@ -190,7 +190,7 @@ fn timing_at(line: &Line<'_>, at: usize) -> Result<Timing, Refusal>
     }
 }
 
-/// Returns the timing of this duration, where DEFER or nothing stands from a position to the end of the line.
+/// Returns the timing of this duration, if DEFER or nothing stands from a position to the end of the line.
 fn deferral_at(line: &Line<'_>, at: usize, duration: u32) -> Result<Timing, Refusal>
     requires short { duration ≤ MAX_DURATION }
     requires early { at < 200 }

@@ -41,14 +41,14 @@ impl Options {
         self.looped
     }
 
-    /// Returns the transition: a cut where none was given.
+    /// Returns the transition: a cut if none was given.
     pub fn transition(self) -> Trans
         ensures { result ≡ self.transition }
     {
         self.transition
     }
 
-    /// Returns the number of the first frame that is played, from 0: 0 where none was given.
+    /// Returns the number of the first frame that is played, from 0: 0 if none was given.
     pub fn seek(self) -> u32
         ensures { result ≡ self.seek }
     {
@@ -75,7 +75,7 @@ impl Line<'_> {
     /// Returns what the options say that stand in the line from a position on, in any order, each at most once.
     ///
     /// Refused is the first word, from the left, that begins no option, repeats one, or is a wrong number, or else the
-    /// end of the line where a number has to follow.
+    /// end of the line if a number has to follow.
     pub fn options(&self, at: usize) -> Result<Options, Refusal>
         ensures { result ≡ options_at self.now at }
     {

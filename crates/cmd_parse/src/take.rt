@@ -23,7 +23,7 @@ impl Line<'_> {
     }
 }
 
-/// Returns the take of a producer with these options. There is none where the first frame that is played lies at or past
+/// Returns the take of a producer with these options. There is none if the first frame that is played lies at or past
 /// the end of a clip.
 fn take_with(options: Options, producer: Producer) -> Option<Take>
     ensures { result ≡ take_with options producer.frames producer.spec }
@@ -43,8 +43,8 @@ fn take_with(options: Options, producer: Producer) -> Option<Take>
     }
 }
 
-/// Returns the number of frames of a clip that are played where `rest` frames are left: at most `length` of them, or all
-/// where no length was given.
+/// Returns the number of frames of a clip that are played if `rest` frames are left: at most `length` of them, or all
+/// if no length was given.
 fn played_length(length: Option<u32>, rest: u32) -> u32
     ensures { result ≡ played_length length rest }
 {
@@ -54,7 +54,7 @@ fn played_length(length: Option<u32>, rest: u32) -> u32
     }
 }
 
-/// Returns the take of a producer with these options and this length in frames, which is 0 where the producer is no clip.
+/// Returns the take of a producer with these options and this length in frames, which is 0 if the producer is no clip.
 fn take_for(spec: Spec, options: Options, length: u32) -> Take
     requires { IsTake spec options.seek length }
     ensures { result ≡ take_for spec options length }

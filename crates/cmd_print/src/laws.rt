@@ -13,7 +13,7 @@ ghost use Rattle.history_model.specs.text.History.{FollowRun, IsRun, history_tex
 /// A client's line with the text of a command asks for that command.
 ///
 /// The text has the words of the command, whatever the command is: quotation marks and escapes shield each character of a
-/// clip's name. Where the words of some line ask for the command, by a configuration and names of the media table, these words
+/// clip's name. If the words of some line ask for the command, by a configuration and names of the media table, these words
 /// ask for the same command by them.
 pub fn printed_commands_read_back()
     ensures words { (media : List MediaNameView) (command : Cmd) →

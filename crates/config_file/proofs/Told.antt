@@ -12,7 +12,7 @@ first_before faults more NotToml first = absurd first
 first_before [] more (Key name) first = cc
 first_before (f ∷ faults) more (Key name) first = first
 
--- where there is none before, it is the first of what follows
+-- if there is none before, it is the first of what follows
 pub first_after : (before faults : List (List ℕ)) (fault : ConfigFault) → before ≡ [] → IsFirst faults fault → IsFirst (before ++ faults) fault
 first_after before faults fault none first = rw none first
 

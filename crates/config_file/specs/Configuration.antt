@@ -14,7 +14,7 @@ abbrev pub list_of : Items → List Data
 list_of no_items = []
 list_of (item value rest) = value ∷ list_of rest
 
--- the elements of `channel`, where they are 1 to 16
+-- the elements of `channel`, if they are 1 to 16
 abbrev pub some_elements : Items → Option (List Data)
 some_elements items =
     if nat_le 1 (length (list_of items)) && nat_le (length (list_of items)) MAX_CHANNELS then Some (list_of items) else None

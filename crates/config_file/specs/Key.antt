@@ -6,7 +6,7 @@ use Rattle.play_types.specs.declared.config.TheConstants.{MAX_RATE, MAX_CONNECTI
 use Rattle.play_types.specs.declared.geometry.TheConstants.{MAX_SIDE, MAX_PAIRS}
 use Rattle.config_file.specs.declared.defaults.TheConstants.{DEFAULT_CONNECTIONS, DEFAULT_JOURNAL_LIMIT, DEFAULT_PAIRS}
 
--- what may stand at a key: a string that is not empty, or an integer from the least to the greatest. Where there is a
+-- what may stand at a key: a string that is not empty, or an integer from the least to the greatest. If there is a
 -- default, the integer may be left out
 pub data Rule : Type 0 where
   text : Rule

@@ -12,7 +12,7 @@ use Rattle.config_file.specs.declared.fault.ConfigFault.TheVariants.{NotToml, Ke
 abbrev pub document_of : List ℕ → Option Members
 document_of bytes = if is_utf8 bytes then parse_document bytes else None
 
--- what bytes say as a configuration, or the key that is refused, where they are TOML
+-- what bytes say as a configuration, or the key that is refused, if they are TOML
 abbrev pub config_in : List ℕ → Option (Result ConfigView (List ℕ))
 config_in bytes = option_map config_of (document_of bytes)
 

@@ -52,6 +52,6 @@ known_names (Channel number) = map (λ key. key.name) channel_keys
 abbrev pub unknown_of : Section → Members → Option (List ℕ)
 unknown_of section table = least (filter (λ name. not (is_among (known_names section) name)) (names_of table))
 
--- its fault, where there is one
+-- its fault, if there is one
 abbrev pub unknown_in : Section → Members → List (List ℕ)
 unknown_in section table = map (name_in section) (option_to_list (unknown_of section table))

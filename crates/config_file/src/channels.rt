@@ -71,7 +71,7 @@ fn check_element(alloc: Global, number: usize, element: &Value) -> Result<(), Co
 }
 
 impl<'a> SectionReader<'a> {
-    /// Returns the elements of `channel`, where it is an array of 1 to 16.
+    /// Returns the elements of `channel`, if it is an array of 1 to 16.
     pub(crate) fn elements(&self) -> Option<&'a [Value]>
         ensures elements { option_map (λ v. list_of (items_view v.now)) result ≡ elements_of (table_view self.now.table.now) }
         ensures few { IfSome result (λ v. (1 ≤ length v.now) × (length v.now ≤ MAX_CHANNELS)) }

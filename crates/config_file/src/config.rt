@@ -20,7 +20,7 @@ use toml::Table;
 /// `journal_limit` 1 to 16,777,216 or left out for 4,194,304. `width` and `height` are 1 to 4,096, and `pairs` 0 to
 /// 4,096 or left out for 0.
 ///
-/// `NotToml` comes exactly where the bytes are not UTF-8 or the text is not TOML. `Key` names the first key that is
+/// `NotToml` comes exactly if the bytes are not UTF-8 or the text is not TOML. `Key` names the first key that is
 /// missing, of another type or out of range in the order above, all keys of one channel before the next channel, and an
 /// element of `channel` that is no table as `channel.n`, counted from 1. After all these it names the least unknown key
 /// of the top table in the order of bytes, and then the least unknown key of the first channel that has one, as

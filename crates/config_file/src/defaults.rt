@@ -1,4 +1,4 @@
-//! What a configuration says where it leaves a key out.
+//! What a configuration says if it leaves a key out.
 
 /// The connection workers of a configuration without `connections`.
 pub const DEFAULT_CONNECTIONS: u32 = 4;

@@ -42,7 +42,7 @@ impl<'a> SectionReader<'a> {
         }
     }
 
-    /// Reads the integer at a key, from `least` to `greatest`, or returns the default where there is no such key.
+    /// Reads the integer at a key, from `least` to `greatest`, or returns the default if there is no such key.
     pub(crate) fn number(
         &self,
         key: &str,
@@ -68,7 +68,7 @@ impl<'a> SectionReader<'a> {
         self.table.get(key)
     }
 
-    /// Returns the string at a key, where it is not empty.
+    /// Returns the string at a key, if it is not empty.
     fn string(&self, key: &str) -> Option<&'a str>
         ensures read { let value = get_member key.now (table_view self.now.table.now) in
             IsRead (is_kept text value) (text_of value) (option_map (λ s. chars s.now) result) }
@@ -81,7 +81,7 @@ impl<'a> SectionReader<'a> {
         Some(text)
     }
 
-    /// Returns the integer at a key, where it is from `least` to `greatest`, or the default where there is no such key.
+    /// Returns the integer at a key, if it is from `least` to `greatest`, or the default if there is no such key.
     fn integer(&self, key: &str, least: u32, greatest: u32, default: Option<u32>) -> Option<u32>
         requires { IfSome default (λ d. (least ≤ d) × (d ≤ greatest)) }
         ensures read { let value = get_member key.now (table_view self.now.table.now) in

@@ -35,7 +35,7 @@ without_end_zeros_none ds zeros =
     let none : length ds - suffix_len is_zero ds ≡ 0 = omega (arith, suffix_len_all is_zero ds zeros) in
     rw none refl
 
--- a digit stays where it is not zero or where one after it stays
+-- a digit stays if it is not zero or one after it stays
 pub without_end_zeros-cons : (d : ℕ) (ds : List ℕ) → (is_zero d && list_all is_zero ds) ≡ false → without_end_zeros (d ∷ ds) ≡ d ∷ without_end_zeros ds
 without_end_zeros-cons d ds some = elim (cases_Bool (list_all is_zero ds)) [
   | inl zeros ↦

@@ -111,7 +111,7 @@ pub record PlacesLeft (text start : List ℕ) (number rest weight : ℕ) : Type 
 pub places_start : (start : List ℕ) (number : ℕ) → number < 1000000 → length start + 6 ≤ 12 → PlacesLeft start start number number 100000
 places_start start number below room = record { left = 6; weight_is = refl; below = below; room = room; told = refl }
 
--- the places that are left, where some are
+-- the places that are left, if some are
 record SomeLeft (text start : List ℕ) (number rest weight : ℕ) : Type 0 where
   after : ℕ
   weight_is : weight ≡ 10 ^ after

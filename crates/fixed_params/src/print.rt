@@ -10,7 +10,7 @@ use std::marker::Model;
 /// The longest text of a value, in bytes: a sign, four digits, a point and six digits.
 const ROOM: usize = 12;
 
-/// Writes a value in millionths: a minus where it is negative, the whole part, and where the rest is not zero a point
+/// Writes a value in millionths: a minus if it is negative, the whole part, and if the rest is not zero a point
 /// and the rest without zeros at its end. What is written reads back to the value. It takes no memory.
 pub fn print_micro<K: Sink>(value: i64, to: &mut K) -> Sent
     requires low { neg_ℤ (pos 1000000000) ≤ℤ value }
@@ -39,7 +39,7 @@ impl Model for MicroText {
 }
 
 impl MicroText {
-    /// Returns the text of a value: a minus where it is negative, the whole part, and where the rest is not zero a point
+    /// Returns the text of a value: a minus if it is negative, the whole part, and if the rest is not zero a point
     /// and the rest without zeros at its end. It takes no memory.
     pub fn of(value: i64) -> MicroText
         requires low { neg_ℤ (pos 1000000000) ≤ℤ value }

@@ -12,7 +12,7 @@ const LIMIT: u32 = 1_000_000_000;
 /// Reads the value of a decimal, in millionths. Digits after the sixth place are dropped before the range is tested.
 ///
 /// A decimal is an optional sign, digits, and optionally a point and digits, with at least one digit in all. The result is
-/// `None` exactly where the text is no decimal, or its value is outside -1000 to 1000. It takes no memory.
+/// `None` exactly if the text is no decimal, or its value is outside -1000 to 1000. It takes no memory.
 pub fn read_micro(text: &str) -> Option<i64>
     ensures value { result ≡ micro_of (chars text.now) }
     ensures range { IfSome result
@@ -23,7 +23,7 @@ pub fn read_micro(text: &str) -> Option<i64>
     Some(if is_negative(text) { -micros } else { micros })
 }
 
-/// Reads the value of a decimal without a sign, in millionths, where it is at most 1000.
+/// Reads the value of a decimal without a sign, in millionths, if it is at most 1000.
 fn read_unsigned(text: &[u8]) -> Option<u32>
     ensures { let micros = unsigned_micro text.now in
         result ≡ (if is_unsigned_decimal text.now && nat_le micros 1000000000 then Some micros else None) }
@@ -46,7 +46,7 @@ fn is_negative(text: &[u8]) -> bool
     matches!(text, [b'-', ..])
 }
 
-/// Returns the text without the sign that it begins with, where it does.
+/// Returns the text without the sign that it begins with, if it does.
 fn without_sign(text: &[u8]) -> &[u8]
     ensures { result.now ≡ without_leading_sign text.now }
 {
@@ -56,7 +56,7 @@ fn without_sign(text: &[u8]) -> &[u8]
     }
 }
 
-/// Returns the text before the first point and the text after it. Where there is no point, they are the whole text and an
+/// Returns the text before the first point and the text after it. If there is no point, they are the whole text and an
 /// empty one.
 fn split_at_point(text: &[u8]) -> (&[u8], &[u8])
     ensures whole { result.0.now ≡ before_first is_point text.now }

@@ -9,7 +9,7 @@ use itoa::Buffer;
 use play_outside::{Sent, Sink};
 use play_types::Geometry;
 
-/// Writes a frame as lines: `F`, the channel and the tick; then each row from the top; then the sound, where the channel
+/// Writes a frame as lines: `F`, the channel and the tick; then each row from the top; then the sound, if the channel
 /// has sound. Rows and sound are in lower-case hexadecimal. A pixel has four bytes, and so has a pair of sound. The lines
 /// are gathered and written some 32,000 bytes at a time.
 pub fn write_hex<K: Sink>(

@@ -45,7 +45,7 @@ commit_given : (config : ConfigView) (media : List MediaNameView) (commands : Li
 commit_given config media [] = tt
 commit_given config media (command ∷ commands) = tt
 
--- what is done for an ask, where this batch is open or none is
+-- what is done for an ask, if this batch is open or none is
 pub asked_given : (config : ConfigView) (media : List MediaNameView) (open_now : Bool) (commands : List Cmd) (words : List (List ℕ)) (asked : Parsed) → parsed config media words ≡ Ok asked
     → IsGiven config media (if open_now then step_inside commands asked else step_outside asked)
 asked_given config media open_now commands words asked is =

@@ -1,4 +1,4 @@
--- A batch is its commands one after another with no tick between, and is refused where one of them is.
+-- A batch is its commands one after another with no tick between, and is refused if one of them is.
 use Rattle.std.proofs.Common.{◌≡◌, ℕ, Bool, true, false, List, [], ◌∷◌, ◌++◌, map, reverse, refl, sym, ap, ◌∙◌, subst₂, if◌then◌else◌, unwrap_or, is_none}
 use Rattle.std.proofs.lemmas.Bool.{true≢false}
 use Rattle.std.proofs.lemmas.List.{reverse-append}

@@ -56,7 +56,7 @@ own_step-same playout tag a b text given_up h going =
     ap (λ (step : Step). if given_up then Local reply.NoMemory else step)
     (step-same (asked_of playout tag a) (asked_of playout tag b) (line_meaning playout.config playout.names (line_of_text text)) (h.batch going))
 
--- and so it does in both, where it has ended in both too
+-- and so it does in both, if it has ended in both too
 both_ways : {C : Type 0} (playout : Playout) (tag : Tag) (a b : List PlayedLine) (text : List ℕ) (given_up : Bool) (ended : Bool) (by : Bool → Step → C) →
     ((one other : Step) → by true one ≡ by true other) → Beside playout tag a b → has_ended playout tag a ≡ ended →
     by (has_ended playout tag a) (own_step playout tag a text given_up) ≡ by (has_ended playout tag b) (own_step playout tag b text given_up)

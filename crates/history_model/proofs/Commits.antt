@@ -89,7 +89,7 @@ group-cut setup committed before =
       sounds = kept_by_group (timeline_sounds setup) (λ setting rest. refl) group kept ∙ h.sounds;
     }
 
--- where no channel passes the test, none does after a command, and no setting is left out
+-- if no channel passes the test, none does after a command, and no setting is left out
 none_passes : (cmd : Cmd) (channel : ℕ) → and_not_committed (λ other. false) cmd channel ≡ false
 none_passes (CommitMixer committed) channel = refl
 none_passes cmd channel = refl

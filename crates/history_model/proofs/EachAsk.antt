@@ -53,7 +53,7 @@ module _ (Holds : Step → Type 0) (alone : HoldsAlone Holds) where
   outside-holds Bye ask = alone.ended
   outside-holds Kill ask = alone.kill
 
-  -- an ask where this batch is open or none is
+  -- an ask if this batch is open or none is
   pub asked-holds : (open_now : Bool) (commands : List Cmd) (asked : Parsed) → Holds (step_commit commands)
       → ((command : Cmd) → asked ≡ Stage command → Holds (Ask command)) → Holds (if open_now then step_inside commands asked else step_outside asked)
   asked-holds true commands asked commit ask = inside-holds commands asked commit

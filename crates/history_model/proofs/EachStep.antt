@@ -61,7 +61,7 @@ batch-each Asked Batched each asked all =
     All-take Batched MAX_BATCH_COMMANDS (filter_map batched (after_first is_begin (since_closing asked)))
     (All-filter_map Asked Batched batched (after_first is_begin (since_closing asked)) (batched-each Asked Batched each) opened)
 
--- it holds of each step of a line, where the lines ask for such things
+-- it holds of each step of a line, if the lines ask for such things
 pub record HoldsOfLines (Asked : Parsed → Type 0) (Holds : Step → Type 0) : Type 0 where
   pub replied : (answer : Reply) → Holds (Local answer)
   pub kill : Holds KillServer

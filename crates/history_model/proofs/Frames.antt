@@ -36,7 +36,7 @@ unfolding frame_sample last_sample
 last_sample-tick setup history channel pair side =
     ap (λ back. sounds_back setup back channel pair side) (reverse-append history (Tick ∷ []))
 
--- the acts of one event more are those before it with its own, or those before it where it is refused
+-- the acts of one event more are those before it with its own, or those before it if it is refused
 pub acts-one_more : (history : List Event) (event : Event) →
     acts (history ++ event ∷ []) ≡ unwrap_or (with_event (acts history) (ticks history) event) (acts history)
 unfolding acts

@@ -1,4 +1,4 @@
--- The step of a connection's line where no line before it was given up, or the connection had ended before the first that was.
+-- The step of a connection's line if no line before it was given up, or the connection had ended before the first that was.
 use Rattle.std.proofs.Common.{◌≡◌, ℕ, ◌+◌, ◌≤◌, Bool, true, false, ◌||◌, ◌⊎◌, inl, inr, List, [], ◌∷◌, ◌++◌, length, take, refl, sym, ap, ◌∙◌, subst, arith, eq-eqb, append-nil, append_assoc, length-append, if◌then◌else◌}
 use Rattle.std.specs.Prelude.{Some, None, All, slice_get}
 use Rattle.std.specs.List.{list_any}
@@ -94,7 +94,7 @@ next_step config media given_up lines line high goes =
     ∙ ap (slice_get (before ++ step ∷ [])) (sym (length-line_steps config media [] lines))
     ∙ last_step before step
 
--- it is a 500 where the line is given up
+-- it is a 500 if the line is given up
 pub given_up_here : (n : ℕ) → is_given_up (n ∷ []) n ≡ true
 given_up_here n = ap (λ (b : Bool). b || false) (eq-eqb n n refl)
 

@@ -38,7 +38,7 @@ stripped_one_line line text is none = ap (list_any is_line_end) is ∙ by_end (s
     by_end true = take_one_line (length text - 1) text none
     by_end false = none
 
--- the text of a connection's line has none where the line has none
+-- the text of a connection's line has none if the line has none
 abbrev HaveNoLineEnd : Option (List ℕ × List ℕ) → Type 0
 HaveNoLineEnd None = Unit {0}
 HaveNoLineEnd (Some parts) = HasNoLineEnd parts.1

@@ -88,7 +88,7 @@ batch-same asked ask other opened none =
     ∙ ap (λ (o : Option Cmd). take MAX_BATCH_COMMANDS (all ++ cons_option o [])) none
     ∙ ap (take MAX_BATCH_COMMANDS) (append-nil all)
 
--- the commands of an open batch after one more: a query is never added, nor is any where there is no room
+-- the commands of an open batch after one more: a query is never added, nor is any if there is no room
 abbrev pub added : List Cmd → Cmd → List Cmd
 added commands command =
     cond (is_query command) commands (cond (nat_lt (length commands) MAX_BATCH_COMMANDS) (commands ++ command ∷ []) commands)
@@ -104,7 +104,7 @@ batch-command asked command opened = elim (cases_Bool (is_query command)) [
       ∙ sym (batch-other asked (Stage command) refl opened)))
 ]
 
--- a command that is no query waits where there is room
+-- a command that is no query waits if there is room
 pub batch-waits : (asked : List Parsed) (command : Cmd) → is_open asked ≡ true → is_query command ≡ false → length (batch asked) < MAX_BATCH_COMMANDS
     → batch (asked ++ Stage command ∷ []) ≡ batch asked ++ command ∷ []
 batch-waits asked command opened acts room =

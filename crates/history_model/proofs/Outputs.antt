@@ -6,7 +6,7 @@ use Rattle.play_types.specs.declared.event.Event.TheVariants as event
 use Rattle.history_model.specs.scripts.History.{Playout, PlayedLine, Past, events_at, ends_at, events_after, script_events, goes_on_after, goes_on}
 use Rattle.history_model.specs.scripts.Output.{tick_output, ticks_output, output_at, output_after, script_output}
 
--- the run goes on after lines only where it goes on after the first of them
+-- the run goes on after lines only if it goes on after the first of them
 first_goes_on : (b more : Bool) → cond b false more ≡ true → (b ≡ false) × (more ≡ true)
 first_goes_on true more on = absurd (false≢true on)
 first_goes_on false more on = (refl, on)

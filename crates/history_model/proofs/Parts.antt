@@ -107,7 +107,7 @@ pub unended-other : (bytes : List ℕ) (byte : ℕ) → eqb byte 10 ≡ false �
 unfolding unended
 unended-other bytes byte other = ap last_part (parts-other bytes byte other) ∙ last_part-onto_last (parts bytes) byte
 
--- what has not ended is a line at the end of the input, where it is not empty
+-- what has not ended is a line at the end of the input, if it is not empty
 unfoldable pub last_line : List ℕ → List (List ℕ)
 last_line text = cond (eqb (length text) 0) [] (text ∷ [])
 

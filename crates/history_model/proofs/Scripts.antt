@@ -29,7 +29,7 @@ pub record IsKept (playout : Playout) (events : List Event) : Type 0 where
 none_kept : (playout : Playout) → IsKept playout []
 none_kept playout = record { history = tt; within = omega arith }
 
--- more events that are such a history, where the limit allows their commands
+-- more events that are such a history, if the limit allows their commands
 more_kept : (playout : Playout) (events more : List Event) → IsKept playout events → stop_at events ≡ None → IsHistory more
     → held events + held more ≤ playout.config.journal_limit → IsKept playout (events ++ more)
 more_kept playout events more kept running history within = record {
@@ -78,7 +78,7 @@ module _ (playout : Playout) (events : List Event) (kept : IsKept playout events
     running = λ goes. still_running events (replicate count event.Tick) running (running_ticks count);
   }
 
-  -- an event that stops nothing, where the journal has room for its commands
+  -- an event that stops nothing, if the journal has room for its commands
   event_more : (turn : Turn) (one : Event) → turn.playout ≡ playout → turn.events ≡ events → IsHistory (one ∷ []) → stop_at (one ∷ []) ≡ None
       → (found : Verdict) → verdict turn (held_by one) ≡ found → KeepsOn playout events (verdict_events one found) false
   event_more turn one on after history running' JournalFull is = nothing_more false

@@ -46,7 +46,7 @@ is_given_up-later given_up later n number high below =
     let none = list_any_none (λ k. k == number) later (λ k d inside. ne_eqb _ number (λ e. omega (arith, high k d inside, e))) in
     list_any-append (λ k. k == number) given_up later ∙ rw none (or-false (is_given_up given_up number))
 
--- what a line asks for, where lines of higher numbers were given up later
+-- what a line asks for, if lines of higher numbers were given up later
 asked_by_line-later : (config : ConfigView) (media : List MediaNameView) (given_up later : List ℕ) (n number : ℕ) (line : Line)
     → All (λ k. n ≤ k) later → number < n
     → asked_by_line config media (given_up ++ later) (number, line) ≡ asked_by_line config media given_up (number, line)
@@ -155,7 +155,7 @@ until_end-ended before more ends =
     let within = position_or_len_some is_end before ends in
     rw (position_or_len-append is_end before more ends, take-append-le (position_or_len is_end before + 1) before more (omega arith)) refl
 
--- where no step ends the session, all of them are given
+-- if no step ends the session, all of them are given
 pub until_end-going : (before more : List Step) → list_any is_end before ≡ false → until_end (before ++ more) ≡ before ++ until_end more
 until_end-going [] more h = refl
 until_end-going (x ∷ xs) more h =

@@ -99,7 +99,7 @@ own_step playout tag before text given_up =
 abbrev pub own_ask : Playout → List ℕ → Bool → Option Parsed
 own_ask playout text given_up = if given_up then None else asked_by (line_meaning playout.config playout.names (line_of_text text))
 
--- the next line is given up where it is marked so
+-- the next line is given up if it is marked so
 is_given_up-here : (numbers : List ℕ) (n number : ℕ) (given_up : Bool) → n ≡ number → All (λ k. k < number) numbers →
     is_given_up (numbers ++ later_of number given_up) n ≡ given_up
 is_given_up-here numbers n number given_up is low =

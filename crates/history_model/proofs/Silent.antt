@@ -31,7 +31,7 @@ frame_bytes-same width height f g same =
     (λ y low high. same_pieces (λ x. pixel_bytes (f x y)) (λ x. pixel_bytes (g x y)) 0 width
     (λ x left right. ap pixel_bytes (same x y (omega arith) (omega arith))))
 
--- where no channel has sound, none of them has a pair
+-- if no channel has sound, none of them has a pair
 no_pairs_at : (channels : List ChannelView) → All (λ channel. channel.pairs ≡ 0) channels → (at : ℕ) →
     (unwrap_or (slice_get (map channel_size channels) at) no_size).pairs ≡ 0
 no_pairs_at [] silent at = refl

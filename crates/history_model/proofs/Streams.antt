@@ -77,7 +77,7 @@ given_up_of-more tag played line text said =
     ∙ ap (λ (n : ℕ). given_up_of tag played ++ filter_map number_given_up ((n, line.given_up) ∷ []))
     (let number : 0 + length (marks tag played) ≡ length (texts_of tag played) = omega (arith, length-marks tag played) in number)
 
--- its number is among those given up where it was
+-- its number is among those given up if it was
 pub given_up_of-kept : (tag : Tag) (played : List PlayedLine) (line : PlayedLine) (text : List ℕ) → text_by tag line.line ≡ Some text → line.given_up ≡ false
     → given_up_of tag (played ++ line ∷ []) ≡ given_up_of tag played
 given_up_of-kept tag played line text said kept =

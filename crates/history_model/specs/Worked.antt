@@ -191,7 +191,7 @@ old_of take shown paused = record { take = take; shown = shown; paused = paused 
 abbrev pub frame_of : List PixelView → List ℤ → ChannelFrame
 frame_of pixels samples = record { pixels = pixels; samples = samples }
 
--- session 1 of worker 1 asks after these events, where the journal takes one command, and whether there is no memory
+-- session 1 of worker 1 asks after these events, if the journal takes one command, and whether there is no memory
 abbrev pub turn_after : List Event → Bool → Turn
 turn_after events no_memory = record {
   playout = record { config = record (plain_config 1 1) { journal_limit = 1 }; names = []; clips = []; digests = false };

@@ -57,7 +57,7 @@ pub record IsInBatch (playout : Playout) (before : List PlayedLine) (tag : Tag) 
   pub waiting : batch (asked_of playout tag before) ≡ cmds
   pub others : (other : Tag) → same_tag other tag ≡ false → is_open (asked_of playout other before) ≡ false
 
--- what a line asks for where a batch is open, and where none is
+-- what a line asks for if a batch is open, and if none is
 step_open : (playout : Playout) (tag : Tag) (before : List PlayedLine) (text : List ℕ) (ask : Parsed)
     → line_meaning playout.config playout.names (line_of_text text) ≡ Asks ask → is_open (asked_of playout tag before) ≡ true
     → own_step playout tag before text false ≡ step_inside (batch (asked_of playout tag before)) ask

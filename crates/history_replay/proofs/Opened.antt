@@ -88,7 +88,7 @@ module _ (playout : Playout) (tag : Tag) where
   closes : (asked : List Parsed) (ask : Parsed) → is_closing ask ≡ true → is_open (asked ++ ask ∷ []) ≡ true → ⊥
   closes asked ask closing opens = false≢true (sym (is_open-closing asked ask closing) ∙ opens)
 
-  -- one more ask where the batch is open
+  -- one more ask if the batch is open
   command_inside : (asked : List Parsed) (command : Cmd) (steps : List Step) → is_open asked ≡ true → OpenedBy asked steps
       → OpenedBy (asked ++ Stage command ∷ []) (steps ++ step_waiting (batch asked) command ∷ [])
   command_inside asked command steps is h = by_query (is_query command) refl
@@ -124,7 +124,7 @@ module _ (playout : Playout) (tag : Tag) where
   inside asked Bye steps is h opens = goes_on asked (asked ++ Bye ∷ []) steps (Local (reply.Refused 403 name.Bye)) refl (left asked Bye is tt) h
   inside asked Kill steps is h opens = goes_on asked (asked ++ Kill ∷ []) steps (Local (reply.Refused 403 name.Kill)) refl (left asked Kill is tt) h
 
-  -- and where none is
+  -- and if none is
   stays_closed : (asked : List Parsed) (ask : Parsed) → is_closing ask ≡ false → list_any is_begin (ask ∷ []) ≡ false → is_open asked ≡ false → is_open (asked ++ ask ∷ []) ≡ true → ⊥
   stays_closed asked ask other none is opens =
       false≢true (sym none ∙ sym (ap (λ (b : Bool). b || list_any is_begin (ask ∷ [])) is) ∙ sym (is_open-other asked ask other) ∙ opens)

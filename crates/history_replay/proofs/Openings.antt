@@ -21,7 +21,7 @@ use Rattle.history_replay.proofs.Opened.{OpenedBy, asked_in, begun, local, opene
 heads : (x y : Step) (xs ys : List Step) → x ∷ xs ≡ y ∷ ys → x ≡ y
 heads x y xs ys same = cc same
 
--- a batch is asked for where it is open
+-- a batch is asked for if it is open
 waiting_asks : (commands found : List Cmd) (command : Cmd) → step_waiting commands command ≡ AskBatch found → ⊥
 waiting_asks commands found command is = by_tests (is_query command) (nat_lt (length commands) MAX_BATCH_COMMANDS) is
   where

@@ -66,7 +66,7 @@ each_tag P tag other false is own else_ = else_ is
 
 -- a connection's line
 module _ (playout : Playout) (before : List PlayedLine) (events : List Event) (output : List ℕ) (h : At playout before events output) where
-  -- its step, where it is one
+  -- its step, if it is one
   pub step_said : (tag : Tag) (text : List ℕ) (step : Step) → list_any is_line_end text ≡ false → own_step playout tag before text false ≡ step
       → said_step playout before (with_memory (Said tag text)) tag ≡ Some step
   step_said tag text step one is =

@@ -1,4 +1,4 @@
--- What is written where a history is played again from its text.
+-- What is written if a history is played again from its text.
 use Rattle.std.specs.Prelude.{ℕ, if◌then◌else◌, Some, List, [], ◌∷◌, ◌++◌, flat_map}
 use Rattle.play_types.specs.Commands.{command_name, answer_reply}
 use Rattle.play_types.specs.declared.command.Cmd.{Cmd}

@@ -14,7 +14,7 @@ ghost use Rattle.history_replay.specs.ReplayOutput.{history_output};
 /// The text of a history that a server can have written is a script with this history.
 ///
 /// A script may have each line of it. Played with memory for what it asks, it makes the events of the history one by one, writes
-/// their answers and their frames, and ends where the history has a stop.
+/// their answers and their frames, and ends if the history has a stop.
 pub fn text_plays_its_history()
     ensures accepted { (playout : Playout) (history : List Event) → IsReplayable playout history →
         All IsAccepted (script_of (history_text playout.names history)) }
@@ -29,7 +29,7 @@ pub fn text_plays_its_history()
 /// So does each run of the text of which no reply says that memory ran out. There is such a run: the one with memory for all that is
 /// asked.
 ///
-/// Which lines a session gives up, and which commands the stage has no memory for, is free where memory runs out: such a line is
+/// Which lines a session gives up, and which commands the stage has no memory for, is free if memory runs out: such a line is
 /// answered 500, and such a command 501.
 pub fn replays_have_the_history()
     ensures history { (playout : Playout) (history : List Event) (played : List PlayedLine) → IsReplayable playout history →

@@ -83,7 +83,7 @@ impl<R: Files + Eprint + AllocGlobal + Clone + Drop> MediaDir for FolderMedia<R>
     }
 }
 
-/// Reads a whole file, where it is a regular one. Another is not opened, since a read of it may wait for ever or have no
+/// Reads a whole file, if it is a regular one. Another is not opened, since a read of it may wait for ever or have no
 /// end.
 fn read_file<R: Files>(rt: &R, alloc: Global, path: &str) -> Result<Vec<u8>, ReadFault> {
     if !fs::metadata(rt, path)?.is_file() {

@@ -53,7 +53,7 @@ impl From<WordsFault> for RunFault {
 
 /// Returns the words after the program's own name, from what the system tells of the arguments.
 ///
-/// `Unreadable` comes exactly where the system fails for another cause than memory.
+/// `Unreadable` comes exactly if the system fails for another cause than memory.
 pub fn words_of(alloc: Global, args: io::Result<Args>) -> Result<Vec<String>, WordsFault>
     ensures { TakesWords args result }
 {

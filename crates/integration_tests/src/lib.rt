@@ -1,5 +1,5 @@
 //! Tests of the public calls of the crates below: what no clause says. Real sockets, files and folders; calls that take
-//! memory, where memory is ample; values from outside or worked out by hand.
+//! memory, if memory is ample; values from outside or worked out by hand.
 //!
 //! They stand in one crate, since the gate proves a crate that has tests a second time.
 #![tactic(auto)]

@@ -34,7 +34,7 @@ fn is_there(still: Still, channels: u8) -> bool
     }
 }
 
-/// Adds a layer that fills a scene, where the channel that it shows is there.
+/// Adds a layer that fills a scene, if the channel that it shows is there.
 fn add(scenes: &mut Scenes, channel: u8, still: Still)
     ensures { length scenes.new ≡ length scenes.old }
 {
@@ -87,7 +87,7 @@ fn shows(
     renderer.frame(1) == first.as_slice() && renderer.frame(2) == second.as_slice()
 }
 
-/// Channel 1 shows channel 2 below half red, and channel 2 shows channel 1: 128, and 128 + (128 * 127 + 127) / 255 = 192 where
+/// Channel 1 shows channel 2 below half red, and channel 2 shows channel 1: 128, and 128 + (128 * 127 + 127) / 255 = 192 if
 /// channel 2 showed the red at the tick before.
 #[test]
 fn channels_that_show_each_other(rt: HostRuntime) -> Result<(), Fail> {

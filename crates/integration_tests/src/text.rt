@@ -1,4 +1,4 @@
-//! Calls that take memory, where memory is ample.
+//! Calls that take memory, if memory is ample.
 
 use amcp_text::{LineReader, WordList, tokens};
 

@@ -7,10 +7,10 @@ ghost use Rattle.lane_blend.specs.inner.Lanes.{AreBelowAlpha, key_at, over_at};
 
 use std::simd::prelude::*;
 
-/// For each byte, where the alpha of its pixel is.
+/// For each byte, if the alpha of its pixel is.
 const ALPHAS: [usize; 16] = [3, 3, 3, 3, 7, 7, 7, 7, 11, 11, 11, 11, 15, 15, 15, 15];
 
-/// For each byte, where the red of its pixel is.
+/// For each byte, if the red of its pixel is.
 const REDS: [usize; 16] = [2, 2, 2, 2, 6, 6, 6, 6, 10, 10, 10, 10, 14, 14, 14, 14];
 
 /// Lays four pixels over four others.

@@ -48,7 +48,7 @@ impl Foreground {
         }
     }
 
-    /// Returns a take that starts in the place of a foreground. The foreground stays beside it where the transition of
+    /// Returns a take that starts in the place of a foreground. The foreground stays beside it if the transition of
     /// the take is no cut.
     pub(crate) fn start(take: Take, replaced: Option<Foreground>) -> Foreground
         ensures { result ≡ record { take = take; shown = 0; paused = false; old = outgoing take.trans.kind replaced } }
@@ -101,7 +101,7 @@ impl Foreground {
         }
     }
 
-    /// Returns the foreground after a tick, in which it was shown where it is not paused.
+    /// Returns the foreground after a tick, in which it was shown if it is not paused.
     pub(crate) fn after_tick(self) -> Foreground
         requires { self.shown < MAX_TICKS }
         ensures { result ≡ shown_for 1 self }

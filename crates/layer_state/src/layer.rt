@@ -48,14 +48,14 @@ impl Layer {
         }
     }
 
-    /// Returns the foreground without the content that it replaces, `None` exactly where there is no foreground.
+    /// Returns the foreground without the content that it replaces, `None` exactly if there is no foreground.
     pub fn front(&self) -> Option<Front>
         ensures { result ≡ option_map front_of self.now.foreground }
     {
         self.foreground.map(|foreground| foreground.front())
     }
 
-    /// Returns the background, `None` exactly where there is none.
+    /// Returns the background, `None` exactly if there is none.
     pub fn back(&self) -> Option<Take>
         ensures { result ≡ self.now.background }
     {
@@ -140,7 +140,7 @@ impl Layer {
         shown
     }
 
-    /// Starts the background where it starts by itself at the tick that comes.
+    /// Starts the background if it starts by itself at the tick that comes.
     fn make_ready(&mut self)
         ensures ready { self.new ≡ ready self.old }
         ensures room { ForSome self.old.foreground (λ foreground. foreground.shown < MAX_TICKS)
@@ -151,7 +151,7 @@ impl Layer {
         }
     }
 
-    /// Makes the background the foreground, where there is one.
+    /// Makes the background the foreground, if there is one.
     fn start(&mut self)
         ensures { self.new ≡ start self.old }
     {
@@ -160,7 +160,7 @@ impl Layer {
         }
     }
 
-    /// Pauses or unpauses the foreground, where there is one.
+    /// Pauses or unpauses the foreground, if there is one.
     fn set_paused(&mut self, paused: bool)
         ensures { self.new ≡ with_pause paused self.old }
     {

@@ -61,7 +61,7 @@ course_at-settings ticks (x ∷ xs) table place prop =
     course_at-settings ticks xs (with_setting ticks table x) place prop
     ∙ ap (λ (course : Course). fold (course_after ticks place prop) course xs) (course_at-setting ticks table x place prop)
 
--- numbers on their way are, from now on, where acts put them
+-- numbers on their way are, from now on, if acts put them
 pub Follows : PlaceView → Prop → ℕ → Course → List Act → Type 0
 Follows place prop ticks course acts = (t : ℕ) → ticks ≤ t → numbers_at course t ≡ tuned_value (tuning acts place) prop t
 

@@ -9,7 +9,7 @@ use Rattle.mixer_state.specs.declared.course.Course.{Course}
 abbrev pub standing : List ℤ → Course
 standing values = record { from = values; to = values; start = 0; duration = 0; curve = Linear }
 
--- where numbers are after `t` ticks
+-- if numbers are after `t` ticks
 abbrev pub numbers_at : Course → ℕ → List ℤ
 numbers_at course t = all_along course.from course.to (t - course.start) course.duration
 

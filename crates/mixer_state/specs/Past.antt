@@ -10,7 +10,7 @@ use Rattle.history_model.specs.stage.Resolved.{waiting_settings}
 use Rattle.history_model.specs.stage.Value.{value_at}
 use Rattle.mixer_state.specs.Mixer.{MixerView, values_of, waiting_on}
 
--- a mixer is where these acts put it when `ticks` ticks have passed: each value, now and at any later time, is the one that
+-- a mixer is if these acts put it when `ticks` ticks have passed: each value, now and at any later time, is the one that
 -- they give, and the settings that wait are theirs
 pub record Represents (mixer : MixerView) (acts : List Act) (ticks : ℕ) : Type 0 where
   pub latest : mixer.latest ≤ ticks
@@ -23,7 +23,7 @@ abbrev pub TakesCommand : Cmd → ℕ → MixerView → MixerView → Type 0
 TakesCommand cmd ticks before after =
     (acts : List Act) → Represents before acts ticks → Represents after (act_after ticks cmd ∷ acts) ticks
 
--- whether a command changes no mixer value and no waiting setting: swaps do where they move the mixer values
+-- whether a command changes no mixer value and no waiting setting: swaps do if they move the mixer values
 abbrev pub leaves_mixer : Cmd → Bool
 leaves_mixer (Load place take) = true
 leaves_mixer (LoadBg place take) = true

@@ -21,12 +21,12 @@ use std::marker::Model;
 
 /// The mixer values of all places of its channels, which count from 1, and the settings that wait.
 ///
-/// A mixer represents acts, which are the commands so far with the ticks before each, where its values and its waiting
+/// A mixer represents acts, which are the commands so far with the ticks before each, if its values and its waiting
 /// settings are those that they give. A new mixer represents no acts. Each call keeps, for all acts that the mixer
 /// represented, that it represents these acts with its own command at their end.
 ///
 /// Contracts see a number of spare settings, for which memory was taken. Only [`Mixer::set`], [`Mixer::commit`] and
-/// [`Mixer::swap_layers`] may use it, and only where it is used up do they give an [`AllocError`].
+/// [`Mixer::swap_layers`] may use it, and only if it is used up do they give an [`AllocError`].
 #[derive(Debug, Drop)]
 pub struct Mixer {
     places: Places,
@@ -69,8 +69,8 @@ impl Mixer {
     }
 
     /// Starts a setting after `ticks` ticks, whether it is marked as deferred or not: its value goes from where it is to
-    /// the new one. The channel is one of the mixer's, and `ticks` is not below that of an earlier set or commit. Where
-    /// memory runs out, the mixer is as before. It takes no memory where a setting is spare.
+    /// the new one. The channel is one of the mixer's, and `ticks` is not below that of an earlier set or commit. If
+    /// memory runs out, the mixer is as before. It takes no memory if a setting is spare.
     pub fn set(&mut self, _alloc: Global, setting: &Setting, ticks: u64) -> Result<(), AllocError>
         requires channel { IsConfigured self.old.channels setting.now.place.channel }
         requires time { self.old.latest ≤ ticks }
@@ -88,7 +88,7 @@ impl Mixer {
     }
 
     /// Puts a setting behind those of its channel that wait, whether it is marked as deferred or not. It returns `false`
-    /// exactly where 1,024 wait, and the mixer is then as before. The channel is one of the mixer's. It takes no memory.
+    /// exactly if 1,024 wait, and the mixer is then as before. The channel is one of the mixer's. It takes no memory.
     pub fn defer(&mut self, setting: &Setting) -> bool
         requires { IsConfigured self.old.channels setting.now.place.channel }
         ensures room { IsTrue result
@@ -108,8 +108,8 @@ impl Mixer {
     }
 
     /// Starts all waiting settings of a channel after `ticks` ticks, in the order in which they came. The channel is one
-    /// of the mixer's, and `ticks` is not below that of an earlier set or commit. Where memory runs out, the mixer is as
-    /// before. It takes no memory where as many settings are spare as wait.
+    /// of the mixer's, and `ticks` is not below that of an earlier set or commit. If memory runs out, the mixer is as
+    /// before. It takes no memory if as many settings are spare as wait.
     pub fn commit(&mut self, _alloc: Global, channel: u8, ticks: u64) -> Result<(), AllocError>
         requires channel { IsConfigured self.old.channels channel }
         requires time { self.old.latest ≤ ticks }
@@ -148,8 +148,8 @@ impl Mixer {
         self.places.clear(channel);
     }
 
-    /// Exchanges the values of two places. What waits stays where it is. The channels are the mixer's. Where memory runs
-    /// out, the mixer is as before. It takes no memory where a setting is spare.
+    /// Exchanges the values of two places. What waits stays where it is. The channels are the mixer's. If memory runs
+    /// out, the mixer is as before. It takes no memory if a setting is spare.
     pub fn swap_layers(&mut self, _alloc: Global, a: Place, b: Place) -> Result<(), AllocError>
         requires a { IsConfigured self.old.channels a.channel }
         requires b { IsConfigured self.old.channels b.channel }
@@ -200,7 +200,7 @@ impl Mixer {
         self.waiting[usize::from(channel) - 1].as_slice().len() as u32
     }
 
-    /// Takes memory for at least `places` spare settings. Where it runs out, fewer are spare. All else is as before, and
+    /// Takes memory for at least `places` spare settings. If it runs out, fewer are spare. All else is as before, and
     /// no fewer settings are spare than before.
     pub fn reserve(&mut self, _alloc: Global, places: u32) -> Result<(), AllocError>
         ensures ok { OnOk result (places ≤ self.new.spare) }

@@ -2,7 +2,7 @@
 use Rattle.std.proofs.Common.{◌≡◌, ℕ, zero, suc, ◌+◌, List, [], ◌∷◌, ◌++◌, length, get_or, set, sym, ap, ◌∙◌, arith, append_assoc, append-nil}
 use Rattle.std.specs.List.{flat_map}
 
--- where the last list has more at its end, so have all of them together
+-- if the last list has more at its end, so have all of them together
 pub last_grows : {X A : Type 0} (f : X → List A) (xs : List X) (i : ℕ) (d y : X) (more : List A) → i + 1 ≡ length xs →
     f y ≡ f (get_or xs i d) ++ more → flat_map f (set xs i y) ≡ flat_map f xs ++ more
 last_grows f [] i d y more last grows = absurd (omega (arith, last))

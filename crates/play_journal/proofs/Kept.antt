@@ -104,7 +104,7 @@ none_of_position : (n : ℕ) (stop : Option Event) → option_map (λ _. n) stop
 none_of_position n None none = refl
 none_of_position n (Some event) none = absurd (cc)
 
--- where no stop is held, none is kept
+-- if no stop is held, none is kept
 pub no_stop : (counts : Counts) (entries : List Entry) (after : ℕ) (stop : Option Event) →
     AreCounted counts entries after stop → stop_at (kept_events entries after stop) ≡ None → stop ≡ None
 no_stop counts entries after stop counted none =

@@ -21,8 +21,8 @@ pub record IsJournal (journal : JournalView) : Type 0 where
   pub commands : held journal.events ≤ journal.limit
   pub ticks : ticks journal.events ≤ MAX_TICKS
 
--- an event of `commands` commands is refused with this fault: the journal is full exactly where its commands and these
--- are more than its limit, and memory may run out where they are not
+-- an event of `commands` commands is refused with this fault: the journal is full exactly if its commands and these
+-- are more than its limit, and memory may run out if they are not
 abbrev pub IsRefused : JournalView → ℕ → PushFault → Type 0
 IsRefused journal commands OutOfMemory = held journal.events + commands ≤ journal.limit
 IsRefused journal commands (JournalFull already) = (journal.limit < held journal.events + commands) × (already ≡ held journal.events)

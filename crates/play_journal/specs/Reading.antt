@@ -10,7 +10,7 @@ use Rattle.play_journal.specs.declared.entries.Entry.{Entry}
 abbrev pub one_run : Event → Run
 one_run event = record { event = event; times = 1 }
 
--- the run of `ticks` ticks, none where there is no tick
+-- the run of `ticks` ticks, none if there is no tick
 abbrev pub tick_runs : ℕ → List Run
 tick_runs zero = []
 tick_runs (suc n) = record { event = Tick; times = suc n } ∷ []

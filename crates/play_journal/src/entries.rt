@@ -47,7 +47,7 @@ impl EntryList {
         })
     }
 
-    /// Adds an entry at the end. Where memory runs out, the list is as before.
+    /// Adds an entry at the end. If memory runs out, the list is as before.
     pub(crate) fn push(&mut self, alloc: Global, entry: Entry) -> Result<(), AllocError>
         ensures ok { OnOk result (self.new ≡ self.old ++ entry ∷ []) }
         ensures err { OnErr result (self.new ≡ self.old) }
@@ -66,7 +66,7 @@ impl EntryList {
     }
 }
 
-/// Adds an entry to the last block, or where that is full or there is none, to a new one.
+/// Adds an entry to the last block, or if that is full or there is none, to a new one.
 fn push_entry(blocks: &mut Vec<Vec<Entry>>, alloc: Global, entry: Entry) -> Result<(), AllocError>
     ensures ok { OnOk result (flat_map (λ block. block.items) blocks.new.items
         ≡ flat_map (λ block. block.items) blocks.old.items ++ entry ∷ []) }

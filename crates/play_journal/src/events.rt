@@ -13,7 +13,7 @@ use std::marker::Model;
 #[derive(Clone, Copy, Debug)]
 pub struct EventRun<'a> {
     pub event: &'a Event,
-    /// At least 1, and 1 where the event is no tick.
+    /// At least 1, and 1 if the event is no tick.
     pub times: u64,
 }
 

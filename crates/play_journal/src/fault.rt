@@ -9,7 +9,7 @@ use std::fmt;
 pub enum PushFault {
     /// Memory ran out.
     OutOfMemory,
-    /// The commands of the event would have made more than the limit, where `held` commands are held.
+    /// The commands of the event would have made more than the limit, if `held` commands are held.
     JournalFull { held: u32 },
 }
 

@@ -66,8 +66,8 @@ impl Journal {
         })
     }
 
-    /// Adds a command at the end. It is refused where the commands held and this one are more than the limit, which is
-    /// tested first, and where memory runs out. After a fault the journal is as before. No stop may be held.
+    /// Adds a command at the end. It is refused if the commands held and this one are more than the limit, which is
+    /// tested first, and if memory runs out. After a fault the journal is as before. No stop may be held.
     pub fn push(&mut self, alloc: Global, tag: Tag, cmd: Cmd) -> Result<(), PushFault>
         requires { stop_at self.old.events ≡ None }
         ensures ok { OnOk result (self.new ≡ followed_by (Do tag cmd) self.old) }
@@ -82,8 +82,8 @@ impl Journal {
         Ok(())
     }
 
-    /// Adds a batch of commands at the end, which are one event. There is at least one command. The batch is refused where
-    /// the commands held and those of the batch are more than the limit, which is tested first, and where memory runs out.
+    /// Adds a batch of commands at the end, which are one event. There is at least one command. The batch is refused if
+    /// the commands held and those of the batch are more than the limit, which is tested first, and if memory runs out.
     /// After a fault the journal is as before. No stop may be held.
     pub fn push_batch(&mut self, alloc: Global, tag: Tag, cmds: &[Cmd]) -> Result<(), PushFault>
         requires running { stop_at self.old.events ≡ None }
@@ -103,7 +103,7 @@ impl Journal {
     }
 
     /// Adds a command or a batch of `commands` commands at the end. The journal has room for that many, and no stop is held.
-    /// Where memory runs out, the journal is as before.
+    /// If memory runs out, the journal is as before.
     fn push_commands(
         &mut self,
         alloc: Global,
@@ -175,7 +175,7 @@ impl Journal {
         self.ticks
     }
 
-    /// Returns the position of the stop, which is the number of events before it, and `None` exactly where no stop is
+    /// Returns the position of the stop, which is the number of events before it, and `None` exactly if no stop is
     /// held.
     pub fn stopped(&self) -> Option<u64>
         ensures value { result ≡ stop_at self.now.events }

@@ -1,7 +1,7 @@
 //! The journal of a stage: the commands, batches, ticks and the stop that have happened, in order.
 //!
 //! Contracts see a [`Journal`] as the most commands that it may hold and the list of its events. A push adds one event at
-//! the end or, where it gives a fault, changes nothing. The events are read back as runs, in which ticks that follow one
+//! the end or, if it gives a fault, changes nothing. The events are read back as runs, in which ticks that follow one
 //! another are one item.
 #![tactic(auto)]
 

@@ -41,7 +41,7 @@ Failed-rose : (before state after : SinkState) → state.faults ≡ before.fault
 Failed-rose before state after same failed =
     let count : after.faults ≡ one_more state.faults = ap (λ (s : SinkState). s.faults) failed in omega arith
 
--- the count of a sink rose where it failed
+-- the count of a sink rose if it failed
 pub Fails-rose : (bytes : List ℕ) (before after : SinkState) → Fails bytes before after → Rose before.faults after.faults
 Fails-rose bytes before after fails =
     Failed-rose before (after_taking before (take fails.count bytes)) after refl fails.stopped

@@ -1,4 +1,4 @@
--- Texts that are written part by part, where a `?` follows each part.
+-- Texts that are written part by part, if a `?` follows each part.
 use Rattle.std.proofs.Common.{◌≡◌, ℕ, ◌<◌, List, [], ◌∷◌, ◌++◌, take, length, get_or, refl, subst}
 use Rattle.std.specs.List.{flat_map}
 use Rattle.std.proofs.lemmas.List.{length_push}

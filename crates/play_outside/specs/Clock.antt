@@ -10,7 +10,7 @@ Beats Pulse before after = after ≡ after_pulse before
 Beats Closed before after = after ≡ after_clock_closed before
 Beats Failed before after = after ≡ after_clock_fault before
 
--- a pulse is one of those that were left, and where the clock is closed none was left
+-- a pulse is one of those that were left, and if the clock is closed none was left
 abbrev pub LeavesPulses : Beat → ℕ → ℕ → Type 0
 LeavesPulses Pulse before after = before ≡ after + 1
 LeavesPulses Closed before after = (before ≡ 0) × (after ≡ 0)

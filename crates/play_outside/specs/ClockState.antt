@@ -7,7 +7,7 @@ pub record ClockTold : Type 0 where
   pub pulses : ℕ
   pub closed : Bool
 
--- what was given, where the clock tells it, and how often it has failed
+-- what was given, if the clock tells it, and how often it has failed
 pub record ClockState : Type 0 where
   pub told : Option ClockTold
   pub faults : ℕ

@@ -17,7 +17,7 @@ pub record Files : Type 0 where
   pub configs : List ConfigFile
   pub media : List MediaFile
 
--- what is held, where it is told, and how often reading has failed
+-- what is held, if it is told, and how often reading has failed
 pub record FolderState : Type 0 where
   pub files : Option Files
   pub faults : ℕ

@@ -6,7 +6,7 @@ use Rattle.play_outside.specs.SinkState.{SinkState}
 use Rattle.play_outside.specs.declared.link.LinkStep.{LinkStep}
 use Rattle.play_outside.specs.declared.link.LinkStep.TheVariants.{Got, End, Again, Failed}
 
--- how many bytes were taken, 0 where the link does not tell them
+-- how many bytes were taken, 0 if the link does not tell them
 abbrev pub count_taken : Option (List ℕ) → ℕ
 count_taken None = 0
 count_taken (Some bytes) = length bytes

@@ -18,7 +18,7 @@ Arrives Again before after = after ≡ after_none_came before
 Arrives Closed before after = after ≡ after_listener_closed before
 Arrives Failed before after = after ≡ after_listener_fault before
 
--- the answer is the first of those that were planned, Closed where none was left, or Failed
+-- the answer is the first of those that were planned, Closed if none was left, or Failed
 abbrev pub LeavesAnswers : {L : Type 0} → Arrival L → List (Arrival L) → List (Arrival L) → Type 0
 LeavesAnswers (Came line) before after = before ≡ Came line ∷ after
 LeavesAnswers Again before after = before ≡ Again ∷ after

@@ -7,7 +7,7 @@ pub record ListenerTold (L : Type 0) : Type 0 where
   pub returned : List L
   pub closed : Bool
 
--- what was told, where the listener tells it; how many links came and were not given back; how often it found no link
+-- what was told, if the listener tells it; how many links came and were not given back; how often it found no link
 -- yet; how often it has failed; and its mark
 pub record ListenerState (L : Type 0) : Type 0 where
   pub told : Option (ListenerTold L)

@@ -3,9 +3,9 @@ use Rattle.std.specs.Prelude.{ℕ, Option, Some, None, List, ◌++◌}
 use Rattle.play_outside.specs.Faults.{one_more}
 use Rattle.play_outside.specs.Reading.{Reading}
 
--- the bytes that were taken, where the sink says which, how many of its calls failed, its mark, and the bytes that it had
--- taken when a write last failed, where a write has failed and the sink says which; then, of a link, what it tells of its
--- reads, where it tells of them, and how many of its reads found nothing yet. A sink that is no link tells of no reads,
+-- the bytes that were taken, if the sink says which, how many of its calls failed, its mark, and the bytes that it had
+-- taken when a write last failed, if a write has failed and the sink says which; then, of a link, what it tells of its
+-- reads, if it tells of them, and how many of its reads found nothing yet. A sink that is no link tells of no reads,
 -- and 0 of them found nothing yet
 pub record SinkState : Type 0 where
   pub taken : Option (List ℕ)

@@ -15,7 +15,7 @@ pub enum Beat {
 
 /// Pulses, one for each tick.
 pub trait Clock: Send + Drop {
-    /// How many pulses were given and whether the clock has answered `Closed`, where it tells this, and how many faults
+    /// How many pulses were given and whether the clock has answered `Closed`, if it tells this, and how many faults
     /// there were.
     ghost state: { Self → ClockState };
 

@@ -37,8 +37,8 @@ impl<const ROOM: usize> Gather<ROOM> {
         }
     }
 
-    /// Adds bytes after those that wait. Nothing is written while there is room. Where there is none, the bytes that wait
-    /// are written first, and then the added ones wait, or are written too where they are more than `ROOM`. After a
+    /// Adds bytes after those that wait. Nothing is written while there is room. If there is none, the bytes that wait
+    /// are written first, and then the added ones wait, or are written too if they are more than `ROOM`. After a
     /// failed write nothing more is written, and no byte waits.
     pub fn add<K: Sink>(&mut self, bytes: &[u8], to: &mut K) -> Sent
         ensures adds { Adds result (self.old ++ bytes.now) self.new (K.state to.old) (K.state to.new) }

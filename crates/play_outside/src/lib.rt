@@ -1,7 +1,7 @@
 //! The outside of the server as traits: what it reads, what it writes, the folder of configuration and media, and a clock,
 //! links and doors.
 //!
-//! Each object counts its faults. The count never falls, a call returns `Failed` only where the count rose in that
+//! Each object counts its faults. The count never falls, a call returns `Failed` only if the count rose in that
 //! call, and any other call leaves the count as it was. An object may tell what it has left, took or holds, so that a
 //! contract can speak of bytes; the contracts of an object that tells nothing claim nothing about them.
 #![tactic(auto)]

@@ -28,7 +28,7 @@ pub struct Look {
 
 /// A connection to a client.
 pub trait Link: Sink + Send {
-    /// Reads into the beginning of the buffer, finds the end, finds nothing yet, or fails and gives nothing. Where
+    /// Reads into the beginning of the buffer, finds the end, finds nothing yet, or fails and gives nothing. If
     /// nothing has come yet the count of idle looks rises by one, and a failed read raises the count of faults by one. A
     /// link that tells of its reads tells each one that does not fail, with how many bytes it had taken by then. What
     /// was taken and the mark stay.

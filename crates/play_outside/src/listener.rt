@@ -27,11 +27,11 @@ pub trait Listener: Send + Drop {
     /// The links that come.
     type Line: Link;
 
-    /// The links that were given back and whether the listener has answered `Closed`, where it tells this; how many
+    /// The links that were given back and whether the listener has answered `Closed`, if it tells this; how many
     /// links are out; how often there was no link yet; how many faults there were; and the mark, which no call changes.
     ghost state: { Self → ListenerState Self.Line };
 
-    /// Looks for a link. Where none has come yet the count of idle looks rises by one, and a failed call raises the
+    /// Looks for a link. If none has come yet the count of idle looks rises by one, and a failed call raises the
     /// count of faults by one. A link that came took nothing yet, gave nothing, and has not failed.
     fn next(&mut self) -> Arrival<Self::Line>
         requires { (state self.old).away < MOST_AWAY }

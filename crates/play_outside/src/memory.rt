@@ -1,4 +1,4 @@
-//! Objects in memory. Their calls fail where it is planned.
+//! Objects in memory. Their calls fail if it is planned.
 
 mod clock;
 mod door;

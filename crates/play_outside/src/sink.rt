@@ -63,7 +63,7 @@ impl FromResidual<WriteFailed> for Sent {
 
 /// A place to write bytes to.
 pub trait Sink: Drop {
-    /// What was taken, now and when a write last failed, where the sink says so; how many calls failed; the mark, which
+    /// What was taken, now and when a write last failed, if the sink says so; how many calls failed; the mark, which
     /// no call changes; and of a link what it tells of its reads, which no write changes.
     ghost state: { Self → SinkState };
 

@@ -16,7 +16,7 @@ pub enum ReadStep {
 
 /// Bytes to read, from the first to the last.
 pub trait Source {
-    /// What is left, where it is told, and how many faults there were.
+    /// What is left, if it is told, and how many faults there were.
     ghost state: { Self → SourceState };
 
     /// Reads into the beginning of the buffer, finds that nothing is left, or fails and gives nothing. A failed read

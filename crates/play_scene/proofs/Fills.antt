@@ -36,7 +36,7 @@ visible-is width fill clip at x result f s k e is =
     ∙ (λ i. if is_kept width (wide_fits (number_at clip at) k i) (wide_fits (number_at clip (at + 2)) e i) x
     then filled_column width (wide_fits (number_at fill at) f i) (wide_fits (number_at fill (at + 2)) s i) x else None))
 
--- a placed pixel is the faded one of the raster where a column and a row are shown
+-- a placed pixel is the faded one of the raster if a column and a row are shown
 pub placed-shown : (frame : Geometry) (placement : Placement) (raster : ℕ → ℕ → PixelView) (x y column row : ℕ) →
     visible_column frame.width placement.fill placement.clip 0 x ≡ Some column →
     visible_column frame.height placement.fill placement.clip 1 y ≡ Some row →
@@ -44,7 +44,7 @@ pub placed-shown : (frame : Geometry) (placement : Placement) (raster : ℕ → 
 placed-shown frame placement raster x y column row across down =
     λ i. faded_at (across i) (down i) raster (nat_abs placement.opacity)
 
--- and transparent where one of them is not
+-- and transparent if one of them is not
 no_row : (column : Option ℕ) (raster : ℕ → ℕ → PixelView) (opacity : ℕ) → faded_at column None raster opacity ≡ transparent
 no_row None raster opacity = refl
 no_row (Some column) raster opacity = refl
@@ -62,7 +62,7 @@ placed-no_row frame placement raster x y none =
     ap (λ (row : Option ℕ). faded_at column row raster (nat_abs placement.opacity)) none
     ∙ no_row column raster (nat_abs placement.opacity)
 
--- a fill with a width brings the column of the quotient, where there is one
+-- a fill with a width brings the column of the quotient, if there is one
 filled-wide : (width : ℕ) (edge scale : ℤ) (x : ℕ) (column : ℤ) → scale ≢ pos 0 →
     column ≡ floor_div (twice_middle x -ℤ twice_part width edge) (pos 2 *ℤ scale) → filled_column width edge scale x ≡ column_in width column
 filled-wide width edge (pos zero) x column some is = absurd (some refl)
@@ -97,7 +97,7 @@ column-inside width (pos n) some h =
     ap (λ (t : Bool). if t then Some n else None) (lt-ltb n width below)
 column-inside width (negsuc n) some h = absurd (omega (arith, ints))
 
--- the test of a clip, where the first part holds
+-- the test of a clip, if the first part holds
 pub kept-test : (width : ℕ) (edge extent : ℤ) (x : ℕ) (start middle end : ℤ) → start ≡ twice_part width edge → middle ≡ twice_middle x →
     end ≡ twice_part width (edge +ℤ extent) → int_le start middle ≡ true → int_lt middle end ≡ is_kept width edge extent x
 kept-test width edge extent x start middle end s m e h =

@@ -44,7 +44,7 @@ pub fn pixel(
     pixel
 }
 
-/// Returns the pixel keyed by the red of a keyer, and as it is where there is no keyer.
+/// Returns the pixel keyed by the red of a keyer, and as it is if there is no keyer.
 fn keyed(pixel: Pixel, keyer: Option<u8>) -> Pixel
     ensures { result ≡ keyed_by pixel keyer }
 {

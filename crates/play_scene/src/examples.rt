@@ -60,7 +60,7 @@ pub fn frame_of_a_channel()
     ensures narrower { reds_of (still.Channel 1 ∷ []) 1 ≡ 60 ∷ [] }
 {}
 
-/// A piece replaces the bytes where it is put.
+/// A piece replaces the bytes if it is put.
 pub fn piece_of_bytes()
     ensures { with_piece 2 (7 ∷ 8 ∷ []) (0 ∷ 1 ∷ 2 ∷ 3 ∷ 4 ∷ []) ≡ 0 ∷ 1 ∷ 7 ∷ 8 ∷ 4 ∷ [] }
 {}

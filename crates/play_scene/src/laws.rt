@@ -13,7 +13,7 @@ ghost use Rattle.history_model.specs.pictures.Scene.{scene};
 ghost use Rattle.play_scene.specs.Frames.{ArePictures, FrameView, IsFrame, Shows, frame_at, pictures_of, pixel_in, with_picture, zero_frame};
 ghost use Rattle.play_scene.specs.Picture.{clips_of};
 
-/// Frames and a media table give the pictures of the next tick. Where they give those after a history, a pixel of the scene of a
+/// Frames and a media table give the pictures of the next tick. If they give those after a history, a pixel of the scene of a
 /// channel is the pixel that its frame has at the tick after the history.
 pub fn pixels_of_histories()
     ensures some { (frames : List FrameView) (entries : List Entry) → ArePictures (pictures_of frames entries) frames entries }
@@ -23,7 +23,7 @@ pub fn pixels_of_histories()
         ≡ frame_pixel setup history channel x y }
 {}
 
-/// Where the frames of the tick before give the pictures after a history, a frame into which the picture of the channel's scene
+/// If the frames of the tick before give the pictures after a history, a frame into which the picture of the channel's scene
 /// is written has the bytes of the channel's frame at the tick after the history.
 pub fn rendered_frames()
     ensures { (setup : Setup) (history : List Event) (prev next : List FrameView) (entries : List Entry) (channel : ℕ) →

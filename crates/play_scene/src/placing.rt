@@ -13,8 +13,8 @@ use clip_format::MediaTable;
 use pixel_math::{Pixel, fade};
 use play_types::{Drawn, Geometry, MICROS_PER_UNIT};
 
-/// Returns the pixel at column `x` and row `y` of a frame of this size where a layer is laid into it: the pixel of its
-/// raster that its fill brings there, at its opacity, and transparent where its clip does not keep the place or its fill does
+/// Returns the pixel at column `x` and row `y` of a frame of this size if a layer is laid into it: the pixel of its
+/// raster that its fill brings there, at its opacity, and transparent if its clip does not keep the place or its fill does
 /// not reach it.
 pub(crate) fn placed_pixel(
     layer: &Drawn,
@@ -45,7 +45,7 @@ pub(crate) fn placed_pixel(
 }
 
 /// Returns the raster column that column `x` of a frame of `width` columns shows by the left edges and widths of a fill and a
-/// clip, in millionths of the frame, and `None` where it shows none. It does so for rows too.
+/// clip, in millionths of the frame, and `None` if it shows none. It does so for rows too.
 fn visible_column(width: u16, fill: (i64, i64), clip: (i64, i64), x: u16) -> Option<u16>
     requires fill { IsWide fill.0 × IsWide fill.1 }
     requires clip { IsWide clip.0 × IsWide clip.1 }
@@ -73,7 +73,7 @@ fn is_kept(width: u16, edge: i64, extent: i64, x: u16) -> bool
 }
 
 /// Returns the raster column that the left edge and width of a fill, in millionths of the frame, bring to column `x` of a
-/// frame of `width` columns, and `None` where they bring none.
+/// frame of `width` columns, and `None` if they bring none.
 fn filled_column(width: u16, edge: i64, scale: i64, x: u16) -> Option<u16>
     requires edge { IsWide edge }
     requires scale { IsWide scale }

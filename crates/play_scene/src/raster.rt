@@ -16,7 +16,7 @@ pub(crate) fn scaled_to(columns: u16, width: u16, x: u16) -> u64
     (2 * u64::from(x) + 1) * u64::from(columns) / (2 * u64::from(width))
 }
 
-/// Returns the pixel of a clip at a frame, column and row: transparent where it has no such frame.
+/// Returns the pixel of a clip at a frame, column and row: transparent if it has no such frame.
 pub(crate) fn clip_pixel(clip: &Clip, frame: u64, column: u64, row: u64) -> Pixel
     requires columns { column < 2 ^ 33 }
     requires rows { row < 2 ^ 33 }

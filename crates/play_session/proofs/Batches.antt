@@ -14,7 +14,7 @@ use Rattle.history_model.proofs.EachAsk.{asked-holds}
 use Rattle.history_model.proofs.OpenBatch.{batch-begin, batch-command, batch-same, is_open-closing, is_open-other}
 use Rattle.play_session.specs.inner.BatchState.{BatchState, with_command, after_outside, after_inside, after_meaning, step_for}
 
--- the batch is open where the asks leave one open, and then it holds their commands
+-- the batch is open if the asks leave one open, and then it holds their commands
 pub record IsBatchOf (b : BatchState) (asked : List Parsed) : Type 0 where
   pub opened : b.is_open ≡ is_open asked
   pub commands : b.is_open ≡ true → b.commands ≡ batch asked

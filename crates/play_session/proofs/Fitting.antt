@@ -68,7 +68,7 @@ with_command_aimed config commands command before aimed = by_query (is_query com
     by_query false true = All-append (IsAimed config) commands (command ∷ []) before (All-cons (IsAimed config) command [] aimed (All-nil (IsAimed config)))
     by_query false false = before
 
--- the same after one more ask, where a batch is open
+-- the same after one more ask, if a batch is open
 inside_aimed : (config : ConfigView) (media : List MediaNameView) (batch : BatchState) (words : List (List ℕ)) (found : Parsed)
     → parsed config media words ≡ Ok found → AreAimed config batch.commands → AreAimed config (after_inside batch found).commands
 inside_aimed config media batch words (asked.Stage command) is before =
@@ -81,7 +81,7 @@ inside_aimed config media batch words asked.Version is before = before
 inside_aimed config media batch words asked.Bye is before = before
 inside_aimed config media batch words asked.Kill is before = before
 
--- and where none is open
+-- and if none is open
 outside_aimed : (config : ConfigView) (batch : BatchState) (found : Parsed) → AreAimed config batch.commands → AreAimed config (after_outside batch found).commands
 outside_aimed config batch (asked.Stage command) before = before
 outside_aimed config batch asked.Begin before = All-nil (IsAimed config)

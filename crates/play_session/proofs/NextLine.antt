@@ -47,7 +47,7 @@ slice_get_after (y ∷ ys) x = slice_get_after ys x
 until_end_one : (s : model.Step) → until_end (s ∷ []) ≡ s ∷ []
 until_end_one s = elim (cases_Bool (is_end s)) [ inl ends_it ↦ rw ends_it refl | inr goes ↦ rw goes refl ]
 
--- a step of the code ends the connection where the step of the definition does
+-- a step of the code ends the connection if the step of the definition does
 ends-viewed : (result : Step) (commands : List Cmd) (s : model.Step) → viewed result commands ≡ Some s → ends result ≡ is_end s
 ends-viewed (step.Local answer) commands s e = let same : model.Local answer ≡ s = cc in ap is_end same
 ends-viewed (step.Ask command) commands s e = let same : model.Ask command ≡ s = cc in ap is_end same
@@ -82,7 +82,7 @@ pub record LinesBefore : Type 0 where
 pub record NextLine : Type 0 where
   -- the line
   pub line : Line
-  -- the number of the line, where it is given up, and else none
+  -- the number of the line, if it is given up, and else none
   pub later : List ℕ
   -- the step of the line
   pub step : model.Step
@@ -98,14 +98,14 @@ pub record LineStep (earlier : LinesBefore) (next : NextLine) : Type 0 where
 abbrev lines_before : ConfigView → List MediaNameView → Progress → List Line → LinesBefore
 lines_before config media progress lines = record { config = config; media = media; given_up = progress.given_up; lines = lines }
 
--- the next line, where it is read
+-- the next line, if it is read
 abbrev line_read : LinesBefore → Line → NextLine
 line_read earlier line =
     let asked = asks earlier.config earlier.media earlier.given_up earlier.lines in
     let meaning = line_meaning earlier.config earlier.media line in
     record { line = line; later = []; step = step_of_meaning asked meaning; asked = asked ++ cons_option (asked_by meaning) [] }
 
--- the next line, where it is given up
+-- the next line, if it is given up
 abbrev line_given_up : LinesBefore → Line → NextLine
 line_given_up earlier line = record {
   line = line;
@@ -195,7 +195,7 @@ LineStep-given_up earlier line =
           ∙ rw last (append-nil (asks earlier.config earlier.media all earlier.lines) ∙ asks-later earlier.config earlier.media earlier.given_up number earlier.lines high);
     }
 
--- where a step was given, what a caller learns of it
+-- if a step was given, what a caller learns of it
 Gives-step : (config : ConfigView) (media : List MediaNameView) (result : Step) (after : SessionState) (progress : Progress) (one : model.Step)
     → viewed result after.batch ≡ Some one
     → GivesStep config media result after progress
@@ -216,7 +216,7 @@ gives_step config media result after progress further same next represents =
     subst (λ (q : Progress). (slice_get (steps config media q.given_up progress.stream) progress.given ≡ viewed result after.batch) × Represents config media after q)
     same (next, represents)
 
--- a line is given up exactly where the reply says so
+-- a line is given up exactly if the reply says so
 out_of_memory-is : (answer : Reply) → is_out_of_memory answer ≡ true → answer ≡ reply.NoMemory
 out_of_memory-is (reply.Done name) is = cc
 out_of_memory-is (reply.Value values) is = cc

@@ -47,7 +47,7 @@ Represents-fed config media before after progress taken s reads same_open same_b
   ended = same_ended ∙ s.ended;
 }
 
--- where no whole line is held, all steps of the stream were given
+-- if no whole line is held, all steps of the stream were given
 pub all_given : (config : ConfigView) (media : List MediaNameView) (session : SessionState) (progress : Progress)
     → Represents config media session progress
     → ((bytes : List ℕ) → reader.Represents session.reader bytes → lines_of bytes ≡ [])

@@ -7,7 +7,7 @@ use Rattle.history_model.specs.sessions.Session as model
 use Rattle.play_session.specs.declared.step.Step.{Step}
 use Rattle.play_session.specs.declared.step.Step.TheVariants as step
 
--- the step of the definition, with the commands of the batch that is asked for; none where more bytes are needed
+-- the step of the definition, with the commands of the batch that is asked for; none if more bytes are needed
 abbrev pub viewed : Step → List Cmd → Option model.Step
 viewed (step.Local answer) commands = Some (model.Local answer)
 viewed (step.Ask command) commands = Some (model.Ask command)

@@ -51,7 +51,7 @@ impl Batch {
         self.commands.clear();
     }
 
-    /// Returns the commands of the batch, or of the last one where the batch is closed.
+    /// Returns the commands of the batch, or of the last one if the batch is closed.
     pub fn commands(&self) -> &[Cmd]
         ensures { result.now ≡ self.now.commands }
     {
@@ -82,7 +82,7 @@ impl Batch {
         }
     }
 
-    /// Does what is asked for where no batch is open, and returns the step of the line.
+    /// Does what is asked for if no batch is open, and returns the step of the line.
     fn step_outside(&mut self, asked: Parsed) -> Step
         ensures step { viewed result self.new.commands ≡ Some (step_outside asked) }
         ensures batch { self.new ≡ after_outside self.old asked }
@@ -126,7 +126,7 @@ impl Batch {
         done(Name::Begin)
     }
 
-    /// Adds a command to the open batch, and returns the reply. The command is refused where it is a query, and where the
+    /// Adds a command to the open batch, and returns the reply. The command is refused if it is a query, and if the
     /// batch is full.
     fn add(&mut self, command: Cmd) -> Step
         ensures step { viewed result self.new.commands ≡ Some (step_waiting self.old.commands command) }
@@ -140,7 +140,7 @@ impl Batch {
         done(name)
     }
 
-    /// Closes the open batch, and returns the step: the stage is asked for the batch where it has a command.
+    /// Closes the open batch, and returns the step: the stage is asked for the batch if it has a command.
     fn commit(&mut self) -> Step
         ensures step { viewed result self.new.commands ≡ Some (step_commit self.old.commands) }
         ensures batch { self.new ≡ record { is_open = false; commands = self.old.commands } }

@@ -10,7 +10,7 @@ ghost use Rattle.play_types.specs.declared.reply.Reply.TheVariants.{Done, Cls, V
 ghost use Rattle.history_model.specs.sessions.Session.{Local, Ask, AskBatch, KillServer, EndConnection, Skip};
 ghost use Rattle.play_session.specs.Worked.{gives, gives_without, line, layer};
 
-/// Replies without the stage, where no batch is open.
+/// Replies without the stage, if no batch is open.
 pub fn replies()
     ensures refused { gives (line "FROB 1" ∷ line "PAUSE" ∷ line "PAUSE 2-0" ∷ line "PAUSE 1-x" ∷ line "PLAY 1-0 NONE" ∷ [])
         ≡ Local (Unknown (codes "FROB 1")) ∷ Local (Refused 402 name.Pause) ∷ Local (Refused 401 name.Pause) ∷ Local (Refused 403 name.Pause) ∷ Local (Refused 404 name.Play) ∷ [] }
@@ -32,7 +32,7 @@ pub fn batches()
         ≡ Local (Done name.Begin) ∷ Local (Done name.Stop) ∷ Local (Refused 401 name.Stop) ∷ Local (Refused 403 name.Info) ∷ Local (Unknown []) ∷ AskBatch (StopLayer (layer 2) ∷ []) ∷ [] }
 {}
 
-/// What ends a connection, where no batch is open.
+/// What ends a connection, if no batch is open.
 pub fn ends()
     ensures bye { gives (line "" ∷ line "BYE" ∷ line "INFO" ∷ []) ≡ Skip ∷ EndConnection ∷ [] }
     ensures kill { gives (line "INFO" ∷ line "KILL" ∷ line "INFO" ∷ []) ≡ Ask Info ∷ KillServer ∷ [] }

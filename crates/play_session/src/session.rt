@@ -67,7 +67,7 @@ impl Session {
         self.ended = false;
     }
 
-    /// Takes the bytes of `piece` up to and with its first LF, and returns how many bytes it took: 0 exactly where a whole
+    /// Takes the bytes of `piece` up to and with its first LF, and returns how many bytes it took: 0 exactly if a whole
     /// line is held or the piece is empty. It takes no memory, and keeps the batch.
     pub fn feed(&mut self, piece: &[u8]) -> usize
         ensures count { result ≡ taken_len self.old.reader.held piece.now }
@@ -79,11 +79,11 @@ impl Session {
         self.reader.feed(piece)
     }
 
-    /// Returns the step of the next line: `NeedMore` exactly where no whole line is held, and then the session stays as it
-    /// is; `Skip` exactly where the line has no word.
+    /// Returns the step of the next line: `NeedMore` exactly if no whole line is held, and then the session stays as it
+    /// is; `Skip` exactly if the line has no word.
     ///
     /// No step may be asked for after a `Kill` or a `Bye`. A line for which there is no memory is given up with
-    /// `Local(NoMemory)`, which leaves the batch as it was. Where each command of the batch before the line names configured
+    /// `Local(NoMemory)`, which leaves the batch as it was. If each command of the batch before the line names configured
     /// channels alone, so does each command of the batch after it. A batch that is asked for has a command.
     pub fn next(&mut self, alloc: Global, config: &Config, media: &MediaNames) -> Step
         requires { self.old.ended ≡ false }
@@ -108,8 +108,8 @@ impl Session {
     /// Takes one whole line, whose end is left out, and returns its step: as if the text and a CR LF were fed, and the
     /// next step asked for. The bytes of an unfinished line are dropped.
     ///
-    /// No step may be asked for after a `Kill` or a `Bye`. `Skip` comes exactly where the line has no word. A line for
-    /// which there is no memory is given up with `Local(NoMemory)`, which leaves the batch as it was. Where each command of
+    /// No step may be asked for after a `Kill` or a `Bye`. `Skip` comes exactly if the line has no word. A line for
+    /// which there is no memory is given up with `Local(NoMemory)`, which leaves the batch as it was. If each command of
     /// the batch before the line names configured channels alone, so does each command of the batch after it. A batch that is
     /// asked for has a command.
     pub fn take_line(

@@ -74,7 +74,7 @@ pair_put sample n out =
     ∙ put_behind (done ++ left) (drop (length left) rest) right (4 * n + 2) both
     ∙ ap₂ (λ (xs ys : List ℕ). xs ++ ys) lists drops
 
--- all pairs, where no bytes are left
+-- all pairs, if no bytes are left
 pub bytes-all : (sample : ℕ → ℕ → ℤ) (n : ℕ) (out : List ℕ) → length out ≡ 4 * n → bytes_of_samples n sample ++ drop (4 * n) out ≡ bytes_of_samples n sample
 bytes-all sample n out whole =
     ap (λ (rest : List ℕ). bytes_of_samples n sample ++ rest) (drop_all (4 * n) out (omega (arith, whole)))

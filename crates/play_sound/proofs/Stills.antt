@@ -31,7 +31,7 @@ size_at frames clips (suc n) h =
     let same : n ≡ suc n - 1 = omega arith in
     size_of_list frames n ∙ ap (λ (k : ℕ). (get_or frames k no_frame).size) same
 
--- a sample, or 0 where it is not given
+-- a sample, or 0 if it is not given
 abbrev if_given : Bool → ℤ → ℤ
 if_given b one = elim b [ true ↦ one | false ↦ pos 0 ]
 

@@ -39,7 +39,7 @@ pub(crate) fn still_sample(
     }
 }
 
-/// Returns the sample of a clip at a frame, a pair and a side: 0 where it has no such frame or pair.
+/// Returns the sample of a clip at a frame, a pair and a side: 0 if it has no such frame or pair.
 fn clip_sample(clip: &Clip, frame: u32, pair: u16, side: u8) -> i16
     requires { side < 2 }
     ensures { result ≡ clip_sample clip.now frame pair side }

@@ -54,7 +54,7 @@ stop_at-cons event xs ys other none rest =
     ∙ ap (option_map (λ n. 1 + n)) (rest (none_before_moved (stop_at xs) (sym (stop_at-other event xs other) ∙ none)))
     ∙ moved_twice (length xs) (stop_at ys)
 
--- the first stop of two parts, where the first part has none
+-- the first stop of two parts, if the first part has none
 pub stop_at-append : (xs ys : List Event) → stop_at xs ≡ None → stop_at (xs ++ ys) ≡ option_map (λ n. length xs + n) (stop_at ys)
 stop_at-append [] ys h = sym (unmoved (stop_at ys))
 stop_at-append (Do tag cmd ∷ xs) ys h = stop_at-cons (Do tag cmd) xs ys refl h (stop_at-append xs ys)

@@ -3,7 +3,7 @@ use Rattle.std.proofs.Common.{◌≡◌, ℤ, List, [], ◌∷◌, length, ◌�
 use Rattle.std.proofs.lemmas.List.Elements.{All-nil, All-cons}
 use Rattle.play_types.specs.Setting.{IsWide, number_at}
 
--- four numbers are each in the wide range where the list is
+-- four numbers are each in the wide range if the list is
 pub All-four : (values : List ℤ) → length values ≡ 4 → All IsWide values ↔ (IsWide (number_at values 0) × IsWide (number_at values 1) × IsWide (number_at values 2) × IsWide (number_at values 3))
 All-four [] e = absurd (omega arith)
 All-four (a ∷ []) e = absurd (omega arith)

@@ -19,7 +19,7 @@ encoded_empty : (cs : List ℕ) → (length (encode_utf8_all cs) == 0) ≡ (leng
 encoded_empty [] = refl
 encoded_empty (c ∷ cs) = let longer = length-le-encodes (c ∷ cs) in grind (arith, nat_tests)
 
--- a text has no bytes just where it has no characters
+-- a text has no bytes just if it has no characters
 pub no_bytes : (bytes : List ℕ) → IsUtf8 bytes → (length bytes == 0) ≡ (length (chars bytes) == 0)
 no_bytes bytes text =
     ap (λ bs. length bs == 0) (sym (encode_utf8_all-chars bytes text)) ∙ encoded_empty (chars bytes)

@@ -1,7 +1,7 @@
 -- Lists with an item for each channel, that of channel 1 first.
 use Rattle.std.specs.Prelude.{ℕ, ◌-◌, List, slice_index_or, slice_set}
 
--- the item of a channel, or another where the list has none for it
+-- the item of a channel, or another if the list has none for it
 abbrev pub channel_item : {A : Type 0} → ℕ → List A → A → A
 channel_item channel items other = slice_index_or items (channel - 1) other
 

@@ -4,7 +4,7 @@ use Rattle.play_types.specs.Geometry.{IsSize}
 use Rattle.play_types.specs.declared.clip.TheConstants.{MAX_FRAMES}
 use Rattle.play_types.specs.declared.geometry.Geometry.{Geometry}
 
--- the name of a clip, and its size and frames where the clip is readable
+-- the name of a clip, and its size and frames if the clip is readable
 pub record MediaNameView : Type 0 where
   pub name : List ℕ
   pub readable : Bool

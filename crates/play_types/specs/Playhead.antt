@@ -4,7 +4,7 @@ use Rattle.play_types.specs.declared.take.Spec.{Spec}
 use Rattle.play_types.specs.declared.take.Spec.TheVariants.{Clip, Colour, RouteChannel, RouteLayer}
 use Rattle.play_types.specs.Take.{TakeView}
 
--- the frame of a producer after `shown` ticks: a clip ends on its last frame, or begins anew where it is looped
+-- the frame of a producer after `shown` ticks: a clip ends on its last frame, or begins anew if it is looped
 abbrev pub frame_after : Spec → Bool → ℕ → ℕ → ℕ → ℕ
 frame_after (Clip id) looped seek length shown =
     seek + (if looped then shown % length else min shown (length - 1))

@@ -23,7 +23,7 @@ ShowsConfigured channels (Channel channel) = IsConfigured channels channel
 abbrev pub NamesConfigured : ℕ → Drawn → Type 0
 NamesConfigured channels drawn = ShowsConfigured channels drawn.still × ShowsConfigured channels drawn.old
 
--- the mixer values of a layer are in their ranges, and its transition, where it takes time, has begun
+-- the mixer values of a layer are in their ranges, and its transition, if it takes time, has begun
 pub record IsDrawn (drawn : Drawn) : Type 0 where
   pub opacity : AreValues Opacity (drawn.opacity ∷ [])
   pub fill : AreValues Fill drawn.fill

@@ -29,7 +29,7 @@ impl Model for Micros {
 }
 
 impl Micros {
-    /// Creates the list of the first `count` values. It returns `None` exactly where the count is above 4 or one of these
+    /// Creates the list of the first `count` values. It returns `None` exactly if the count is above 4 or one of these
     /// values is out of range. The other values are dropped.
     pub fn new(values: [i64; 4], count: u8) -> Option<Micros>
         ensures exact { IsSome result ↔ AreMicros values count }
@@ -111,7 +111,7 @@ impl Model for StatusList {
 }
 
 impl StatusList {
-    /// Creates the list of the first `count` statuses. It returns `None` exactly where the count is above 16. The other
+    /// Creates the list of the first `count` statuses. It returns `None` exactly if the count is above 16. The other
     /// statuses are dropped.
     pub fn new(channels: [Status; MAX_CHANNELS], count: u8) -> Option<StatusList>
         ensures exact { IsSome result ↔ (count ≤ MAX_CHANNELS) }

@@ -31,7 +31,7 @@ impl Model for Clip {
 }
 
 impl Clip {
-    /// Creates a clip. It returns `None` exactly where the size is out of range, the frames are not 1 to 1,000,000, or the
+    /// Creates a clip. It returns `None` exactly if the size is out of range, the frames are not 1 to 1,000,000, or the
     /// bytes are not as many as the frames have.
     pub fn new(geometry: Geometry, frames: u32, bytes: ByteList) -> Option<Clip>
         ensures exact { IsSome result

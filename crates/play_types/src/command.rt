@@ -21,7 +21,7 @@ pub enum Cmd {
     Load(Place, Take),
     /// Puts a take into the background.
     LoadBg(Place, Take),
-    /// Starts the background, or unpauses the foreground where there is no background.
+    /// Starts the background, or unpauses the foreground if there is no background.
     Play(Place),
     /// Puts a take into the background and starts it.
     PlayTake(Place, Take),
@@ -35,9 +35,9 @@ pub enum Cmd {
     ClearLayer(Place),
     /// Removes the foregrounds and the backgrounds of all layers of a channel.
     ClearChannel(u8),
-    /// Exchanges two places, with their mixer values where the last part says so.
+    /// Exchanges two places, with their mixer values if the last part says so.
     SwapLayers(Place, Place, bool),
-    /// Exchanges all layers of two channels, with their mixer values where the last part says so.
+    /// Exchanges all layers of two channels, with their mixer values if the last part says so.
     SwapChannels(u8, u8, bool),
     /// Sets a mixer value.
     Set(Setting),
@@ -165,7 +165,7 @@ impl CmdList {
         }
     }
 
-    /// Adds a command at the end. Where memory runs out, the list stays as it was.
+    /// Adds a command at the end. If memory runs out, the list stays as it was.
     pub fn push(&mut self, cmd: Cmd) -> Result<(), AllocError>
         ensures ok { OnOk result (self.new ≡ self.old ++ cmd ∷ []) }
         ensures err { OnErr result (self.new ≡ self.old) }
@@ -195,7 +195,7 @@ impl CmdList {
         self.cmds.iter()
     }
 
-    /// Returns the command at position `at`, counted from 0: `None` exactly where `at` is not below the length.
+    /// Returns the command at position `at`, counted from 0: `None` exactly if `at` is not below the length.
     pub fn get(&self, at: usize) -> Option<&Cmd>
         ensures { option_copied result ≡ slice_get self.now at }
     {

@@ -39,7 +39,7 @@ impl Model for Channel {
 }
 
 impl Channel {
-    /// Creates a channel. It returns `None` exactly where the width or the height is not 1 to 4096, the pairs are above
+    /// Creates a channel. It returns `None` exactly if the width or the height is not 1 to 4096, the pairs are above
     /// 4096, or the output is empty.
     pub fn new(width: u16, height: u16, pairs: u16, output: Text) -> Option<Channel>
         ensures exact { IsSome result
@@ -136,7 +136,7 @@ impl ChannelList {
         }
     }
 
-    /// Adds a channel at the end. Where memory runs out, the list stays as it was.
+    /// Adds a channel at the end. If memory runs out, the list stays as it was.
     pub fn push(&mut self, channel: Channel) -> Result<(), AllocError>
         ensures ok { OnOk result (self.new ≡ self.old ++ channel ∷ []) }
         ensures err { OnErr result (self.new ≡ self.old) }
@@ -169,7 +169,7 @@ impl ChannelList {
         self.channels.iter()
     }
 
-    /// Returns the channel at position `at`, counted from 0: `None` exactly where `at` is not below the length.
+    /// Returns the channel at position `at`, counted from 0: `None` exactly if `at` is not below the length.
     pub fn get(&self, at: usize) -> Option<&Channel>
         ensures { option_copied result ≡ slice_get self.now at }
     {
@@ -199,7 +199,7 @@ impl Model for Config {
 }
 
 impl Config {
-    /// Creates a configuration. It returns `None` exactly where the address or the media folder is empty, the rate is not
+    /// Creates a configuration. It returns `None` exactly if the address or the media folder is empty, the rate is not
     /// 1 to 240, the connections are not 1 to 64, the journal's limit is not 1 to 16,777,216, or the channels are not 1 to
     /// 16.
     pub fn new(

@@ -1,6 +1,6 @@
 //! The types that all parts of the server use: places, takes, settings, commands and events.
 //!
-//! A value that has a range is made only by its `new`, which returns `None` exactly where the range is left.
+//! A value that has a range is made only by its `new`, which returns `None` exactly if the range is left.
 //! Contracts see such a value as a plain record of numbers, and a list type as the list of its items.
 //!
 //! The definitions over these types stand in `specs/`: histories, playheads, tweens, the columns of transitions and clip

@@ -38,7 +38,7 @@ impl Model for MediaName {
 impl MediaName {
     /// Creates the name of a readable clip, with its size and the number of its frames.
     ///
-    /// It returns `None` exactly where the width or the height is not 1 to 4096, the pairs are above 4096, or the frames
+    /// It returns `None` exactly if the width or the height is not 1 to 4096, the pairs are above 4096, or the frames
     /// are not 1 to 1,000,000.
     pub fn clip(name: Text, size: Geometry, frames: u32) -> Option<MediaName>
         ensures exact { IsSome result ↔ AreClipNumbers size frames }
@@ -146,7 +146,7 @@ impl MediaNames {
         }
     }
 
-    /// Adds a name at the end. Where memory runs out, the list stays as it was.
+    /// Adds a name at the end. If memory runs out, the list stays as it was.
     pub fn push(&mut self, name: MediaName) -> Result<(), AllocError>
         requires { length self.old < MAX_MEDIA_NAMES }
         ensures ok { OnOk result (self.new ≡ self.old ++ name ∷ []) }
@@ -181,7 +181,7 @@ impl MediaNames {
         self.names.iter()
     }
 
-    /// Returns the name at position `at`, counted from 0: `None` exactly where `at` is not below the length.
+    /// Returns the name at position `at`, counted from 0: `None` exactly if `at` is not below the length.
     pub fn get(&self, at: usize) -> Option<&MediaName>
         ensures { option_copied result ≡ slice_get self.now at }
     {

@@ -33,7 +33,7 @@ pub enum Refusal {
     Unknown,
     /// A place names no channel that is configured: 401.
     Channel(Name),
-    /// The line ends where a further word is required: 402.
+    /// The line ends if a further word is required: 402.
     Missing(Name),
     /// The word at this position, counted from 0, is wrong, repeated or too many: 403.
     Illegal(Name, usize),

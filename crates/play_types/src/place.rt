@@ -41,7 +41,7 @@ impl Model for Place {
 }
 
 impl Place {
-    /// Creates a place. It returns `None` exactly where the channel is not 1 to 16 or the layer is above 9999.
+    /// Creates a place. It returns `None` exactly if the channel is not 1 to 16 or the layer is above 9999.
     pub fn new(channel: u8, layer: u16) -> Option<Place>
         ensures exact { IsSome result ↔ IsPlace channel layer }
         ensures value { IfSome result (λ p. p ≡ record { channel = channel; layer = layer }) }

@@ -103,11 +103,11 @@ pub enum Reply {
     Cls,
     /// The version of the server: 201.
     Version,
-    /// The line is no command: 400, and the line. It is empty where the line was too long or no UTF-8.
+    /// The line is no command: 400, and the line. It is empty if the line was too long or no UTF-8.
     Unknown(Text),
-    /// The command was refused, with one of these codes: 401 for its channel, 402 where a word is missing, 403 where a
-    /// word is wrong or the stage refused it, 404 where there is no such clip, 501 where memory ran out, 502 where the
-    /// clip is unreadable, 503 where the journal is full.
+    /// The command was refused, with one of these codes: 401 for its channel, 402 if a word is missing, 403 if a
+    /// word is wrong or the stage refused it, 404 if there is no such clip, 501 if memory ran out, 502 if the
+    /// clip is unreadable, 503 if the journal is full.
     Refused(u16, Name),
     /// The line was given up because memory ran out: 500.
     NoMemory,

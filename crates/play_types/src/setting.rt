@@ -96,7 +96,7 @@ impl Model for Setting {
 }
 
 impl Setting {
-    /// Creates a setting. It returns `None` exactly where the duration is above 1,000,000 or a value that the property uses
+    /// Creates a setting. It returns `None` exactly if the duration is above 1,000,000 or a value that the property uses
     /// is out of its range. Values that the property does not use are dropped, and so are the duration and the curve of a
     /// keyer.
     pub fn new(

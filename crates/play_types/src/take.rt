@@ -24,7 +24,7 @@ pub enum Spec {
 /// A producer with the part of it that is played and the transition that brings it in.
 ///
 /// `seek` and `length` count frames of a clip. For other producers they are 0 and the take is not looped.
-/// `auto` says that it starts by itself where the foreground ends.
+/// `auto` says that it starts by itself if the foreground ends.
 #[derive(Clone, Copy, Debug, PartialEq, Eq)]
 pub struct Take {
     spec: Spec,
@@ -48,7 +48,7 @@ impl Model for Take {
 }
 
 impl Take {
-    /// Creates a take. It returns `None` exactly where the producer is a clip and its length is 0, or its seek and length
+    /// Creates a take. It returns `None` exactly if the producer is a clip and its length is 0, or its seek and length
     /// together are above 1,000,000. For other producers `looped`, `seek` and `length` are dropped.
     pub fn new(
         spec: Spec,
@@ -143,7 +143,7 @@ impl Take {
         self.trans
     }
 
-    /// Returns whether the take starts by itself where the foreground ends.
+    /// Returns whether the take starts by itself if the foreground ends.
     pub fn auto(self) -> bool
         ensures { result ≡ self.auto }
     {

@@ -7,7 +7,7 @@ ghost use Rattle.std.specs.Str.{chars};
 use std::alloc::{AllocError, Global};
 use std::marker::Model;
 
-/// A text. Contracts see the list of its characters. Two texts are equal where their characters are.
+/// A text. Contracts see the list of its characters. Two texts are equal if their characters are.
 #[derive(Debug, Drop)]
 pub struct Text {
     text: String,

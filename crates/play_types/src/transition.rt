@@ -85,7 +85,7 @@ impl Model for Trans {
 }
 
 impl Trans {
-    /// Creates a transition. It returns `None` exactly where the duration is above 1,000,000. A cut is kept with duration
+    /// Creates a transition. It returns `None` exactly if the duration is above 1,000,000. A cut is kept with duration
     /// 0, linear and not leftward.
     pub fn new(kind: Kind, duration: u32, curve: Curve, leftward: bool) -> Option<Trans>
         ensures exact { IsSome result ↔ (duration ≤ MAX_DURATION) }

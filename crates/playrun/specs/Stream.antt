@@ -1,4 +1,4 @@
--- What the devices do to a stream, where the stream tells its bytes.
+-- What the devices do to a stream, if the stream tells its bytes.
 use Rattle.std.specs.Prelude.{ℕ, List, Option, take}
 use Rattle.std.specs.Io.KnownBytes.{Appends, Consumes, IsAtEnd, Keeps}
 use Rattle.play_outside.specs.declared.source.ReadStep.{ReadStep}

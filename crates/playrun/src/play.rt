@@ -15,7 +15,7 @@ use std::io::Eprint;
 use std::thread::Threads;
 
 /// Plays a script as `run_main` does with these words. Words that cannot be read are no command line, with status 1, and
-/// where memory ran out for them the status is 5; nothing is read then. At status 1 standard error says which words there
+/// if memory ran out for them the status is 5; nothing is read then. At status 1 standard error says which words there
 /// are.
 pub fn play<R: Threads + Sync + Eprint, I: Source, M: MediaDir, O: Sink>(
     rt: &R,

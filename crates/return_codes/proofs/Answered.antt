@@ -18,13 +18,13 @@ use Rattle.history_model.specs.text.Replies.{IsReplyTo}
 same_answer : (one other : Answer) → Answered one ≡ Answered other → one ≡ other
 same_answer one other e = cc
 
--- the answer to a command, where it is this one
+-- the answer to a command, if it is this one
 pub answered_command : (setup : Setup) (history : List Event) (tag : Tag) (command : Cmd) (found : Answer) → answer setup history (event.Do tag command) ≡ Answered found
     → command_answer setup history (is_refused history (event.Do tag command)) command ≡ found
 unfolding answer
 answered_command setup history tag command found is = same_answer (command_answer setup history (is_refused history (event.Do tag command)) command) found is
 
--- the answer to a batch, where it is this one
+-- the answer to a batch, if it is this one
 pub answered_batch : (setup : Setup) (history : List Event) (tag : Tag) (commands : List Cmd) (found : Answer) → answer setup history (event.Batch tag commands) ≡ Answered found
     → outcome_of (is_refused history (event.Batch tag commands)) ≡ found
 unfolding answer

@@ -18,17 +18,17 @@ abbrev pub showing : PlaceView → Picture → Pictures → Pictures
 showing place picture pictures =
     λ other. if (other.channel == place.channel) && (other.layer == place.layer) then Some picture else pictures other
 
--- the ticks once a place shows a picture at the last one: where there is none, this begins the first
+-- the ticks once a place shows a picture at the last one: if there is none, this begins the first
 abbrev pub with_show : PlaceView → Picture → List Pictures → List Pictures
 with_show place picture [] = showing place picture no_pictures ∷ []
 with_show place picture (pictures ∷ before) = showing place picture pictures ∷ before
 
--- the last tick, none where there is none
+-- the last tick, none if there is none
 abbrev pub last : List Pictures → Option Pictures
 last [] = None
 last (pictures ∷ before) = Some pictures
 
--- the tick before the last one, none where there is none
+-- the tick before the last one, none if there is none
 abbrev pub tick_before : List Pictures → Option Pictures
 tick_before [] = None
 tick_before (pictures ∷ before) = last before

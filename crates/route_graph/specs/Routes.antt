@@ -10,7 +10,7 @@ use Rattle.history_model.specs.pictures.Source.{own_still}
 use Rattle.route_graph.specs.Shown.{Picture, Pictures, ShownLayers, layers_of, with_picture}
 
 -- the number of channels, what their places showed at the tick before the last one, and what they show at the last one,
--- channel 1 first: none where there was no such tick
+-- channel 1 first: none if there was no such tick
 pub record RoutesView : Type 0 where
   pub channels : ℕ
   pub past : Option (List ShownLayers)
@@ -28,11 +28,11 @@ nothing_shown channels = replicate channels []
 abbrev pub next_tick : RoutesView → RoutesView
 next_tick routes = record { channels = routes.channels; past = routes.present; present = Some (nothing_shown routes.channels) }
 
--- what is shown at the last tick: nothing where none has begun
+-- what is shown at the last tick: nothing if none has begun
 abbrev pub last_tick : RoutesView → List ShownLayers
 last_tick routes = unwrap_or routes.present (nothing_shown routes.channels)
 
--- a route table once a place shows a picture at the last tick: where no tick has begun, this begins the first one
+-- a route table once a place shows a picture at the last tick: if no tick has begun, this begins the first one
 abbrev pub after_show : PlaceView → Picture → RoutesView → RoutesView
 after_show place picture routes =
     record { channels = routes.channels; past = routes.past; present = Some (with_picture place picture (last_tick routes)) }
@@ -41,17 +41,17 @@ after_show place picture routes =
 abbrev pub HasFewPlaces : ℕ → RoutesView → Type 0
 HasFewPlaces channel routes = length (layers_of channel (last_tick routes)) ≤ MAX_LIVE_LAYERS
 
--- the clip or colour of a picture, nothing where there is none or where it is a route
+-- the clip or colour of a picture, nothing if there is none or if it is a route
 abbrev pub picture_still : Option Picture → Still
 picture_still None = Nothing
 picture_still (Some picture) = own_still picture.0 picture.1
 
--- the frame that a channel had at the tick before, nothing where there was no such tick
+-- the frame that a channel had at the tick before, nothing if there was no such tick
 abbrev pub channel_still : Option Pictures → ℕ → Still
 channel_still None channel = Nothing
 channel_still (Some pictures) channel = Channel channel
 
--- the clip or colour that a place showed at the tick before, nothing where there was no such tick
+-- the clip or colour that a place showed at the tick before, nothing if there was no such tick
 abbrev pub place_still : Option Pictures → PlaceView → Still
 place_still None place = Nothing
 place_still (Some pictures) place = picture_still (pictures place)

@@ -9,7 +9,7 @@ use Rattle.play_types.specs.declared.take.Spec.{Spec}
 abbrev pub Picture : Type 0
 Picture = Spec × ℕ
 
--- what each place shows at a tick, none where it shows nothing
+-- what each place shows at a tick, none if it shows nothing
 abbrev pub Pictures : Type 0
 Pictures = PlaceView → Option Picture
 
@@ -24,7 +24,7 @@ with_shown layer picture (shown ∷ more) =
     let rest = with_shown layer picture more in
     if shown.0 == layer then (layer, picture) ∷ more else shown ∷ rest
 
--- the picture of a layer, none where it shows nothing
+-- the picture of a layer, none if it shows nothing
 abbrev pub shown_on : ShownLayers → ℕ → Option Picture
 shown_on layers layer = option_map (λ (shown : ℕ × Picture). shown.1) (find (λ (shown : ℕ × Picture). shown.0 == layer) layers)
 

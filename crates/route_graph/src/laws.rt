@@ -19,7 +19,7 @@ pub fn layers_after_a_show()
         with_shown layer picture layers ≡ layers ++ (layer, picture) ∷ [] }
 {}
 
-/// Where a tick keeps what foregrounds showed on the channels, a producer that leads to none but these shows by that tick
+/// If a tick keeps what foregrounds showed on the channels, a producer that leads to none but these shows by that tick
 /// what it shows by the foregrounds.
 pub fn sources_by_a_tick()
     ensures { (channels : ℕ) (tick : Option (List ShownLayers)) (foregrounds : Option (PlaceView → Option Foreground))

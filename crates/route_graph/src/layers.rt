@@ -55,14 +55,14 @@ impl LayerList {
         }
     }
 
-    /// Returns where a layer stands in the list, `None` exactly where it shows nothing.
+    /// Returns where a layer stands in the list, `None` exactly if it shows nothing.
     fn find(&self, layer: u16) -> Option<usize>
         ensures { result ≡ position (λ shown. shown.0 == layer) self.now }
     {
         self.layers.iter().position(|shown| shown.0 == layer)
     }
 
-    /// Returns the picture of a layer, `None` exactly where it shows nothing.
+    /// Returns the picture of a layer, `None` exactly if it shows nothing.
     pub(crate) fn get(&self, layer: u16) -> Option<(Spec, u32)>
         ensures { result ≡ shown_on self.now layer }
     {

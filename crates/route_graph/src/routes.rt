@@ -15,7 +15,7 @@ use std::mem;
 
 /// What the places of channels showed at the tick before, and what they show at the tick that has begun.
 ///
-/// A table represents the ticks so far, each with what every place showed at it, where it keeps the two last of them. A new
+/// A table represents the ticks so far, each with what every place showed at it, if it keeps the two last of them. A new
 /// table represents no ticks. [`Routes::begin_tick`] adds a tick at which nothing is shown, and [`Routes::show`] adds to the
 /// last one. No call takes longer for the number of ticks before, and only [`Routes::new`] takes memory.
 #[derive(Debug, Drop)]
@@ -57,8 +57,8 @@ impl Routes {
         self.present.begin();
     }
 
-    /// Notes that a place shows a producer at a frame at the tick that has begun. Where it showed another at this tick, the
-    /// last one counts. Where no tick has begun, this begins the first.
+    /// Notes that a place shows a producer at a frame at the tick that has begun. If it showed another at this tick, the
+    /// last one counts. If no tick has begun, this begins the first.
     ///
     /// The channel of the place is at most `channels` of [`Routes::new`], and with this place at most 64 places of its
     /// channel show something at this tick.
@@ -74,7 +74,7 @@ impl Routes {
 
     /// Returns the still that a producer shows at a frame, by what was shown at the tick before: a clip and a colour show
     /// themselves. A route to a channel shows the frame that the channel had, and a route to a place the clip or colour that
-    /// was shown there. Where nothing or a route was shown there, and where there was no tick before, a route shows nothing.
+    /// was shown there. If nothing or a route was shown there, and if there was no tick before, a route shows nothing.
     pub fn still(&self, spec: Spec, frame: u32) -> Still
         ensures value { result ≡ still_by (option_map shown_at self.now.past) spec frame }
         ensures past { (ticks : List Pictures) → Represents self.now ticks → LeadsWithin self.now.channels spec

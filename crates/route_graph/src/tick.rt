@@ -12,7 +12,7 @@ use play_types::{Place, Spec, channel_index};
 use std::alloc::{AllocError, Global};
 use std::marker::Model;
 
-/// What the places of all channels show at a tick, where it has begun: a list of layers for each channel.
+/// What the places of all channels show at a tick, if it has begun: a list of layers for each channel.
 #[derive(Debug, Drop)]
 pub(crate) struct ShownTick {
     begun: bool,
@@ -62,7 +62,7 @@ impl ShownTick {
         self.begun
     }
 
-    /// Lets a place show a picture, in place of the one that it showed. Where the tick has not begun, it begins. The place is
+    /// Lets a place show a picture, in place of the one that it showed. If the tick has not begun, it begins. The place is
     /// one of a channel of the tick, and then the channel has at most 64 places that show something.
     pub(crate) fn show(&mut self, place: Place, picture: (Spec, u32))
         requires channel { place.channel ≤ self.old.channels }
@@ -78,7 +78,7 @@ impl ShownTick {
         self.channels[channel_index(place.channel())].show(place.layer(), picture);
     }
 
-    /// Returns the picture of a place: `None` exactly where the tick has not begun, or the place shows nothing at it.
+    /// Returns the picture of a place: `None` exactly if the tick has not begun, or the place shows nothing at it.
     pub(crate) fn get(&self, place: Place) -> Option<(Spec, u32)>
         ensures { result ≡ option_and_then (λ tick. shown_at tick place) self.now.shown }
     {

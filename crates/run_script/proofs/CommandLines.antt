@@ -134,7 +134,7 @@ module _ (before after : Outside) where
       ok_no_device : {one : ServerSetup} → Ok one ≢ Err Device
       ok_no_device e = let no : 0 ≡ 4 = ap status_in e in omega (arith, no)
 
-  -- what has no fault is refused out of memory alone, where no read fails
+  -- what has no fault is refused out of memory alone, if no read fails
   not_refused : (path : List ℕ) (first : Option RunFault) → first ≡ None → (fault : RunFault) → SetsUp path (Err fault) before.media after.media
       → TellsFirst (Err fault) first → (Rose before.media.faults after.media.faults → ⊥) → setup.status_of fault ≡ 5
   not_refused path first none ConfigText sets tells well = absurd (none-some _ (sym none ∙ tells))

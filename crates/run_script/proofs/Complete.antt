@@ -39,7 +39,7 @@ part_rest : (whole : Reading) (bytes : List ℕ) → (part : IsPrefix whole (rea
 part_rest whole bytes part =
     sym (take-append-drop MAX_INPUT_BYTES whole.bytes) ∙ ap (λ (l : List ℕ). l ++ drop MAX_INPUT_BYTES whole.bytes) part.parts ∙ append_assoc bytes part.rest (drop MAX_INPUT_BYTES whole.bytes)
 
--- a part of what was read is a prefix of the input, and all of it where the input ended
+-- a part of what was read is a prefix of the input, and all of it if the input ended
 part_of : (whole part : Reading) (rest input : List ℕ) → input ≡ whole.bytes ++ rest → (whole.ended ≡ true → rest ≡ []) → IsPrefix whole part
     → (more : List ℕ) × (input ≡ part.bytes ++ more) × (part.ended ≡ true → more ≡ [])
 part_of whole part rest input parts at_end prefix = by_end part.ended refl
@@ -213,7 +213,7 @@ completes_run playout status before after run valid read_well wrote_well =
     subst (λ s. (s ≡ 0) ⊎ (s ≡ 5)) (sym run.outcome)
     (completes playout before after run.between valid.0 valid.1 run.ending run.run run.said valid.2 valid.3 read_well wrote_well)
 
--- a run fails only where a read or a write of it failed
+-- a run fails only if a read or a write of it failed
 fails_by : (playout : Playout) (before after : Streams) (between : SinkState) (ending : Ending) → status_of ending ≡ 4 → RunsScript playout ending before (record { input = after.input; out = between })
     → between.faults ≤ after.out.faults → Rose before.input.faults after.input.faults ⊎ Rose before.out.faults after.out.faults
 fails_by playout before after between Finished bad run said = absurd (let no : 0 ≡ 4 = bad in omega (arith, no))
@@ -243,7 +243,7 @@ quiet playout before after between ReadFault good run said = absurd (let no : 4 
 quiet playout before after between WriteFault good run said = absurd (let no : 4 ≡ 0 = good in omega (arith, no))
 quiet playout before after between Memory good run said = absurd (let no : 5 ≡ 0 = good in omega (arith, no))
 
--- and it played the input, where that is known
+-- and it played the input, if that is known
 pub is_played : (playout : Playout) (status : ℕ) (before after : Streams) → EndsRun playout status before after → status ≡ 0 → IsPlayed playout before after
 is_played playout status before after run good =
     let ended_well = sym run.outcome ∙ good in

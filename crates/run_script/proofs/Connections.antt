@@ -107,7 +107,7 @@ pub batch_there : (tag : Tag) (at : ℕ) (clients : List Client) (client : Clien
     → batch_of tag clients ≡ session_batch client.session
 batch_there tag at clients client place there = ap batch_in (client_there tag at clients client place there)
 
--- where the connection at its place is replaced by one of its tag, the tag has the new one
+-- if the connection at its place is replaced by one of its tag, the tag has the new one
 client_replaced : (tag : Tag) (at : ℕ) (clients : List Client) (old new : Client) → IsPlaceOf tag at clients → get_or clients at old ≡ old → new.tag ≡ old.tag
     → client_of tag (set clients at new) ≡ Some new
 client_replaced tag at clients old new place there kept_tag =
@@ -120,7 +120,7 @@ pub batch_replaced : (tag : Tag) (at : ℕ) (clients : List Client) (old new : C
     → batch_of tag (set clients at new) ≡ session_batch new.session
 batch_replaced tag at clients old new place there kept_tag = ap batch_in (client_replaced tag at clients old new place there kept_tag)
 
--- the batch of the connection at a place names configured channels alone where all do
+-- the batch of the connection at a place names configured channels alone if all do
 pub aimed_there : (config : ConfigView) (at : ℕ) (clients : List Client) (client : Client) → at < length clients → get_or clients at client ≡ client
     → HaveAimedBatches config clients → AreAimed config (session_batch client.session)
 aimed_there config at clients client inside there aimed =
@@ -145,7 +145,7 @@ aimed_added config clients new none aimed =
     (All-cons (λ (one : Client). AreAimed config (session_batch one.session)) new [] (subst (AreAimed config) (sym none) (All-nil (IsAimed config)))
     (All-nil (λ (one : Client). AreAimed config (session_batch one.session))))
 
--- the batch of a connection names configured channels alone where all do
+-- the batch of a connection names configured channels alone if all do
 pub aimed_of : (config : ConfigView) (tag : Tag) (clients : List Client) → HaveAimedBatches config clients → AreAimed config (batch_of tag clients)
 aimed_of config tag [] aimed = All-nil (IsAimed config)
 aimed_of config tag (client ∷ clients) aimed =
@@ -190,7 +190,7 @@ module _ (next : NextText) (found : Option Step) (clients : List Client) (at : �
     serves = λ other. heard_tag other (same_tag other next.tag) refl;
   }
 
--- where no connection of this tag is found, its place would be after all
+-- if no connection of this tag is found, its place would be after all
 past_all : (tag : Tag) (clients : List Client) → position (λ (one : Client). same_tag tag one.tag) clients ≡ None
     → length clients ≤ position_or_len (λ (one : Client). same_tag tag one.tag) clients
 past_all tag clients none = by_place (nat_lt (position_or_len (λ (one : Client). same_tag tag one.tag) clients) (length clients)) refl none
@@ -260,7 +260,7 @@ added_place tag clients new is none =
     ap (λ (n : ℕ). cond (nat_lt n (length (clients ++ new ∷ []))) (Some n) None) last
     ∙ ap (λ (b : Bool). cond b (Some (length clients)) None) (lt-ltb (length clients) (length (clients ++ new ∷ [])) (omega (arith, length-append clients (new ∷ []))))
 
--- the place of each tag where a connection of this tag is added
+-- the place of each tag if a connection of this tag is added
 pub placed_added : (tag other : Tag) (at : ℕ) (before now : Option ℕ) (clients all : List Client) (new : Client) → all ≡ clients ++ new ∷ [] → new.tag ≡ tag
     → at ≡ length clients → position (is_of tag) clients ≡ None → before ≡ position (is_of other) clients → now ≡ cond (same_tag tag other) (Some at) before
     → now ≡ position (is_of other) all
@@ -282,7 +282,7 @@ placed_added tag other at before now clients all new is own last none placed cha
 pub adds : (tag : Tag) (now : SessionState) (old new : List Client) (client : Client) → new ≡ old ++ client ∷ [] → client.tag ≡ tag → client.session ≡ Some now → AddsClient tag now old new
 adds tag now old new client items own session = record { client = client; items = items; own = own; session = session }
 
--- what a place is where a connection was added
+-- what a place is if a connection was added
 pub place_added : {E : Type 0} (tag : Tag) (now : SessionState) (old new : List Client) (result : Result ℕ E) → IfOk result (λ at. (at ≡ length old) × AddsClient tag now old new)
     → position (is_of tag) old ≡ None → now.batch ≡ [] → ((config : ConfigView) (media : List MediaNameView) → Represents config media now at_start) → IsBetweenLines now
     → IfOk result (λ at. (at < length new) × IsPlaceOf tag at new × ((config : ConfigView) → HaveAimedBatches config old → HaveAimedBatches config new)

@@ -146,7 +146,7 @@ halted run script reason whole allowed state cut stops = by_reason reason stops.
     by_reason halt.Write halts = (reading_of stops.0 false, part, halts)
     by_reason halt.Memory halts = (reading_of stops.0 false, part, halts)
 
--- the bytes that an input may have, where `left` are allowed after those that were read
+-- the bytes that an input may have, if `left` are allowed after those that were read
 pub cut_at_limit : (bytes piece : List ℕ) (left : ℕ) → left + length bytes ≡ MAX_INPUT_BYTES → take MAX_INPUT_BYTES (bytes ++ piece) ≡ bytes ++ take left piece
 cut_at_limit bytes piece left exact =
     ap (λ (n : ℕ). take n (bytes ++ piece)) (sym exact ∙ (let swap : left + length bytes ≡ length bytes + left = omega arith in swap))

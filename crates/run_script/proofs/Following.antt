@@ -55,7 +55,7 @@ makes_then first second both old mid new one two is = record {
 pub makes_event : (player : Player) (event : Event) (stage : StageView) → stage ≡ after_event event player.stage → MakesEvents (event ∷ []) player (record player { stage = stage })
 makes_event player event stage is = record { setup = refl; digests = refl; clients = refl; history = ap (λ (s : StageView). s.journal.events) is }
 
--- an event is no tick where it is a command or a stop
+-- an event is no tick if it is a command or a stop
 pub ticks_kept : (event : Event) (player : Player) (stage : StageView) → ticks (event ∷ []) ≡ 0 → stage ≡ after_event event player.stage
     → ticks stage.journal.events ≡ ticks (events_in player)
 ticks_kept event player stage none is =
@@ -97,7 +97,7 @@ refused_by tag request found player no_memory becomes is replies none = record {
   makes = subst (λ es. MakesEvents es player player) (sym none ∙ ap (verdict_events request.event) (sym is)) (makes_nothing player);
 }
 
--- what the stage made of a request is told by the reply, and it is an event where the stage took it
+-- what the stage made of a request is told by the reply, and it is an event if the stage took it
 pub does_request : (tag : Tag) (request : Request) (taken : Result Answer ApplyFault) (found : Reply) (player : Player) (stage : StageView) → IsReady player
     → IfOk taken (λ given. given ≡ request.answer) → OnOk taken (stage ≡ after_event request.event player.stage)
     → OnOk taken (HasRoom player.stage.journal request.commands) → OnErr taken (stage ≡ player.stage)

@@ -107,7 +107,7 @@ module _ (run : Run) (lines : List (List ℕ)) (line : List ℕ) (before after :
               (Fails-after (script_output run.playout done.played) text run.first after (subst (λ s. Fails text s after) done.written plays.fails));
         }
 
--- the lines stay done where nothing was written
+-- the lines stay done if nothing was written
 pub still_done : (run : Run) (lines : List (List ℕ)) (before after : SinkState) → IsDone run lines before → after ≡ before → IsDone run lines after
 still_done run lines before after done same = record { played = done.played; said = done.said; runs_on = done.runs_on; written = same ∙ done.written }
 

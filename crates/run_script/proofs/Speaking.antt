@@ -84,7 +84,7 @@ gave config media step.Bye session progress gives more = gives
 gave config media step.Skip session progress gives more = gives
 gave config media step.NeedMore session progress gives more = absurd (let all = gives.0 in omega (arith, all, more))
 
--- where a step was given for each line, the lines before are all
+-- if a step was given for each line, the lines before are all
 lines_before : (config : ConfigView) (media : List MediaNameView) (session : SessionState) (progress : Progress)
     → (stands : Represents config media session progress) → length (lines_of progress.stream) ≡ progress.given → lines_of progress.stream ≡ lines_of stands.before
 lines_before config media session progress stands all =

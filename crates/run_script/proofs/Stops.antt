@@ -102,7 +102,7 @@ snoc_last [] (b ∷ ys) x y e = absurd (let sizes = ap length e in omega (arith,
 snoc_last (a ∷ xs) [] x y e = absurd (let sizes = ap length e in omega (arith, sizes, length-append xs (x ∷ [])))
 snoc_last (a ∷ xs) (b ∷ ys) x y e = let tails : xs ++ x ∷ [] ≡ ys ++ y ∷ [] = cc in snoc_last xs ys x y tails
 
--- a last line that is accepted has ended where the input goes on
+-- a last line that is accepted has ended if the input goes on
 pub stop_ended : (playout : Playout) (prefix : List ℕ) → (at : IsAtLast playout (record { bytes = prefix; ended = false })) → at.last.line ≢ Rejected → length (ended_lines prefix) ≡ length at.before + 1
 stop_ended playout prefix at accepted = by_size (nat_le 8194 (length (unended prefix))) refl
   where

@@ -7,7 +7,7 @@ use Rattle.play_outside.specs.declared.sink.Sent.TheVariants as sent
 use Rattle.run_script.specs.inner.Halt.{written_of}
 use Rattle.run_script.specs.inner.Player.{WritesText}
 
--- a text that was sent was written, and where a write failed the run stops
+-- a text that was sent was written, and if a write failed the run stops
 pub text_written : (result : Sent) (text : List ℕ) (before after : SinkState) → Sends result text before after → WritesText (written_of result) text before after
 text_written sent.All text before after sends = sends
 text_written sent.Failed text before after fails = fails

@@ -15,7 +15,7 @@ ending_of halt.Rejected lines = BadLine (lines + 1)
 ending_of halt.Write lines = WriteFault
 ending_of halt.Memory lines = Memory
 
--- the fault with which a run ends, none where it ends well
+-- the fault with which a run ends, none if it ends well
 abbrev pub fault_of : Ending → Option RunFault
 fault_of Finished = None
 fault_of Stopped = None
@@ -25,7 +25,7 @@ fault_of ReadFault = Some faults.Device
 fault_of WriteFault = Some faults.Device
 fault_of Memory = Some faults.OutOfMemory
 
--- the fault in the outcome of a run, none where it ended well
+-- the fault in the outcome of a run, none if it ended well
 abbrev pub fault_in : Result (Unit {0}) RunFault → Option RunFault
 fault_in (Ok done) = None
 fault_in (Err fault) = Some fault
@@ -35,7 +35,7 @@ abbrev pub exit_status : Option RunFault → ℕ
 exit_status None = 0
 exit_status (Some fault) = table.status_of fault
 
--- the line that a program writes at its end, none where it ends well
+-- the line that a program writes at its end, none if it ends well
 abbrev pub last_line : Option RunFault → List ℕ
 last_line None = []
 last_line (Some fault) = table.fault_line fault

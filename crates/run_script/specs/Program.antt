@@ -53,7 +53,7 @@ pub record EndsRun (playout : Playout) (status : ℕ) (before after : Streams) :
   pub run : RunsScript playout ending before (record { input = after.input; out = between })
   pub said : WritesFaultLine (fault_line ending) between after.out
 
--- what a script is played on where the words name a size alone: one channel, without clips, whose frames are written in
+-- what a script is played on if the words name a size alone: one channel, without clips, whose frames are written in
 -- hexadecimal
 abbrev pub plain_playout : Geometry → Playout
 plain_playout size = record { config = plain_config size.width size.height; names = []; clips = []; digests = false }
@@ -95,7 +95,7 @@ pub record EndsAtLine (playout : Playout) (played : List PlayedLine) (read rest 
   pub ends : ends_at playout before last last.line ≡ true
   pub whole : (rest ≡ []) ⊎ (length before < length (ended_lines read))
 
--- the output of the lines of an input was written, and nothing else, where the sessions gave up some of the lines out of memory;
+-- the output of the lines of an input was written, and nothing else, if the sessions gave up some of the lines out of memory;
 -- the input was read to its end, or to a line at which the run ends
 pub record PlaysInput (playout : Playout) (input : List ℕ) (before after : Streams) : Type 0 where
   pub read : List ℕ
@@ -107,7 +107,7 @@ pub record PlaysInput (playout : Playout) (input : List ℕ) (before after : Str
   pub ended : ((goes_on playout played ≡ true) × (rest ≡ [])) ⊎ EndsAtLine playout played read rest
   pub written : after.out ≡ after_taking before.out (script_output playout played)
 
--- the input was played, where its bytes are known, and no read or write failed
+-- the input was played, if its bytes are known, and no read or write failed
 abbrev pub IsPlayed : Playout → Streams → Streams → Type 0
 IsPlayed playout before after =
     IfSome before.input.left (λ input. PlaysInput playout input before after)
@@ -129,21 +129,21 @@ StreamsFail before after = Rose before.input.faults after.input.faults ⊎ Rose 
 abbrev pub DeviceFails : Outside → Outside → Type 0
 DeviceFails before after = Rose before.media.faults after.media.faults ⊎ StreamsFail before after
 
--- where the files have a first fault, nothing of the input is read, and the status is that of the fault, unless the run was out
--- of memory or a read of the folder failed before; where they have none, the status is not that of clips
+-- if the files have a first fault, nothing of the input is read, and the status is that of the fault, unless the run was out
+-- of memory or a read of the folder failed before; if they have none, the status is not that of clips
 abbrev pub MeetsFault : Option RunFault → ℕ → Outside → Outside → Type 0
 MeetsFault None status before after = status ≢ 3
 MeetsFault (Some fault) status before after =
     ((status ≡ table.status_of fault) ⊎ ((status ≡ 5) ⊎ ((status ≡ 4) × Rose before.media.faults after.media.faults)))
     × (after.input ≡ before.input)
 
--- the first fault of the files that the command line names is met, where the files are known
+-- the first fault of the files that the command line names is met, if the files are known
 abbrev pub MeetsFirstFault : CommandLine → ℕ → Outside → Outside → Type 0
 MeetsFirstFault (Plain size) status before after = status ≢ 3
 MeetsFirstFault (Configured path digests) status before after =
     IfSome before.media.files (λ files. MeetsFault (fault_of_files path files) status before after)
 
--- what the command line names can be set up: with a configuration, where the files are known and have no fault, and no read of
+-- what the command line names can be set up: with a configuration, if the files are known and have no fault, and no read of
 -- the folder fails
 abbrev pub CanBeSetUp : CommandLine → Outside → Outside → Type 0
 CanBeSetUp (Plain size) before after = Unit {0}
@@ -172,7 +172,7 @@ SucceedsIfValid line status before after =
 
 -- what `run_main` promises of these words, its exit status, and the outside before and after the call
 pub record PlaysScript (words : List (List ℕ)) (status : ℕ) (before after : Outside) : Type 0 where
-  -- status 1 comes exactly where the words are no command line
+  -- status 1 comes exactly if the words are no command line
   pub usage : (status ≡ 1) ↔ (command_line_of words ≡ None)
   -- no other status comes than those of the table
   pub statuses : status ≤ 5
@@ -180,7 +180,7 @@ pub record PlaysScript (words : List (List ℕ)) (status : ℕ) (before after : 
   pub run : MatchOption (command_line_of words) (SaysUsage before after) (λ line. RunsCommandLine line status before after)
   -- with status 0 the whole script was played, and nothing but its output was written
   pub finished : status ≡ 0 → IfSome (command_line_of words) (λ line. PlaysToEnd line before after)
-  -- status 4 comes only where a device failed
+  -- status 4 comes only if a device failed
   pub device : status ≡ 4 → DeviceFails before after
   -- the first fault of the configuration and of the clips decides
   pub refused : IfSome (command_line_of words) (λ line. MeetsFirstFault line status before after)

@@ -36,7 +36,7 @@ EndsAs run ReadFault reading state =
 EndsAs run WriteFault reading state = (part : Reading) × IsPrefix reading part × FailsAt run part state
 EndsAs run Memory reading state = (part : Reading) × IsPrefix reading part × IsDone run (ended_lines part.bytes) state
 
--- the count of faults of the input rose where a read failed, and is else as before
+-- the count of faults of the input rose if a read failed, and is else as before
 abbrev pub FaultsOf : Ending → ℕ → ℕ → Type 0
 FaultsOf ReadFault before after = Rose before after
 FaultsOf Finished before after = after ≡ before

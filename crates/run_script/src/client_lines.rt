@@ -15,7 +15,7 @@ use play_types::{Cmd, Config, MediaNames, Tag};
 use std::alloc::{AllocError, Global};
 
 impl Clients {
-    /// Takes a line of a connection, its end left out, and returns its step: `None` where the connection has ended
+    /// Takes a line of a connection, its end left out, and returns its step: `None` if the connection has ended
     /// before. The commands of the batch that it asks for are those of [`Clients::batch`], of which there is one at least.
     pub fn take_line(
         &mut self,
@@ -46,7 +46,7 @@ impl Clients {
         }
     }
 
-    /// Returns the place of a connection, and gives it a new session where it has said nothing before.
+    /// Returns the place of a connection, and gives it a new session if it has said nothing before.
     fn place_of(&mut self, alloc: Global, tag: Tag) -> Result<usize, AllocError>
         ensures { IfOk result (λ at. (at < length self.new.list.items) × IsPlaceOf tag at self.new.list.items
             × ((config : ConfigView) → HaveAimedBatches config self.old.list.items → HaveAimedBatches config self.new.list.items)
@@ -76,7 +76,7 @@ impl Clients {
     }
 }
 
-/// Returns the commands of the batch of a connection, none where it has ended.
+/// Returns the commands of the batch of a connection, none if it has ended.
 fn batch_in(client: &Client) -> &[Cmd]
     ensures { result.now ≡ session_batch client.now.session }
 {
@@ -86,7 +86,7 @@ fn batch_in(client: &Client) -> &[Cmd]
     }
 }
 
-/// Hands a line to the session of a connection, and returns its step: `None` where the connection has ended before. The session
+/// Hands a line to the session of a connection, and returns its step: `None` if the connection has ended before. The session
 /// of a connection that ends is dropped.
 fn take_client_line(
     client: &mut Client,
@@ -111,7 +111,7 @@ fn take_client_line(
     Some(step)
 }
 
-/// Returns the session after its step, `None` where the step ended the connection.
+/// Returns the session after its step, `None` if the step ended the connection.
 fn kept(session: Session, step: &Step) -> Option<Session>
     ensures { result ≡ kept_session (ends step.now) session }
 {

@@ -96,7 +96,7 @@ fn tag_of(worker: &[u8], session: &[u8]) -> Option<Tag>
     Some(Tag { worker, session })
 }
 
-/// Returns the bytes before and the bytes after the first `byte` of a text, where there is one.
+/// Returns the bytes before and the bytes after the first `byte` of a text, if there is one.
 fn parts_at(byte: u8, text: &[u8]) -> Option<(&[u8], &[u8])>
     ensures { option_map parts_view result ≡ parts_at byte text.now }
 {

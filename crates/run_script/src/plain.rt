@@ -9,7 +9,7 @@ use play_types::{Channel, ChannelList, Config, Geometry, MediaNames, Text};
 use server_setup::ServerSetup;
 use std::alloc::{AllocError, Global};
 
-/// Returns what is played where the words name a width and a height alone: one channel of this size, without clips.
+/// Returns what is played if the words name a width and a height alone: one channel of this size, without clips.
 pub fn plain_setup(alloc: Global, size: Geometry) -> Result<ServerSetup, AllocError>
     requires { IsSize size.width size.height 0 }
     ensures { IfOk result (λ setup. playout_of setup false ≡ plain_playout size) }
@@ -43,7 +43,7 @@ fn one_channel(alloc: Global, width: u16, height: u16) -> Result<ChannelList, Al
     Ok(channels)
 }
 
-/// Returns the text that stands where there is no address, folder or output.
+/// Returns the text that stands if there is no address, folder or output.
 fn none(alloc: Global) -> Result<Text, AllocError>
     ensures { IfOk result (λ text. text ≡ codes "none") }
 {

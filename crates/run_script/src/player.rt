@@ -176,7 +176,7 @@ impl Player {
 
     /// Does the batch of a connection as one event, and returns the reply to it.
     ///
-    /// Where its commands are above the limit of the journal it is refused with 503, and where there is no memory with 501. The
+    /// If its commands are above the limit of the journal it is refused with 503, and if there is no memory with 501. The
     /// history is then as before.
     fn do_batch(&mut self, alloc: Global, tag: Tag) -> Reply
         requires ready { IsReady self.old }

@@ -33,7 +33,7 @@ use std::thread::Threads;
 /// | 4 | a read or a write failed | `E device` |
 /// | 5 | memory ran out | `E memory` |
 ///
-/// Status 1 comes exactly for its cause, and each other status above 0 only for one of its causes. Where the folder tells its
+/// Status 1 comes exactly for its cause, and each other status above 0 only for one of its causes. If the folder tells its
 /// files, a cause in the configuration or in the clips is always met, unless a read fails or memory runs out before it.
 ///
 /// Wherever a read of the input fails, the output is exactly that of the lines received before it, and then the line of the
@@ -87,7 +87,7 @@ fn play<R: Threads + Sync, I: Source, M: MediaDir, O: Sink>(
     }
 }
 
-/// Writes the line of a fault, where there is one, and returns the exit status.
+/// Writes the line of a fault, if there is one, and returns the exit status.
 fn end<O: Sink>(outcome: Result<(), RunFault>, out: &mut O) -> u8
     ensures status { result ≡ exit_status (fault_in outcome) }
     ensures said { WritesFaultLine (last_line (fault_in outcome)) (O.state out.old) (O.state out.new) }

@@ -19,7 +19,7 @@ use play_outside::Sink;
 use server_setup::ServerSetup;
 use std::alloc::{AllocError, Global};
 
-/// A line is too long, whatever follows, where this many of its bytes have come without its end: one more than those of the
+/// A line is too long, whatever follows, if this many of its bytes have come without its end: one more than those of the
 /// longest line and a carriage return.
 const TOO_MANY: usize = MAX_SCRIPT_LINE_BYTES + 2;
 
@@ -66,7 +66,7 @@ impl Script {
         Ok(())
     }
 
-    /// Does what the last line says where the input ends without a line feed.
+    /// Does what the last line says if the input ends without a line feed.
     pub fn finish<K: Sink>(&mut self, alloc: Global, out: &mut K) -> Ending
         requires ready { IsReady self.old.player }
         requires time { ticks (events_in self.old.player) + MAX_TICKS_PER_LINE ≤ MAX_TICKS }
@@ -83,7 +83,7 @@ impl Script {
         }
     }
 
-    /// Takes the next byte, and does what its line says where the byte ends one.
+    /// Takes the next byte, and does what its line says if the byte ends one.
     fn take_byte<K: Sink>(&mut self, alloc: Global, byte: u8, out: &mut K) -> Result<(), Halt>
         requires ready { IsReady self.old.player }
         requires time { ticks (events_in self.old.player) + MAX_TICKS_PER_LINE ≤ MAX_TICKS }
@@ -119,7 +119,7 @@ impl Script {
         Ok(())
     }
 
-    /// Keeps a byte that ends no line. It stops where the line is too long.
+    /// Keeps a byte that ends no line. It stops if the line is too long.
     fn keep_byte(&mut self, byte: u8) -> Result<(), Halt>
         requires other { byte ≢ 10 }
         requires ready { IsReady self.old.player }

@@ -15,7 +15,7 @@ use Rattle.server_setup.specs.declared.fault.RunFault.{RunFault}
 use Rattle.server_setup.specs.declared.fault.RunFault.TheVariants.{Usage, ConfigText, ConfigKey, BadLine, InputTooLong, MediaTwice, MediaTotal, Device, OutOfMemory}
 use Rattle.server_setup.specs.Setup.{HoldsSome, SetsUp, TellsFirst, fault_of_clips, fault_of_files, fault_of_held, fault_of_text}
 
--- what is held at the path, where something such is held
+-- what is held at the path, if something such is held
 held_such : (IsSuch : List ℕ → Type 0) (path : List ℕ) (before : FolderState) (files : Files) → before.files ≡ Some files
     → HoldsSome IsSuch path before → (bytes : List ℕ) × (config_at path files ≡ Some bytes) × IsSuch bytes
 held_such IsSuch path before files known holds =

@@ -15,7 +15,7 @@ use Rattle.server_setup.specs.declared.fault.RunFault.TheVariants.{Usage, Config
 use Rattle.server_setup.specs.declared.setup.ServerSetup.{ServerSetup}
 use Rattle.server_setup.specs.Fault.{fault_of_scan}
 
--- the bytes that are held at the path, where the folder says what it holds, are such bytes
+-- the bytes that are held at the path, if the folder says what it holds, are such bytes
 abbrev pub HoldsSome : (List ℕ → Type 0) → List ℕ → FolderState → Type 0
 HoldsSome IsSuch path state = (bytes : List ℕ) × IsHeld (config_at path) bytes state.files × IsSuch bytes
 
@@ -61,11 +61,11 @@ abbrev pub fault_of_held : Files → Option (List ℕ) → Option RunFault
 fault_of_held files None = Some Device
 fault_of_held files (Some bytes) = fault_of_text files (config_in bytes)
 
--- the first fault of files whose configuration has this path, none where a server can be set up from them
+-- the first fault of files whose configuration has this path, none if a server can be set up from them
 unfoldable pub fault_of_files : List ℕ → Files → Option RunFault
 fault_of_files path files = fault_of_held files (config_at path files)
 
--- a result tells the first fault of the files: where a server was set up there is none, and a refusal has it. A read that failed and
+-- a result tells the first fault of the files: if a server was set up there is none, and a refusal has it. A read that failed and
 -- memory that ran out tell nothing of it
 abbrev pub TellsFirst : Result ServerSetup RunFault → Option RunFault → Type 0
 TellsFirst (Ok setup) first = first ≡ None

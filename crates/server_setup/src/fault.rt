@@ -64,7 +64,7 @@ impl RunFault {
         send_both(self.label(), detail, to)
     }
 
-    /// Returns the line without its line feed, where it has neither a name nor a number.
+    /// Returns the line without its line feed, if it has neither a name nor a number.
     pub fn short_line(&self) -> Option<&'static str>
         ensures { MatchOption result (HasDetail self.now) (λ line. line.now ++ 10 ∷ [] ≡ fault_line self.now) }
     {
@@ -92,7 +92,7 @@ impl RunFault {
         Ok(line)
     }
 
-    /// Returns what stands in the line before the name or the number that it ends with: all of it where it has none.
+    /// Returns what stands in the line before the name or the number that it ends with: all of it if it has none.
     fn label(&self) -> &'static str
         ensures { result.now ++ detail_of self.now ++ 10 ∷ [] ≡ fault_line self.now }
     {
@@ -109,7 +109,7 @@ impl RunFault {
         }
     }
 
-    /// Returns the name or the number that the line ends with, and nothing where it has none. `digits` is room for a number.
+    /// Returns the name or the number that the line ends with, and nothing if it has none. `digits` is room for a number.
     fn detail<'a>(&'a self, digits: &'a mut Buffer) -> &'a str
         ensures { result.now ≡ detail_of self.entry.now }
     {

@@ -26,9 +26,9 @@ pub struct ServerSetup {
 
 /// Reads the configuration of this path, and then the clips of the folder that it names.
 ///
-/// The text of the configuration is tested before the folder is read. `ConfigText` comes exactly where the text is not
+/// The text of the configuration is tested before the folder is read. `ConfigText` comes exactly if the text is not
 /// TOML. `ConfigKey` names the first key that `read_config` refuses. `MediaTwice` names the least name that two clip files have, and
-/// `MediaTotal` has the first sum of the lengths of clip files that is above 1,073,741,824. `Device` comes only where the
+/// `MediaTotal` has the first sum of the lengths of clip files that is above 1,073,741,824. `Device` comes only if the
 /// folder's count of faults rose in this call. No other fault comes but `OutOfMemory`.
 pub fn set_up<R: Threads + Sync, M: MediaDir>(
     rt: &R,

@@ -16,7 +16,7 @@ use Rattle.history_model.proofs.places.Lists.{ArePlaces-with_place, same_places,
 use Rattle.stage_core.specs.LiveState.{Channels, is_some_over, life_at, places_of, with_exchanged, with_life}
 use Rattle.stage_core.proofs.LiveStates.{length-with_life, places_of-with_life}
 
--- where no channel has too many, none of them has
+-- if no channel has too many, none of them has
 pub one_within : (channels : Channels) → is_some_over channels ≡ false → (i : ℕ) → i < length channels → is_over_limit (get_or channels i []) ≡ false
 one_within channels none i within = elim (cases_Bool (is_over_limit (get_or channels i []))) [
   | inl e ↦ absurd (false≢true (sym none ∙ list_any_at is_over_limit channels i [] within e))
@@ -27,7 +27,7 @@ pub few_at : (channels : Channels) (k : ℕ) → is_some_over channels ≡ false
 few_at channels k none c =
     ltb-false MAX_LIVE_LAYERS (length (places_of k channels)) (one_within channels none (k - 1) (omega (arith, c.0, c.1)))
 
--- and so it is where one is written over by one that has not
+-- and so it is if one is written over by one that has not
 pub over-set : (channels : Channels) (at : ℕ) (places : Places) → is_some_over channels ≡ false → is_over_limit places ≡ false →
     is_some_over (set channels at places) ≡ false
 over-set channels at places none few =
@@ -92,7 +92,7 @@ put_back_at channels at life c p =
     ∙ ap (set channels index) (back_at places at.layer life p)
     ∙ set-get_or channels index []
 
--- what stands at a place after something is put at another: the same where it was what stood there
+-- what stands at a place after something is put at another: the same if it was what stood there
 module _ (channels : Channels) (a b : PlaceView) (first : IsConfigured (length channels) a.channel) (second : IsConfigured (length channels) b.channel)
     (p : ArePlaces (places_of a.channel channels)) where
   pub places_of-middle : places_of b.channel (with_life a (life_at b channels) channels)
@@ -163,7 +163,7 @@ room_after channels at life c none =
     let few : length places ≤ MAX_LIVE_LAYERS = few_at channels at.channel none c in
     omega (arith, here, one, few)
 
--- so has one where half of an exchange is undone
+-- so has one if half of an exchange is undone
 pub room_half_undone : (channels : Channels) (a b : PlaceView) → IsConfigured (length channels) a.channel → IsConfigured (length channels) b.channel →
     ArePlaces (places_of a.channel channels) → ArePlaces (places_of b.channel channels) → is_some_over channels ≡ false →
     length (places_of a.channel (with_life b (life_at b channels) (with_exchanged a b channels))) ≤ MAX_LIVE_LAYERS + 2

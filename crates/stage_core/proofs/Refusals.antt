@@ -137,7 +137,7 @@ module _ (n : ℕ) (live : LiveView) (state : StageState) (cmd : Cmd) (h : IsTri
       let count : length after ≡ n = length-places cmd live ∙ h.shows.count in
       list_any_at is_over_limit after (k - 1) [] (omega (arith, c.0, c.1, count)) (ap is_over_limit (places-shown k c) ∙ over)
 
--- the live state refuses the command where the stage does
+-- the live state refuses the command if the stage does
 refused_true : (cmd : Cmd) (n : ℕ) (live : LiveView) (state : StageState) → IsTried n live state cmd → is_refused_by cmd state ≡ true → is_refused_on cmd live ≡ true
 refused_true (Load at take) n live state h e = one_over n live state (Load at take) h at.channel h.served.0 e
 refused_true (LoadBg at take) n live state h e = one_over n live state (LoadBg at take) h at.channel h.served.0 e

@@ -134,7 +134,7 @@ keeps_next n channels f count rising shows place c =
     ∙ ap (filter_map shown_layer) (shows place.channel c))
     ∙ shown_on-places (f place.channel) place.layer (rising place.channel)
 
--- lists made from the numbers of the channels are the same where they agree on these
+-- lists made from the numbers of the channels are the same if they agree on these
 pub same_on_range : {X : Type 0} (f g : ℕ → X) (n : ℕ) → ((k : ℕ) → IsConfigured n k → f k ≡ g k) →
     map f (range_with_len 1 n) ≡ map g (range_with_len 1 n)
 same_on_range f g n same =

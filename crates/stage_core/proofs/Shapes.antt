@@ -8,7 +8,7 @@ use Rattle.play_types.specs.declared.shape.CommandShape.TheVariants as shape
 use Rattle.play_types.specs.declared.shape.Target.TheVariants as target
 use Rattle.play_types.specs.declared.shape.Query.TheVariants as query
 
--- the command is the one of this shape, where there is one alone
+-- the command is the one of this shape, if there is one alone
 abbrev pub IsOfShape : CommandShape → Cmd → Type 0
 IsOfShape (shape.Take at take) cmd = Unit {0}
 IsOfShape (shape.Change at) cmd = Unit {0}

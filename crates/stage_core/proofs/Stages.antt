@@ -127,7 +127,7 @@ IsStage-new n live saved mixer routes some few e f channels represents r =
 
 module _ (events : List Event) (tag : Tag) (cmd : Cmd) (live saved : LiveView) (mixer : MixerView) (routes : RoutesView) (h : IsStage events live saved mixer routes)
     (served : IsServed (length live.places) cmd) where
-  -- where it is not refused, the mixer can take it
+  -- if it is not refused, the mixer can take it
   pub served_by_mixer : IsServed mixer.channels cmd
   served_by_mixer = subst (λ (n : ℕ). IsServed n cmd) (sym h.mixed.count) served
 
@@ -199,7 +199,7 @@ AllServed-from n (cmd ∷ cmds) h = (h 0 cmd (omega arith), AllServed-from n cmd
 
 module _ (events : List Event) (tag : Tag) (cmds : List Cmd) (live saved : LiveView) (mixer : MixerView) (routes : RoutesView) (h : IsStage events live saved mixer routes)
     (each : All (IsServed (length live.places)) cmds) where
-  -- where it is not refused, the mixer can take it
+  -- if it is not refused, the mixer can take it
   pub each_by_mixer : All (IsServed mixer.channels) cmds
   each_by_mixer = subst (λ (n : ℕ). All (IsServed n) cmds) (sym h.mixed.count) each
 
@@ -243,7 +243,7 @@ module _ (events : List Event) (tag : Tag) (cmds : List Cmd) (live saved : LiveV
       (refused-batch events tag live h.live cmds (AllServed-from (length live.places) cmds each))
 
 module _ (events : List Event) (live saved : LiveView) (mixer : MixerView) (routes : RoutesView) (h : IsStage events live saved mixer routes) where
-  -- where memory was taken for its mixer
+  -- if memory was taken for its mixer
   pub IsStage-as_before : (after : MixerView) → IsAsBefore mixer after → IsStage events live saved after routes
   IsStage-as_before after same = record {
     live = h.live;
@@ -334,7 +334,7 @@ module _ (events : List Event) (live saved : LiveView) (mixer : MixerView) (rout
       ≡ map (scene_next (mixed_values mixer (ticks events + 1)) (option_map shown_at routes.present) live.places) (range_with_len 1 (length live.places))
   scenes-shown = same_on_range (scene events) (scene_next (mixed_values mixer (ticks events + 1)) (option_map shown_at routes.present) live.places) (length live.places) scene_at_once
 
-  -- where the history may have one tick more, so may each place be shown for one more
+  -- if the history may have one tick more, so may each place be shown for one more
   pub AllHaveTicksLeft : ticks events < MAX_TICKS → All (All HasTicksLeft) live.places
   AllHaveTicksLeft low k d within =
       let here : (k + 1) - 1 ≡ k = omega arith in

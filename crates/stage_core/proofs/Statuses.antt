@@ -19,7 +19,7 @@ use Rattle.history_model.specs.stage.StageHistory.{foreground_of}
 abbrev pub is_playing : Foreground → Bool
 is_playing one = not one.paused
 
--- a foreground that is told is there, and is paused where it is told so
+-- a foreground that is told is there, and is paused if it is told so
 pub record IsTold (found : Option Foreground) (front : Front) : Type 0 where
   pub foreground : Foreground
   pub found_is : found ≡ Some foreground

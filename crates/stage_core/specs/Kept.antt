@@ -31,7 +31,7 @@ pub record IsShownBefore (channels : ℕ) (events : List Event) (routes : Routes
   pub count : routes.channels ≡ channels
   pub shown : KeepsForegrounds channels routes.present (last_shown events)
 
--- the mixer is where the events put it
+-- the mixer is if the events put it
 pub record IsMixed (channels : ℕ) (events : List Event) (mixer : MixerView) : Type 0 where
   pub count : mixer.channels ≡ channels
   pub past : Represents mixer (acts events) (ticks events)

@@ -165,7 +165,7 @@ impl Stage {
         Ok(number)
     }
 
-    /// Adds a stop to the journal, which takes no event after it, and returns the number of events before it. Where the
+    /// Adds a stop to the journal, which takes no event after it, and returns the number of events before it. If the
     /// journal already holds a stop, the stage is as before.
     pub fn stop(&mut self, tag: Tag) -> Result<u64, Ended>
         ensures position { IfOk result (λ at. at ≡ length self.old.journal.events) }

@@ -66,7 +66,7 @@ looks_at t t' m m' n c IsTold won table is told =
       after = first ∙ second;
     }
 
--- what a command is told, where f is the event by the pass's number, and e the same by that of its view
+-- what a command is told, if f is the event by the pass's number, and e the same by that of its view
 answered_at : (m m' : Seat) (c : StageView) (sizes : Sizes) (f e : Event) (reply : Answer) → HasWon m c m' → m.0.sizes ≡ sizes → f ≡ e → HasRoom c.journal (held_by f)
     → ((setup : Setup) → length setup.channels ≡ c.channels → answer setup c.journal.events f ≡ StageAnswer.Answered reply) → IsAnswered sizes e reply c.journal.events
 answered_at m m' c sizes f e reply won same is room replies = record {
@@ -81,11 +81,11 @@ event_at m m' c c' e won grew own =
 
 -- a stage that was asked for an event, and that is then put back
 module _ {T F : Type 0} (m m' : Seat) (c c' : StageView) (called : Result T F) (won : HasWon m c m') where
-  -- it holds the event where it took it
+  -- it holds the event if it took it
   pub holds_event : (e : Event) → OnOk called (c' ≡ after_event e c) → (is_own m.0.number e ≡ true) ⊎ (is_final e ≡ true) → OnOk called (HasEvent m'.0 c')
   holds_event e grew own = on_ok_weaker called (λ is. event_at m m' c c' e won is own) grew
 
-  -- and is as it was where it did not
+  -- and is as it was if it did not
   pub stays : OnErr called (c' ≡ c) → OnErr called (c' ≡ stage_of m'.0.sizes m'.0.seen)
   stays same = on_err_weaker called (λ is. is ∙ subst (λ (x : Seat). c ≡ stage_of x.0.sizes x.0.seen) (sym won.after) won.whole) same
 
@@ -104,7 +104,7 @@ module _ {T F : Type 0} (m m' : Seat) (c c' : StageView) (called : Result T F) (
       by_answer (Ok answered) grew entered kept told refused = adds_at t t' m m' n c c' e (IsTold answered) won table grew entered told
       by_answer (Err fault) grew entered kept told refused = looks_at t t' m m' n c (IsRefused fault) won table kept refused
 
--- a call for a command or a batch, where f is the event by the pass's number, and e the same by that of its view
+-- a call for a command or a batch, if f is the event by the pass's number, and e the same by that of its view
 pub asked_at : (t t' : TableId) (m m' n : Seat) (c c' : StageView) (sizes : Sizes) (f e : Event) (called given : Result Answer ApplyFault) → HasWon m c m' → t' ≡ t → m.0.sizes ≡ sizes → f ≡ e → given ≡ called
     → OnOk called (c' ≡ after_event f c) → OnOk called (n ≡ (released (grown m'.0 c'.journal.events), [])) → OnErr called (n ≡ (released m'.0, []))
     → OnOk called (HasRoom c.journal (held_by f)) → IfOk called (λ reply. (setup : Setup) → length setup.channels ≡ c.channels → answer setup c.journal.events f ≡ StageAnswer.Answered reply)

@@ -19,7 +19,7 @@ use Rattle.stage_lock.proofs.Positions.{made_by_between, made_by_none}
 use Rattle.stage_lock.proofs.Views.{WasPass, apart_still, at_new, at_one, each_set, ended_still, kept_before, off, set_at, still_else, still_more, still_set, was_set}
 use Rattle.stage_lock.proofs.Keeps.{retold}
 
--- the numbers still differ where a pass with a greater number is added, which keeps none
+-- the numbers still differ if a pass with a greater number is added, which keeps none
 apart_more : (views : List SeatView) (u : SeatView) → AreApart views → u.kept ≡ [] → ((j : ℕ) (x : SeatView) → IsAt views j x → x.number < u.number)
     → ((j i : ℕ) (k : KeptPass) → Keeps views j i k → k.number < u.number) → AreApart (views ++ u ∷ [])
 apart_more views u r none_kept below kept_below = record {

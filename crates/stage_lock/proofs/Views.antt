@@ -39,7 +39,7 @@ at_new (x ∷ xs) a b (suc j) e = ⊎_elim (λ p. inl p) (λ (t : (j ≡ length 
 abbrev pub WasPass : List SeatView → List SeatView → Type 0
 WasPass now before = (j : ℕ) (u : SeatView) → IsAt now j u → (x : SeatView) × IsAt before j x × (u.number ≡ x.number) × (u.kept ≡ x.kept)
 
--- each pass of the views `before` is one of the views `now`, with what it keeps, and has ended where it had
+-- each pass of the views `before` is one of the views `now`, with what it keeps, and has ended if it had
 abbrev pub IsPassStill : List SeatView → List SeatView → Type 0
 IsPassStill before now = (j : ℕ) (x : SeatView) → IsAt before j x → (u : SeatView) × IsAt now j u × (x.ends ≡ true → u.ends ≡ true) × (u.kept ≡ x.kept)
 
@@ -96,7 +96,7 @@ still_else views id v w at note j x a =
 pub still_more : (views : List SeatView) (w : SeatView) → IsPassStill views (views ++ w ∷ [])
 still_more views w j x a = (x, record { at = at_longer views (w ∷ []) j x a.at; pass = a.pass }, (λ e. e), refl)
 
--- what is said of each view, where one is set
+-- what is said of each view, if one is set
 pub each_set : (P : ℕ → SeatView → Type 0) (views : List SeatView) (id : ℕ) (w : SeatView) → P id w → ((j : ℕ) (u : SeatView) → j ≢ id → get_elem? views j ≡ some u → P j u)
     → (j : ℕ) (u : SeatView) → get_elem? (set views id w) j ≡ some u → P j u
 each_set P views id w mine others j u e =

@@ -21,7 +21,7 @@ owner (Stop tag) = tag.worker
 abbrev pub is_own : ℕ → Event → Bool
 is_own number event = cond (is_final event) false (owner event == number)
 
--- the positions of the events that a test picks, where the first event has the position `at`
+-- the positions of the events that a test picks, if the first event has the position `at`
 abbrev pub positions : (Event → Bool) → ℕ → List Event → List ℕ
 positions picks at [] = []
 positions picks at (event ∷ events) = cond (picks event) (at ∷ positions picks (suc at) events) (positions picks (suc at) events)

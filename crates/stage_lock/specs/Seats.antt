@@ -55,7 +55,7 @@ newcomer sizes number = record {
   olds = [];
 }
 
--- pass 0 where `count` passes were made
+-- pass 0 if `count` passes were made
 abbrev pub first_of : Sizes → ℕ → SeatView
 first_of sizes count = record (newcomer sizes 0) { count = count }
 

@@ -53,7 +53,7 @@ impl SharedStage {
     ghost use Rattle.stage_lock.specs.Closing.{AreAll, Closes};
     ghost use Rattle.stage_lock.specs.Views.{journal_of, sizes_of, stage_of};
 
-    /// Shares a stage among `passes` passes, 1 to 65, which are numbered from 0. The stage holds no event. Where memory runs
+    /// Shares a stage among `passes` passes, 1 to 65, which are numbered from 0. The stage holds no event. If memory runs
     /// out, it is handed back.
     pub fn share(
         alloc: Global,
@@ -92,8 +92,8 @@ impl SharedStage {
     }
 
     /// Adds a command to the history, with the pass's number and the session as its tag, and returns its answer there. The
-    /// command is one that the stage serves. There is a fault where the history holds a stop, which is tested first, then
-    /// where its journal is full, and then where memory runs out. After a fault the history is as it was found.
+    /// command is one that the stage serves. There is a fault if the history holds a stop, which is tested first, then
+    /// if its journal is full, and then if memory runs out. After a fault the history is as it was found.
     pub fn ask<R: Wait>(
         &self,
         rt: &R,
@@ -121,7 +121,7 @@ impl SharedStage {
 
     /// Adds a batch to the history as one event, with the pass's number and the session as its tag, and returns its answer
     /// there. The batch is not empty, and its commands are such as [`SharedStage::ask`] takes. Its faults are those of that
-    /// call too, where the journal is full if it may not hold all commands of the batch.
+    /// call too, if the journal is full if it may not hold all commands of the batch.
     pub fn ask_batch<R: Wait>(
         &self,
         rt: &R,
@@ -150,8 +150,8 @@ impl SharedStage {
     }
 
     /// Adds a tick to the history, writes what each channel shows at it into the scenes, and returns its number. The pass has
-    /// the number 0, and there are as many scenes as the stage has channels. There is a fault where the history holds a
-    /// stop, which is tested first, and where it holds as many ticks as it may. After a fault the scenes are as before, and
+    /// the number 0, and there are as many scenes as the stage has channels. There is a fault if the history holds a
+    /// stop, which is tested first, and if it holds as many ticks as it may. After a fault the scenes are as before, and
     /// the history is as it was found. It takes no memory.
     pub fn tick<R: Wait>(
         &self,
@@ -174,7 +174,7 @@ impl SharedStage {
     }
 
     /// Adds a stop to the history and returns its position. Its tag is the pass's number and the session, and 0.0 in session
-    /// 0. There is a fault exactly where the history already holds a stop, and it is then as it was found. It takes no
+    /// 0. There is a fault exactly if the history already holds a stop, and it is then as it was found. It takes no
     /// memory.
     pub fn stop<R: Wait>(&self, rt: &R, pass: &mut Pass, session: u32) -> Result<u64, Ended>
         requires of { pass.old.stage ≡ self.now }
@@ -188,7 +188,7 @@ impl SharedStage {
         put_back(&self.table.shared, &mut pass.seat, stage, stopped)
     }
 
-    /// Returns the position of the stop, `None` exactly where the history that this look found holds none.
+    /// Returns the position of the stop, `None` exactly if the history that this look found holds none.
     pub fn ended<R: Wait>(&self, rt: &R, pass: &mut Pass) -> Option<u64>
         requires of { pass.old.stage ≡ self.now }
         ensures of { pass.new.stage ≡ self.now }

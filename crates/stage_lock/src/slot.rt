@@ -77,8 +77,8 @@ fn enter(board: &Board, seat: &mut Seat, stage: Stage)
     board.wake_one(TURN);
 }
 
-/// Puts the stage back after a call of it for an event, gives up the turn, and returns what the call returned: with the event where the
-/// call succeeded, and as it was where it failed.
+/// Puts the stage back after a call of it for an event, gives up the turn, and returns what the call returned: with the event if the
+/// call succeeded, and as it was if it failed.
 pub(crate) fn put_back<T, F>(
     board: &Board,
     seat: &mut Seat,

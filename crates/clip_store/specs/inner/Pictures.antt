@@ -1,7 +1,7 @@
 -- Pixels that are lowered in place.
 use Rattle.std.specs.Prelude.{◌≡◌, ℕ, ◌+◌, ◌*◌, ◌/◌, ◌%◌, ◌<◌, min, nat_lt, if◌then◌else◌, List, length, slice_index}
 
--- the byte at k where pixels are lowered: no greater than the alpha of its pixel
+-- the byte at k if pixels are lowered: no greater than the alpha of its pixel
 abbrev pub lowered_at : List ℕ → ℕ → ℕ
 lowered_at bytes k = min (slice_index bytes k) (slice_index bytes (k / 4 * 4 + 3))
 

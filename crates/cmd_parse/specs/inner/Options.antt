@@ -76,7 +76,7 @@ transition_at line at kind = do
   let manner = manner_at line (at + duration.1)
   Ok (trans_of kind duration.0 Linear manner.1, duration.1 + manner.0)
 
--- the options with the one that begins at a position, where it was not given before, and the number of words after its
+-- the options with the one that begins at a position, if it was not given before, and the number of words after its
 -- first that belong to it
 abbrev pub with_given : Line → ℕ → Given → Keyword → Result (Given × ℕ) Refusal
 with_given line at options Loop = Ok (record options { looped = true }, 0)

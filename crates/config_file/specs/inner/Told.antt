@@ -10,12 +10,12 @@ IsFirst faults (Key name) = option_map chars (slice_get faults 0) ≡ Some name
 IsFirst faults NotToml = ⊥
 IsFirst faults OutOfMemory = Unit {0}
 
--- the value is told where there are no faults, else the first of them
+-- the value is told if there are no faults, else the first of them
 abbrev pub IsTold : {A : Type 0} → List (List ℕ) → A → Result A ConfigFault → Type 0
 IsTold faults value (Ok told) = (faults ≡ []) × (told ≡ value)
 IsTold faults value (Err fault) = IsFirst faults fault
 
--- the value is read where the rule is kept
+-- the value is read if the rule is kept
 abbrev pub IsRead : {A : Type 0} → Bool → A → Option A → Type 0
 IsRead kept value (Some read) = (kept ≡ true) × (read ≡ value)
 IsRead kept value None = kept ≡ false

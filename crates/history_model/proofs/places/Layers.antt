@@ -138,7 +138,7 @@ was_apart n Info found e = e
 not_there : (at place : PlaceView) → eqb at.layer place.layer ≡ false → same_place at place ≡ true → ⊥
 not_there at place apart there = false≢true (sym apart ∙ (and_parts (at.channel == place.channel) _ there).1)
 
--- it leaves such a place empty where it acts on it
+-- it leaves such a place empty if it acts on it
 leaves_empty : (cmd : Cmd) (place : PlaceView) (found : List ℕ) → is_in place.layer (with_layers_of cmd found) ≡ false →
     acts_on_content cmd place ≡ true → effect cmd empty_place ≡ empty_place
 leaves_empty (Load at take) place found e there = absurd (not_there at place (apart_from place.layer at.layer found e).0 there)
@@ -226,7 +226,7 @@ state-other_layer (act ∷ before) t place e =
 abbrev chosen : (ℕ → Life) → List ℕ → Places
 chosen f numbers = map (λ n. (n, f n)) (filter (λ n. is_live (f n)) numbers)
 
--- they have at each number its life, where a number that is left out has an empty one
+-- they have at each number its life, if a number that is left out has an empty one
 standing-more : (f : ℕ → Life) (m n : ℕ) (live : Bool) (numbers : List ℕ) → is_live (f m) ≡ live → (m ≡ n) ⊎ (m ≡ n → ⊥) →
     ((eqb m n || is_in n numbers) ≡ false → f n ≡ empty_place) →
     ((is_in n numbers ≡ false → f n ≡ empty_place) → standing (chosen f numbers) n ≡ f n) →

@@ -177,7 +177,7 @@ standing-with_place (place ∷ more) layer n life p = elim (cases_order place.0 
         standing-other place (with_place more layer life) n apart ∙ rest
         ∙ ap (λ (s : Life). if eqb layer n then life else s) (sym (standing-other place more n apart))
 
--- a place that is not live where nothing was adds no layer
+-- a place that is not live if nothing was adds no layer
 pub length-with_place : (places : Places) (layer : ℕ) (life : Life) → ArePlaces places →
     (is_live life ≡ true → is_live (standing places layer) ≡ true) → length (with_place places layer life) ≤ length places
 length-with_place [] layer life p was = few (is_live life) refl was

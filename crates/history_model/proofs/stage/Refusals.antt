@@ -1,4 +1,4 @@
--- Which commands are refused, where each channel is within its limits.
+-- Which commands are refused, if each channel is within its limits.
 use Rattle.std.proofs.Common.{◌≡◌, ℕ, ◌+◌, ◌≤◌, ◌==◌, eqb, ltb, leb, Bool, true, false, ◌&&◌, ◌||◌, ◌⊎◌, inl, inr, List, [], ◌∷◌, ◌++◌, length, refl, sym, ap, ap₂, ◌∙◌, subst, arith, is_some, eq-eqb, eqb-true, ne_eqb, le-ltb, lt-ltb, ltb-false, if◌then◌else◌}
 use Rattle.std.proofs.lemmas.Bool.{false≢true, and_parts, cases_Bool, cases_eq, cond-false, leb-true, leb-false, or_parts, or_right}
 use Rattle.std.proofs.lemmas.List.{length-map}
@@ -235,14 +235,14 @@ module _ (acts : List Act) (t : ℕ) where
       ∙ ap (λ (s : StageState). is_over_in s channel) (stage_state-command acts t cmd)
       ∙ none_over (state_after cmd (stage_state acts t)) (IsWithinLimits-command acts t cmd h e) channel)
 
--- a command is refused exactly where the stage tells it
+-- a command is refused exactly if the stage tells it
 pub with_command-state : (acts : List Act) (t : ℕ) (cmd : Cmd) → IsWithinLimits (stage_state acts t) →
     with_command acts t cmd ≡ (if is_refused_by cmd (stage_state acts t) then None else Some (acts_of t cmd ++ acts))
 with_command-state acts t cmd h =
     ap (λ (over : Bool). if over then None else Some (acts_of t cmd ++ acts))
     (over_exactly acts t cmd (is_refused_by cmd (stage_state acts t)) h refl)
 
--- it is taken where it leaves no channel over a limit, and refused where it leaves one
+-- it is taken if it leaves no channel over a limit, and refused if it leaves one
 pub is_over-within : (acts : List Act) (t : ℕ) → IsWithinLimits (stage_state acts t) → (channel : ℕ) → is_over acts t channel ≡ false
 is_over-within acts t h channel = is_over-state acts t channel ∙ none_over (stage_state acts t) h channel
 
@@ -265,7 +265,7 @@ with_command-over acts t cmd channel h over =
     ∙ ap (λ (refused : Bool). if refused then None else Some (acts_of t cmd ++ acts))
     (refused_if_over acts t cmd channel (is_refused_by cmd (stage_state acts t)) h over refl)
 
--- a list of commands is refused exactly where the stage tells it
+-- a list of commands is refused exactly if the stage tells it
 by_refusal : (acts : List Act) (t : ℕ) (cmd : Cmd) (cmds : List Cmd) (refused : Bool) →
     (refused ≡ false → with_commands (acts_of t cmd ++ acts) t cmds
     ≡ (if some_is_refused cmds (stage_state (acts_of t cmd ++ acts) t) then None else Some (acts_after_all t cmds (acts_of t cmd ++ acts)))) →

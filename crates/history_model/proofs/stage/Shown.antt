@@ -26,7 +26,7 @@ use Rattle.history_model.proofs.places.Layers.{standing-live}
 use Rattle.history_model.proofs.places.Lists.{empty_unless_live}
 use Rattle.history_model.proofs.stage.Histories.{IsWithinLimits-history}
 
--- what is taken of numbers is what is taken of the live ones among them, where nothing is taken of an empty place
+-- what is taken of numbers is what is taken of the live ones among them, if nothing is taken of an empty place
 chosen_more : {X : Type 0} (h : ℕ × Life → Option X) (f : ℕ → Life) (m : ℕ) (live : Bool) (numbers : List ℕ) (rest : List X) →
     ((n : ℕ) → h (n, empty_place) ≡ None) → is_live (f m) ≡ live →
     rest ≡ filter_map h (map (λ n. (n, f n)) (filter (λ n. is_live (f n)) numbers)) →

@@ -1,4 +1,4 @@
--- A client's line whose command is known, and what stands at its positions. They count from 0, where the command's name
+-- A client's line whose command is known, and what stands at its positions. They count from 0, if the command's name
 -- stands.
 use Rattle.std.specs.Prelude.{ℕ, ◌+◌, nat_lt, Bool, true, false, if◌then◌else◌, Option, Result, Ok, Err, List, length, slice_get, ok_or}
 use Rattle.std.specs.Option.{option_map_or}
@@ -37,7 +37,7 @@ number_at line at least most = do
   word ← word_at line at
   legal line at (number_within least most word)
 
--- the value, where the line ends before a position: a word there is one too many
+-- the value, if the line ends before a position: a word there is one too many
 abbrev pub ended : {A : Type 0} → Line → ℕ → A → Result A Refusal
 ended line at value = if nat_lt at (length line.words) then Err (Illegal line.name at) else Ok value
 
@@ -45,7 +45,7 @@ ended line at value = if nat_lt at (length line.words) then Err (Illegal line.na
 abbrev pub stands_at : Line → ℕ → List ℕ → Bool
 stands_at line at fixed = option_map_or (is_word fixed) (slice_get line.words at) false
 
--- whether this fixed word stands at a position, where no other word may stand, and none after it
+-- whether this fixed word stands at a position, if no other word may stand, and none after it
 abbrev pub flag_at : Line → ℕ → List ℕ → Result Bool Refusal
 flag_at line at fixed =
     if stands_at line at fixed then ended line (at + 1) true else ended line at false

@@ -128,7 +128,7 @@ most_number Auto = 0
 abbrev pub option_value : OptionName → List ℕ → Option ℕ
 option_value option word = number_within (least_number option) (most_number option) word
 
--- the number of an option as it is written: 0 where none is written
+-- the number of an option as it is written: 0 if none is written
 abbrev pub written_number : OptionName → Written → ℕ
 written_number option written = unwrap_or (option_and_then (option_value option) (slice_get written.more 0)) 0
 

@@ -8,19 +8,19 @@ use Rattle.play_types.specs.declared.parsed.Refusal.{Refusal}
 use Rattle.play_types.specs.declared.parsed.Refusal.TheVariants.{Channel}
 use Rattle.history_model.specs.commands.Line.{Line, ◌>>=◌, legal, word_at}
 
--- a channel, and a layer of it where one is written
+-- a channel, and a layer of it if one is written
 pub record Area : Type 0 where
   pub channel : ℕ
   pub layer : Option ℕ
 
--- the place that is meant: layer 0 where no layer is written
+-- the place that is meant: layer 0 if no layer is written
 abbrev pub place_of : Area → PlaceView
 place_of area = record { channel = area.channel; layer = unwrap_or area.layer 0 }
 
 abbrev pub is_dash : ℕ → Bool
 is_dash c = c == 45
 
--- the layer that stands after the first dash of a word at a position: none where there is no dash
+-- the layer that stands after the first dash of a word at a position: none if there is no dash
 abbrev pub layer_of : Line → ℕ → List ℕ → Result (Option ℕ) Refusal
 layer_of line at word =
     if list_any is_dash word then

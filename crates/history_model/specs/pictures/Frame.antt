@@ -11,7 +11,7 @@ use Rattle.history_model.specs.pictures.Raster.{Pictures, raster_pixel}
 use Rattle.history_model.specs.pictures.Placing.{Placement, placed_pixel}
 use Rattle.history_model.specs.pictures.Scene.{scene_back}
 
--- the pixel keyed by the nearest layer below, where that is a keyer
+-- the pixel keyed by the nearest layer below, if that is a keyer
 abbrev pub keyed_pixel : (Drawn → PixelView) → List Drawn → PixelView → PixelView
 keyed_pixel placed [] s = s
 keyed_pixel placed (next ∷ below) s = if next.keyer then key s (placed next).r else s
@@ -36,7 +36,7 @@ layer_pixel pictures frame x y layer =
 abbrev pub scene_pixel : Pictures → Geometry → List Drawn → ℕ → ℕ → PixelView
 scene_pixel pictures frame layers x y = composed_pixel (layer_pixel pictures frame x y) (reverse layers)
 
--- pixel (x, y) of each channel at the last tick of a history read backward, transparent where it has no tick
+-- pixel (x, y) of each channel at the last tick of a history read backward, transparent if it has no tick
 abbrev pub frames_back : Setup → List Event → ℕ → ℕ → ℕ → PixelView
 frames_back setup [] = λ channel x y. transparent
 frames_back setup (Do tag cmd ∷ before) = frames_back setup before
@@ -50,7 +50,7 @@ frames_back setup (Tick ∷ before) =
 unfoldable pub frame_pixel : Setup → List Event → ℕ → ℕ → ℕ → PixelView
 frame_pixel setup history channel x y = frames_back setup (Tick ∷ reverse history) channel x y
 
--- pixel (x, y) of a channel at the last tick of a history, transparent where it has no tick
+-- pixel (x, y) of a channel at the last tick of a history, transparent if it has no tick
 unfoldable pub last_pixel : Setup → List Event → ℕ → ℕ → ℕ → PixelView
 last_pixel setup history channel x y = frames_back setup (reverse history) channel x y
 

@@ -6,7 +6,7 @@ use Rattle.play_types.specs.ClipFile.{ClipView}
 use Rattle.play_types.specs.declared.geometry.Geometry.{Geometry}
 use Rattle.pixel_math.specs.Pixel.{PixelView, transparent, lowered}
 
--- the sizes of the channels, channel 1 first, and the clips by position, none where a file is unreadable
+-- the sizes of the channels, channel 1 first, and the clips by position, none if a file is unreadable
 pub record Setup : Type 0 where
   pub channels : List Geometry
   pub clips : List (Option ClipView)
@@ -33,7 +33,7 @@ abbrev pub pixel_of_bytes : List ℕ → ℕ → PixelView
 pixel_of_bytes bytes at =
     lowered (slice_index bytes at) (slice_index bytes (at + 1)) (slice_index bytes (at + 2)) (slice_index bytes (at + 3))
 
--- the pixel of a clip at a frame, column and row: transparent where it has no such frame
+-- the pixel of a clip at a frame, column and row: transparent if it has no such frame
 abbrev pub clip_pixel : ClipView → ℕ → ℕ → ℕ → PixelView
 clip_pixel clip frame column row =
     let at = frame_start clip frame + 4 * (row * clip.geometry.width + column) in
@@ -43,7 +43,7 @@ clip_pixel clip frame column row =
 abbrev pub sample_of_bytes : List ℕ → ℕ → ℤ
 sample_of_bytes bytes at = cast_signed w16 (slice_index bytes at + 256 * slice_index bytes (at + 1))
 
--- the sample of a clip at a frame and pair, side 0 left and 1 right: silent where it has no such frame or pair
+-- the sample of a clip at a frame and pair, side 0 left and 1 right: silent if it has no such frame or pair
 abbrev pub clip_sample : ClipView → ℕ → ℕ → ℕ → ℤ
 clip_sample clip frame pair side =
     let at = frame_start clip frame + 4 * clip.geometry.width * clip.geometry.height + 4 * pair + 2 * side in

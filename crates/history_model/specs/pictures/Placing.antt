@@ -12,7 +12,7 @@ abbrev pub floor_div : ℤ → ℤ → ℤ
 floor_div number (pos divisor) = int_div_euclid number (pos divisor)
 floor_div number (negsuc divisor) = int_div_euclid (neg_ℤ number) (pos (suc divisor))
 
--- a column of `width` columns, none where the number lies outside
+-- a column of `width` columns, none if the number lies outside
 abbrev pub column_in : ℕ → ℤ → Option ℕ
 column_in width (pos column) = if nat_lt column width then Some column else None
 column_in width (negsuc column) = None
@@ -35,13 +35,13 @@ abbrev pub is_kept : ℕ → ℤ → ℤ → ℕ → Bool
 is_kept width edge extent x =
     int_le (twice_part width edge) (twice_middle x) && int_lt (twice_middle x) (twice_part width (edge +ℤ extent))
 
--- the raster column that frame column x shows, none where it is not kept; rows alike, with the numbers at 1
+-- the raster column that frame column x shows, none if it is not kept; rows alike, with the numbers at 1
 abbrev pub visible_column : ℕ → List ℤ → List ℤ → ℕ → ℕ → Option ℕ
 visible_column width fill clip at x =
     if is_kept width (number_at clip at) (number_at clip (at + 2)) x
     then filled_column width (number_at fill at) (number_at fill (at + 2)) x else None
 
--- the raster's pixel at a column and a row, at an opacity in millionths: transparent where either is not shown
+-- the raster's pixel at a column and a row, at an opacity in millionths: transparent if either is not shown
 abbrev pub faded_at : Option ℕ → Option ℕ → (ℕ → ℕ → PixelView) → ℕ → PixelView
 faded_at None row raster opacity = transparent
 faded_at (Some column) None raster opacity = transparent

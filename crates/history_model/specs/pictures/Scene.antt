@@ -45,7 +45,7 @@ drawn_place acts ticks foregrounds place foreground = record {
   keyer = is_one (number_at (value_at acts place Keyer (ticks + 1)) 0);
 }
 
--- a layer of a channel at that tick, none where it is not drawn
+-- a layer of a channel at that tick, none if it is not drawn
 abbrev pub drawn_layer : List Act → ℕ → Option (PlaceView → Option Foreground) → ℕ → ℕ → Option Drawn
 drawn_layer acts ticks foregrounds channel layer =
     let place : PlaceView = record { channel = channel; layer = layer } in

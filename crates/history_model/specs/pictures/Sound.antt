@@ -11,7 +11,7 @@ use Rattle.play_types.specs.declared.drawn.Drawn.{Drawn}
 use Rattle.history_model.specs.pictures.Media.{Setup, size, clip_at, clip_sample}
 use Rattle.history_model.specs.pictures.Scene.{scene_back}
 
--- the sample of a clip, silent where its file is unreadable
+-- the sample of a clip, silent if its file is unreadable
 abbrev pub played_sample : Option ClipView → ℕ → ℕ → ℕ → ℤ
 played_sample None frame pair side = pos 0
 played_sample (Some clip) frame pair side = clip_sample clip frame pair side
@@ -54,7 +54,7 @@ held_to_sample sum = int_min (int_max sum (negsuc 32767)) (pos 32767)
 abbrev pub scene_sample : Setup → (ℕ → ℕ → ℕ → ℤ) → List Drawn → ℕ → ℕ → ℤ
 scene_sample setup sounds layers pair side = held_to_sample (sample_sum (still_sample setup sounds pair side) layers)
 
--- the samples of each channel at the last tick of a history read backward, silent where it has no tick
+-- the samples of each channel at the last tick of a history read backward, silent if it has no tick
 abbrev pub sounds_back : Setup → List Event → ℕ → ℕ → ℕ → ℤ
 sounds_back setup [] = λ channel pair side. pos 0
 sounds_back setup (Do tag cmd ∷ before) = sounds_back setup before
@@ -67,6 +67,6 @@ sounds_back setup (Tick ∷ before) =
 unfoldable pub frame_sample : Setup → List Event → ℕ → ℕ → ℕ → ℤ
 frame_sample setup history channel pair side = sounds_back setup (Tick ∷ reverse history) channel pair side
 
--- the sample of a channel at the last tick of a history, silent where it has no tick
+-- the sample of a channel at the last tick of a history, silent if it has no tick
 unfoldable pub last_sample : Setup → List Event → ℕ → ℕ → ℕ → ℤ
 last_sample setup history channel pair side = sounds_back setup (reverse history) channel pair side

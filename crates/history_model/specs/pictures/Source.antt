@@ -13,7 +13,7 @@ use Rattle.history_model.specs.stage.Life.{Foreground}
 use Rattle.history_model.specs.stage.Live.{foreground_at}
 use Rattle.history_model.specs.stage.Acts.{acts_back}
 
--- the foreground that each place showed at the last tick of a history, none where it has no tick
+-- the foreground that each place showed at the last tick of a history, none if it has no tick
 abbrev pub last_foregrounds : List Event → Option (PlaceView → Option Foreground)
 last_foregrounds [] = None
 last_foregrounds (Do tag cmd ∷ before) = last_foregrounds before
@@ -33,12 +33,12 @@ abbrev pub foreground_still : Option Foreground → Still
 foreground_still None = Nothing
 foreground_still (Some foreground) = own_still foreground.take.spec (head foreground.take foreground.shown)
 
--- what a route to a channel shows: the frame of the tick before, and nothing where there was none
+-- what a route to a channel shows: the frame of the tick before, and nothing if there was none
 abbrev pub channel_still : Option (PlaceView → Option Foreground) → ℕ → Still
 channel_still None channel = Nothing
 channel_still (Some foregrounds) channel = Channel channel
 
--- what a route to a place shows: its clip or colour at the tick before, and nothing where there was none
+-- what a route to a place shows: its clip or colour at the tick before, and nothing if there was none
 abbrev pub layer_still : Option (PlaceView → Option Foreground) → PlaceView → Still
 layer_still None place = Nothing
 layer_still (Some foregrounds) place = foreground_still (foregrounds place)

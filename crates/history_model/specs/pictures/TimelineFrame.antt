@@ -18,7 +18,7 @@ use Rattle.history_model.specs.pictures.Scene.{scene_of}
 use Rattle.history_model.specs.pictures.Frame.{frame_pixel, scene_pixel}
 use Rattle.history_model.specs.pictures.Sound.{frame_sample, scene_sample}
 
--- the foreground that each place showed at the last tick of a timeline, none where it has no tick
+-- the foreground that each place showed at the last tick of a timeline, none if it has no tick
 abbrev pub timeline_foregrounds : List Entry → Option (PlaceView → Option Foreground)
 timeline_foregrounds [] = None
 timeline_foregrounds (Did cmd ∷ before) = timeline_foregrounds before
@@ -29,7 +29,7 @@ abbrev pub timeline_scene : List Entry → ℕ → List Drawn
 timeline_scene entries channel =
     scene_of (timeline_acts entries) (timeline_ticks entries) (timeline_foregrounds entries) channel
 
--- pixel (x, y) of each channel at the last tick of a timeline, transparent where it has no tick
+-- pixel (x, y) of each channel at the last tick of a timeline, transparent if it has no tick
 abbrev pub timeline_frames : Setup → List Entry → ℕ → ℕ → ℕ → PixelView
 timeline_frames setup [] = λ channel x y. transparent
 timeline_frames setup (Did cmd ∷ before) = timeline_frames setup before
@@ -41,7 +41,7 @@ timeline_frames setup (Ticked ∷ before) =
 unfoldable pub timeline_pixel : Setup → List Entry → ℕ → ℕ → ℕ → PixelView
 timeline_pixel setup entries channel x y = timeline_frames setup (Ticked ∷ entries) channel x y
 
--- the samples of each channel at the last tick of a timeline, silent where it has no tick
+-- the samples of each channel at the last tick of a timeline, silent if it has no tick
 abbrev pub timeline_sounds : Setup → List Entry → ℕ → ℕ → ℕ → ℤ
 timeline_sounds setup [] = λ channel pair side. pos 0
 timeline_sounds setup (Did cmd ∷ before) = timeline_sounds setup before

@@ -74,7 +74,7 @@ number_given_up line = if line.1 then Some line.0 else None
 unfoldable pub given_up_of : Tag → List PlayedLine → List ℕ
 given_up_of tag played = filter_map number_given_up (enumerate_from 0 (filter_map (given_up_by tag) played))
 
--- the step of a connection's line after those before it, none where the connection has ended before
+-- the step of a connection's line after those before it, none if the connection has ended before
 unfoldable pub said_step : Playout → List PlayedLine → PlayedLine → Tag → Option Step
 said_step playout before line tag =
     let all = before ++ line ∷ [] in

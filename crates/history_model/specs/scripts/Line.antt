@@ -30,7 +30,7 @@ tag_of worker session =
     (λ (w : ℕ). option_map (λ (s : ℕ). record { worker = w; session = s }) (plain_number_within 1 MAX_SESSION session))
     (plain_number_within 1 MAX_WORKER worker)
 
--- a line of the connection, where the tag is one
+-- a line of the connection, if the tag is one
 abbrev pub said_by : List ℕ → Option Tag → ScriptLine
 said_by text None = Rejected
 said_by text (Some tag) = Said tag text
@@ -39,7 +39,7 @@ abbrev pub said_line : Option (List ℕ × (List ℕ × List ℕ)) → ScriptLin
 said_line None = Rejected
 said_line (Some parts) = said_by parts.1.1 (tag_of parts.0 parts.1.0)
 
--- a number of ticks, where one is written
+-- a number of ticks, if one is written
 abbrev pub ticks_line : Option ℕ → ScriptLine
 ticks_line None = Rejected
 ticks_line (Some count) = Ticks count

@@ -47,12 +47,12 @@ reply_line tag text = tag_text tag ++ text ++ 10 ∷ []
 unfoldable pub tagged_lines : Tag → List (List ℕ) → List ℕ
 tagged_lines tag lines = flat_map (reply_line tag) lines
 
--- what is written for a reply, where there is one
+-- what is written for a reply, if there is one
 abbrev pub reply_output : Playout → Tag → Option Reply → List ℕ
 reply_output playout tag None = []
 reply_output playout tag (Some answer) = tagged_lines tag (reply_lines playout.config playout.names answer)
 
--- the reply to a command or a batch of this name by what becomes of it: `found`, the stage's answer, where it is an event
+-- the reply to a command or a batch of this name by what becomes of it: `found`, the stage's answer, if it is an event
 abbrev pub verdict_reply : Name → Answer → Verdict → Reply
 verdict_reply asked found JournalFull = reply.Refused 503 asked
 verdict_reply asked found OutOfMemory = reply.Refused 501 asked

@@ -12,7 +12,7 @@ use Rattle.play_types.specs.declared.parsed.Refusal.{Refusal}
 use Rattle.play_types.specs.declared.parsed.Refusal.TheVariants as refusal
 use Rattle.history_model.specs.commands.Command.{parsed}
 
--- nothing, where the line has no word; a refusal, by its reply; or what its words ask for
+-- nothing, if the line has no word; a refusal, by its reply; or what its words ask for
 pub data LineMeaning : Type 0 where
   Blank : LineMeaning
   Wrong : Reply → LineMeaning
@@ -43,7 +43,7 @@ line_meaning config media (Text line) = meaning_of_words config media line (word
 line_meaning config media TooLong = Wrong (Unknown [])
 line_meaning config media NotUtf8 = Wrong (Unknown [])
 
--- what the words ask for, where they ask for anything
+-- what the words ask for, if they ask for anything
 abbrev pub asked_by : LineMeaning → Option Parsed
 asked_by Blank = None
 asked_by (Wrong reply) = None

@@ -70,7 +70,7 @@ batched Kill = None
 abbrev pub batch : List Parsed → List Cmd
 batch asked = take MAX_BATCH_COMMANDS (filter_map batched (after_first is_begin (since_closing asked)))
 
--- what is done where no batch is open
+-- what is done if no batch is open
 abbrev pub step_outside : Parsed → Step
 step_outside (Stage command) = Ask command
 step_outside Begin = Local (reply.Done name.Begin)
@@ -81,7 +81,7 @@ step_outside Version = Local reply.Version
 step_outside Bye = EndConnection
 step_outside Kill = KillServer
 
--- a command for the batch: it waits there where it is no query and there is room
+-- a command for the batch: it waits there if it is no query and there is room
 abbrev pub step_waiting : List Cmd → Cmd → Step
 step_waiting commands command =
     if is_query command then Local (reply.Refused 403 (command_name command))
@@ -93,7 +93,7 @@ abbrev pub step_commit : List Cmd → Step
 step_commit [] = Local (reply.Done name.Commit)
 step_commit (command ∷ commands) = AskBatch (command ∷ commands)
 
--- what is done where this batch is open
+-- what is done if this batch is open
 abbrev pub step_inside : List Cmd → Parsed → Step
 step_inside commands (Stage command) = step_waiting commands command
 step_inside commands Begin = Local (reply.Refused 403 name.Begin)

@@ -38,19 +38,19 @@ is_over acts ticks channel =
     nat_lt MAX_LIVE_LAYERS (length (live_layers acts ticks channel))
     || nat_lt MAX_WAITING_SETTINGS (length (waiting_settings acts channel))
 
--- the acts with those of a command after `ticks` ticks, none where it is refused since a channel is then over a limit
+-- the acts with those of a command after `ticks` ticks, none if it is refused since a channel is then over a limit
 abbrev pub with_command : List Act → ℕ → Cmd → Option (List Act)
 with_command acts ticks cmd =
     let more = acts_of ticks cmd ++ acts in
     if list_any (is_over more ticks) (channels more) then None else Some more
 
--- the acts with those of all commands, none where one of them is refused after the ones before it
+-- the acts with those of all commands, none if one of them is refused after the ones before it
 abbrev pub with_commands : List Act → ℕ → List Cmd → Option (List Act)
 with_commands acts ticks [] = Some acts
 with_commands acts ticks (cmd ∷ cmds) =
     option_and_then (λ more. with_commands more ticks cmds) (with_command acts ticks cmd)
 
--- the acts with those of an event after `ticks` ticks, none where it is refused
+-- the acts with those of an event after `ticks` ticks, none if it is refused
 abbrev pub with_event : List Act → ℕ → Event → Option (List Act)
 with_event acts ticks (Do tag cmd) = with_command acts ticks cmd
 with_event acts ticks (Batch tag cmds) = with_commands acts ticks cmds

@@ -77,7 +77,7 @@ standing_foreground acts ticks channel layer = (state acts ticks (record { chann
 abbrev pub channel_foregrounds : List Act → ℕ → ℕ → List Foreground
 channel_foregrounds acts ticks channel = filter_map (standing_foreground acts ticks channel) (layers acts)
 
--- playing where some foreground is not paused, else paused where there is one, else empty
+-- playing if some foreground is not paused, else paused if there is one, else empty
 abbrev pub status_of : List Foreground → Status
 status_of [] = Empty
 status_of (foreground ∷ more) =

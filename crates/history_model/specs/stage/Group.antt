@@ -22,7 +22,7 @@ is_deferred_of which cmd = elim (shape_of cmd) [
   | shape.Ask query ↦ false
 ]
 
--- the test that a channel passes where it passes the given one and the command does not commit it
+-- the test that a channel passes if it passes the given one and the command does not commit it
 abbrev pub and_not_committed : (ℕ → Bool) → Cmd → ℕ → Bool
 and_not_committed which cmd = elim (shape_of cmd) [
   | shape.Take at take ↦ which

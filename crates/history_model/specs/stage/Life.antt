@@ -69,16 +69,16 @@ delay_over take (Some foreground) =
     if ends foreground.take.spec foreground.take.looped && not foreground.paused
     then Some (foreground.take.length - take.trans.duration - foreground.shown) else None
 
--- the ticks until a background starts by itself, none without one and where it does not
+-- the ticks until a background starts by itself, none without one and if it does not
 abbrev pub delay_of : Option TakeView → Option Foreground → Option ℕ
 delay_of None foreground = None
 delay_of (Some take) foreground = if take.auto then delay_over take foreground else None
 
--- the ticks until the background of a place starts by itself, none where it does not
+-- the ticks until the background of a place starts by itself, none if it does not
 abbrev pub delay : Life → Option ℕ
 delay s = delay_of s.background s.foreground
 
--- a foreground after `ticks` ticks: it was shown for them where it is not paused
+-- a foreground after `ticks` ticks: it was shown for them if it is not paused
 abbrev pub shown_for : ℕ → Foreground → Foreground
 shown_for ticks foreground = if foreground.paused then foreground else record foreground { shown = foreground.shown + ticks }
 
@@ -96,7 +96,7 @@ after_delay (Some wait) s ticks =
 abbrev pub after : Life → ℕ → Life
 after s ticks = after_delay (delay s) s ticks
 
--- a place as the next tick shows it, by its delay: its background is started where that is due
+-- a place as the next tick shows it, by its delay: its background is started if that is due
 abbrev pub ready_by : Option ℕ → Life → Life
 ready_by None s = s
 ready_by (Some zero) s = start s

@@ -42,7 +42,7 @@ abbrev pub standing : Places → ℕ → Life
 standing [] layer = empty_place
 standing (place ∷ more) layer = if place.0 == layer then place.1 else standing more layer
 
--- a layer in front of others, left out where it is not live
+-- a layer in front of others, left out if it is not live
 abbrev pub in_front : ℕ → Life → Places → Places
 in_front layer life more = if is_live life then (layer, life) ∷ more else more
 

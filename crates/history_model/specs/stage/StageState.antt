@@ -42,7 +42,7 @@ abbrev pub exchanged : PlaceView → PlaceView → (ℕ → Places) → ℕ → 
 exchanged a b before channel =
     placed_at b (standing_at before a) channel (placed_at a (standing_at before b) channel (before channel))
 
--- the channel that a channel changes with where the channels a and b are exchanged: another channel stays
+-- the channel that a channel changes with if the channels a and b are exchanged: another channel stays
 abbrev pub exchanged_channel : ℕ → ℕ → ℕ → ℕ
 exchanged_channel a b channel = if channel == a then b else (if channel == b then a else channel)
 

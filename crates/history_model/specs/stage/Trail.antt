@@ -1,4 +1,4 @@
--- Where the content of a place, and its mixer values, came from. In lists of acts the last act stands first.
+-- If the content of a place, and its mixer values, came from. In lists of acts the last act stands first.
 use Rattle.std.specs.Prelude.{ℕ, ◌==◌, Bool, false, ◌&&◌, List, [], ◌∷◌, if◌then◌else◌}
 use Rattle.play_types.specs.Place.{PlaceView}
 use Rattle.play_types.specs.Shape.{shape_of}
@@ -17,11 +17,11 @@ abbrev pub covers : Target → PlaceView → Bool
 covers (target.Layer at) place = same_place at place
 covers (target.Channel channel) place = channel == place.channel
 
--- the place that a place changes with where the places a and b are exchanged: another place stays
+-- the place that a place changes with if the places a and b are exchanged: another place stays
 abbrev pub swapped_place : PlaceView → PlaceView → PlaceView → PlaceView
 swapped_place a b place = if same_place place a then b else (if same_place place b then a else place)
 
--- the place that a place changes with where all layers of the channels a and b are exchanged: one of another channel stays
+-- the place that a place changes with if all layers of the channels a and b are exchanged: one of another channel stays
 abbrev pub channel_swapped_place : ℕ → ℕ → PlaceView → PlaceView
 channel_swapped_place a b place =
     if place.channel == a then record place { channel = b }
@@ -41,7 +41,7 @@ content_origin cmd place = elim (shape_of cmd) [
   | shape.Ask query ↦ place
 ]
 
--- where the mixer values of the place after a command stood before it: only a swap with transforms moves them
+-- if the mixer values of the place after a command stood before it: only a swap with transforms moves them
 abbrev pub values_origin : Cmd → PlaceView → PlaceView
 values_origin cmd place = elim (shape_of cmd) [
   | shape.Take at take ↦ place

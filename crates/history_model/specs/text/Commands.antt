@@ -59,7 +59,7 @@ abbrev pub target_word : Target → Word
 target_word (target.Layer place) = place_word place
 target_word (target.Channel channel) = number_word channel
 
--- this word, where it is set
+-- this word, if it is set
 abbrev pub flag_words : Bool → List ℕ → List Word
 flag_words true word = Plain word ∷ []
 flag_words false word = []
@@ -69,7 +69,7 @@ abbrev pub capital_digits : ℕ → ℕ → List ℕ
 capital_digits zero number = []
 capital_digits (suc count) number = digit_glyph true (number / 16 ^ count % 16) ∷ capital_digits count number
 
--- the name of a clip, by its position in the media table: no characters where there is no such position
+-- the name of a clip, by its position in the media table: no characters if there is no such position
 abbrev pub clip_name_at : List MediaNameView → ℕ → List ℕ
 clip_name_at media id = option_map_or (λ (clip : MediaNameView). clip.name) (slice_get media id) []
 
@@ -101,7 +101,7 @@ abbrev pub timed_words : Kind → TransView → List Word
 timed_words kind trans =
     Plain (kind_text kind) ∷ number_word trans.duration ∷ Plain (curve_text trans.curve) ∷ Plain (direction_text trans.leftward) ∷ []
 
--- the transition, where it is no cut
+-- the transition, if it is no cut
 abbrev pub transition_words : Kind → TransView → List Word
 transition_words Cut trans = []
 transition_words Mix trans = timed_words Mix trans

@@ -20,7 +20,7 @@ row_lines row_length (suc rows) bytes = (encode_lower (take row_length bytes) ++
 unfoldable pub head_line : ℕ → ℕ → List ℕ
 head_line channel tick = codes "F " ++ decimal channel ++ 32 ∷ decimal tick ++ 10 ∷ []
 
--- the line of the sound, where the channel has sound
+-- the line of the sound, if the channel has sound
 unfoldable pub sound_line : ℕ → List ℕ → List ℕ
 sound_line pairs sound = if pairs == 0 then [] else encode_lower sound ++ 10 ∷ []
 

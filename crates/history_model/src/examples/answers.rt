@@ -27,7 +27,7 @@ pub fn value_queries()
         ≡ Answered (Values (micros_of (numbers (pos 0) (pos 0) (pos 1000000) (pos 1000000)) 4)) }
 {}
 
-/// A channel plays where some foreground is not paused, is paused where all are, and is empty without a foreground. An
+/// A channel plays if some foreground is not paused, is paused if all are, and is empty without a foreground. An
 /// automatic start that is due at the next tick has not yet happened.
 pub fn statuses()
     ensures each { answer three

@@ -36,7 +36,7 @@ pub fn acts_of_a_refused_event()
     ensures { length (acts (loads 64 ++ plays (at 1 64) red ∷ [])) ≡ 64 }
 {}
 
-/// A batch is refused as a whole because of its last command, and accepted where each command is.
+/// A batch is refused as a whole because of its last command, and accepted if each command is.
 pub fn batch_with_a_refused_command()
     ensures refused { is_refused (loads 64) (batch (PlayTake (at 1 63) blue ∷ PlayTake (at 1 64) red ∷ [])) ≡ true }
     ensures accepted { is_refused (loads 64) (batch (PlayTake (at 1 63) blue ∷ PlayTake (at 1 62) red ∷ [])) ≡ false }

@@ -43,7 +43,7 @@ pub fn ticks_pass()
         after (with_background (running (clip 1 30) 1) take) 25 ≡ over_old take 5 (old_of (clip 1 30) 21 false) }
 {}
 
-/// What the next tick shows: the background where its start is due now, and else the place as it stands.
+/// What the next tick shows: the background if its start is due now, and else the place as it stands.
 pub fn due_starts()
     ensures due { ready (with_background (running (clip 1 3) 3) (automatic blue)) ≡ running (automatic blue) 0 }
     ensures later { ready (with_background (running (clip 1 3) 2) (automatic blue)) ≡ with_background (running (clip 1 3) 2) (automatic blue) }

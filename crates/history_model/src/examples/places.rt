@@ -47,7 +47,7 @@ pub fn tuning_through_a_swap()
         × (tuning (act_after 3 (ResetChannel 2) ∷ act_after 1 (SwapChannels 1 2 false) ∷ set ∷ []) (at 2 1) ≡ act_after 3 (ResetChannel 2) ∷ []) }
 {}
 
-/// A place with a background alone is live and not drawn. It is drawn where the background starts at the next tick.
+/// A place with a background alone is live and not drawn. It is drawn if the background starts at the next tick.
 pub fn live_and_drawn()
     ensures background { let past = acts (ask (LoadBg (at 1 4) red) ∷ plays (at 1 2) blue ∷ []) in
         (live_layers past 0 1 ≡ 2 ∷ 4 ∷ []) × (drawn_layers past 0 1 ≡ 2 ∷ []) }

@@ -67,7 +67,7 @@ pub fn layer_route_to_an_automatic_start()
 {}
 
 /// A background that starts by itself: with a transition before the clip's end, with a cut after its last frame, and at
-/// once where the clip is shorter than the transition.
+/// once if the clip is shorter than the transition.
 pub fn automatic_start()
     ensures mix { let history = plays (at 1 0) (clip 1 3) ∷ ask (LoadBg (at 1 0) (automatic (by blue (rightward Mix 2)))) ∷ [] in
         (row_text (one 1) 1 history ≡ codes "000000ff")

@@ -26,7 +26,7 @@ pub fn replies_to_commands()
 {}
 
 /// A batch of one command has room in the journal of these turns, and one of two has none. In a larger journal the stage's answer
-/// is the reply: a batch is done, or refused where one channel would have too many live places.
+/// is the reply: a batch is done, or refused if one channel would have too many live places.
 #[tactic(auto, unfolding(crate::specs::stage::Acts::acts, crate::specs::stage::Acts::is_refused))]
 pub fn replies_to_batches()
     ensures no_memory { batch_reply (turn_after [] true) (Pause (at 1 5) ∷ []) ≡ reply.Refused 501 name.Commit }

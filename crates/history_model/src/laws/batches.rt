@@ -43,7 +43,7 @@ pub fn batch_is_its_commands()
         timeline (before ++ Batch tag cmds ∷ later) ≡ timeline (before ++ map (Do tag) cmds ++ later) }
 {}
 
-/// A batch is refused where one of its commands is refused after those before it, and then it changes no later answer, and so
+/// A batch is refused if one of its commands is refused after those before it, and then it changes no later answer, and so
 /// no frame, sample, value or status: the timeline is that of the history without it.
 pub fn refused_batch_changes_nothing()
     ensures one { (before : List Event) (tag : Tag) (cmds : List Cmd) → is_refused before (Batch tag cmds) ≡ true →

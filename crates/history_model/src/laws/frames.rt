@@ -32,7 +32,7 @@ pub fn last_frame_after_a_tick()
         last_sample setup (history ++ Tick ∷ []) channel pair side ≡ frame_sample setup history channel pair side }
 {}
 
-/// One event more adds its own acts, and none where it is refused.
+/// One event more adds its own acts, and none if it is refused.
 pub fn acts_of_one_more_event()
     ensures { (history : List Event) (event : Event) →
         acts (history ++ event ∷ []) ≡ unwrap_or (with_event (acts history) (ticks history) event) (acts history) }

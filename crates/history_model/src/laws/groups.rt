@@ -36,7 +36,7 @@ pub fn waiting_settings_change_nothing()
         waiting_settings (timeline_acts (without_waiting which entries)) channel ≡ [] }
 {}
 
-/// After a commit a timeline shows, sounds, answers and reports what it does where the settings that waited for the commit
+/// After a commit a timeline shows, sounds, answers and reports what it does if the settings that waited for the commit
 /// stand in its place, in their order and not deferred, and no longer where they waited. All of them take place after the ticks
 /// before the commit, and so every tween of the group counts from the same tick.
 pub fn commit_starts_its_group()
@@ -80,7 +80,7 @@ pub fn waiting_settings_of_histories_change_nothing()
         × (without_waiting which (timeline (history ++ later)) ≡ more ++ stood) × IsLikeTimeline setup history stood }
 {}
 
-/// Where a commit stands in the timeline of a history, alone or in a batch, the history shows, sounds, answers and reports
+/// If a commit stands in the timeline of a history, alone or in a batch, the history shows, sounds, answers and reports
 /// what the timeline does with the group in the commit's place.
 pub fn commit_in_a_history_starts_its_group()
     ensures pixels { (setup : Setup) (history : List Event) (later before : List Entry) (committed channel x y : ℕ) →

@@ -29,7 +29,7 @@ pub fn live_places_are_the_states()
 {}
 
 /// After one more act at the tick that comes, a place on whose content it acts has the effect of the act, and another place
-/// is unchanged, where the act is no swap of the place. One tick later a place is that place after one tick, where no act
+/// is unchanged, if the act is no swap of the place. One tick later a place is that place after one tick, if no act
 /// is later.
 pub fn states_one_by_one()
     ensures act { (acts : List Act) (t : ℕ) (cmd : Cmd) (place : PlaceView) → content_origin cmd place ≡ place →

@@ -63,7 +63,7 @@ pub fn places_of_a_command()
         waiting_count_after cmd channel before ≡ before }
 {}
 
-/// Where each channel is within its limits, the stage tells whether a command is refused, and whether one of a list of them
+/// If each channel is within its limits, the stage tells whether a command is refused, and whether one of a list of them
 /// is. After commands that are not refused each channel is within its limits again.
 pub fn refusals_by_the_stage()
     ensures command { (acts : List Act) (t : ℕ) (cmd : Cmd) → IsWithinLimits (stage_state acts t) →
@@ -77,8 +77,8 @@ pub fn refusals_by_the_stage()
         some_is_refused cmds (stage_state acts t) ≡ false → IsWithinLimits (state_after_all cmds (stage_state acts t)) }
 {}
 
-/// A command is taken where it leaves no channel over a limit. Where each channel is within its limits, the command is
-/// refused where it leaves one over a limit. After a history no channel is over a limit.
+/// A command is taken if it leaves no channel over a limit. If each channel is within its limits, the command is
+/// refused if it leaves one over a limit. After a history no channel is over a limit.
 pub fn refusals_by_the_limits()
     ensures taken { (acts : List Act) (t : ℕ) (cmd : Cmd) →
         ((channel : ℕ) → is_over (acts_of t cmd ++ acts) t channel ≡ false) →

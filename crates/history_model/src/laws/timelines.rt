@@ -27,7 +27,7 @@ pub fn histories_are_timelines()
         statuses setup history ≡ timeline_statuses setup (timeline history) }
 {}
 
-/// One event more adds its entries, and none where it is refused. What follows a history adds entries after those of the
+/// One event more adds its entries, and none if it is refused. What follows a history adds entries after those of the
 /// history.
 pub fn timeline_of_more_events()
     ensures one { (history : List Event) (event : Event) →

@@ -10,7 +10,7 @@ pub enum Source {
     Route,
 }
 
-/// A take: of a clip `length` frames from `seek` on. It comes with a MIX of `mix` ticks, and with a CUT where that is 0.
+/// A take: of a clip `length` frames from `seek` on. It comes with a MIX of `mix` ticks, and with a CUT if that is 0.
 #[derive(Clone, Copy)]
 pub struct Asked {
     pub source: Source,

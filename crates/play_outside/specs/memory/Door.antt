@@ -13,7 +13,7 @@ abbrev pub arrival_of : {L : Type 0} → DoorAnswer L → Arrival L
 arrival_of (Line line) = arrival.Came line
 arrival_of Again = arrival.Again
 
--- where the planned answer is a link, it is new
+-- if the planned answer is a link, it is new
 abbrev pub IsNewAnswer : {L : Type 0} → (L → SinkState) → DoorAnswer L → Type 0
 IsNewAnswer state (Line line) = IsNewSink (state line)
 IsNewAnswer state Again = Unit {0}

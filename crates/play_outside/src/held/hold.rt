@@ -41,8 +41,8 @@ impl Hold {
         }
     }
 
-    /// Counts a call, sets the flag where it is the call to set it, and then waits where it is the call to wait. Returns
-    /// whether the call may go on, which it may not where its flag was never seen to be set.
+    /// Counts a call, sets the flag if it is the call to set it, and then waits if it is the call to wait. Returns
+    /// whether the call may go on, which it may not if its flag was never seen to be set.
     pub(crate) fn goes_on(&mut self) -> bool
         ensures calls { self.new.calls ≡ one_more self.old.calls }
         ensures plan { (self.new.waits ≡ self.old.waits) × (self.new.sets ≡ self.old.sets) }

@@ -19,7 +19,7 @@ pub struct LinkPlan {
     pub looks: usize,
     /// The numbers of the calls that return `Failed`.
     pub fails: Vec<u64>,
-    /// The numbers of the calls that return `Again`, where they are reads.
+    /// The numbers of the calls that return `Again`, if they are reads.
     pub waits: Vec<u64>,
 }
 

@@ -10,7 +10,7 @@ abbrev pub keyed_by : PixelView → Option ℕ → PixelView
 keyed_by pixel None = pixel
 keyed_by pixel (Some red) = key pixel red
 
--- the red of the placed pixel of the uppermost of these layers, where that is a keyer
+-- the red of the placed pixel of the uppermost of these layers, if that is a keyer
 abbrev pub keyer_above : (Drawn → PixelView) → List Drawn → Option ℕ
 keyer_above placed [] = None
 keyer_above placed (next ∷ below) = if next.keyer then Some (placed next).r else None

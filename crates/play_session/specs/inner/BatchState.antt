@@ -14,7 +14,7 @@ pub record BatchState : Type 0 where
   pub is_open : Bool
   pub commands : List Cmd
 
--- the commands of an open batch after one more: a query is never added, nor is any where there is no room
+-- the commands of an open batch after one more: a query is never added, nor is any if there is no room
 abbrev pub with_command : List Cmd → Cmd → List Cmd
 with_command commands command =
     if is_query command then commands

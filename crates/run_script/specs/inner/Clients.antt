@@ -47,11 +47,11 @@ client_of tag clients = find (λ client. same_tag tag client.tag) clients
 abbrev pub AreClients : Playout → List Client → List PlayedLine → Type 0
 AreClients playout clients played = (tag : Tag) → IsClient playout tag (client_of tag clients) played
 
--- the session that a connection keeps after a step, none where the step ends it
+-- the session that a connection keeps after a step, none if the step ends it
 abbrev pub kept_session : Bool → SessionState → Option SessionState
 kept_session over now = if over then None else Some now
 
--- the commands of the batch of a session, none where the connection has ended
+-- the commands of the batch of a session, none if the connection has ended
 abbrev pub session_batch : Option SessionState → List Cmd
 session_batch None = []
 session_batch (Some now) = now.batch
@@ -82,7 +82,7 @@ pub record NextText : Type 0 where
   pub text : List ℕ
   pub no_memory : Bool
 
--- the line as it was played, where this step was found for it
+-- the line as it was played, if this step was found for it
 abbrev pub played_text : NextText → Option Step → PlayedLine
 played_text next found = record { line = Said next.tag next.text; given_up = gave_up found; no_memory = next.no_memory }
 
@@ -91,7 +91,7 @@ abbrev pub step_view : Option Step → List Cmd → Option model.Step
 step_view None commands = None
 step_view (Some found) commands = viewed found commands
 
--- the line was taken: its step was found, none where the connection has ended before
+-- the line was taken: its step was found, none if the connection has ended before
 pub record ClientsTakeLine (next : NextText) (found : Option Step) (new : List Client) : Type 0 where
   pub given : said_step next.playout next.played (played_text next found) next.tag ≡ step_view found (batch_of next.tag new)
   pub serves : AreClients next.playout new (next.played ++ played_text next found ∷ [])

@@ -65,7 +65,7 @@ pub record MakesEvents (events : List Event) (old new : Player) : Type 0 where
   pub clients : new.clients ≡ old.clients
   pub history : events_in new ≡ events_in old ++ events
 
--- the player is where the lines put it: it has their history, and serves their connections
+-- the player is if the lines put it: it has their history, and serves their connections
 pub record Represents (playout : Playout) (player : Player) (played : List PlayedLine) : Type 0 where
   pub on : playout_in player ≡ playout
   pub history : events_in player ≡ script_events playout played
@@ -102,7 +102,7 @@ turn_in player tag no_memory = record {
   no_memory = no_memory;
 }
 
--- what the stage is asked for: its event and how many commands that has, the name in its reply, and the answer to it where it is
+-- what the stage is asked for: its event and how many commands that has, the name in its reply, and the answer to it if it is
 -- an event
 pub record Request : Type 0 where
   pub event : Event
@@ -142,13 +142,13 @@ RepliesTo asked (Err fault.OutOfMemory) found = found ≡ reply.Refused 501 aske
 RepliesTo asked (Err (fault.JournalFull held)) found = found ≡ reply.Refused 503 asked
 RepliesTo asked (Err (fault.Ended at)) found = ⊥
 
--- a request of a connection was done or refused, by this reply, and it is an event where its verdict says so
+-- a request of a connection was done or refused, by this reply, and it is an event if its verdict says so
 pub record DoesRequest (tag : Tag) (request : Request) (found : Reply) (old new : Player) : Type 0 where
   pub no_memory : Bool
   pub replies : found ≡ verdict_reply request.name request.answer (verdict (turn_in old tag no_memory) request.commands)
   pub makes : MakesEvents (verdict_events request.event (verdict (turn_in old tag no_memory) request.commands)) old new
 
--- a step of a connection, none where that has ended before, when the stage is asked
+-- a step of a connection, none if that has ended before, when the stage is asked
 pub record NextStep : Type 0 where
   pub turn : Turn
   pub step : Option Step
@@ -167,7 +167,7 @@ IsFollowed next (Err halt.Write) made before after = Fails (step_text next) befo
 IsFollowed next (Err halt.Memory) made before after = ⊥
 IsFollowed next (Err halt.Rejected) made before after = ⊥
 
--- a step that a connection of the player gave, none where that has ended before
+-- a step that a connection of the player gave, none if that has ended before
 pub record Given : Type 0 where
   pub player : Player
   pub tag : Tag
@@ -229,7 +229,7 @@ pub record IsLineFailed (next : NextLine) (before after : SinkState) : Type 0 wh
   pub accepted : next.line ≢ Rejected
   pub fails : Fails (line_text next marks) before after
 
--- the line was played; out of memory, and where it is rejected, nothing was written for it
+-- the line was played; out of memory, and if it is rejected, nothing was written for it
 abbrev pub PlaysLine : NextLine → Result (Unit {0}) Halt → Player → SinkState → SinkState → Type 0
 PlaysLine next (Ok done) player before after = IsLineDone next player before after
 PlaysLine next (Err halt.Stop) player before after = IsLastLine next player before after

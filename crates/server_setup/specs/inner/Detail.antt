@@ -4,7 +4,7 @@ use Rattle.std.specs.Str.{encode_utf8_all}
 use Rattle.server_setup.specs.declared.fault.RunFault.{RunFault}
 use Rattle.server_setup.specs.declared.fault.RunFault.TheVariants.{Usage, ConfigText, ConfigKey, BadLine, InputTooLong, MediaTwice, MediaTotal, Device, OutOfMemory}
 
--- the name or the number, and nothing where the line has none
+-- the name or the number, and nothing if the line has none
 abbrev pub detail_of : RunFault → List ℕ
 detail_of Usage = []
 detail_of ConfigText = []

@@ -11,7 +11,7 @@ put-requires-then-is_some_over-clause-room c =
     subst (λ (channels : Channels). length (places_of c.args.at.channel channels) ≤ MAX_LIVE_LAYERS + 2) (sym c.put.ensures)
     (room_after c.args.self.now c.args.at c.layer_after.result c.requires.channel c.requires.few)
 
--- where some channel has too many, the place is as before
+-- if some channel has too many, the place is as before
 pub returns-then-is_some_over-clause-after : goal.returns-then-is_some_over-clause-after
 returns-then-is_some_over-clause-after c =
     let old : Channels = c.args.self.now in

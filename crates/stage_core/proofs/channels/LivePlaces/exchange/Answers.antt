@@ -31,7 +31,7 @@ put_both-requires-then-is_some_over-clause-more c =
     (sym c.layer-second.ensures.value) (sym both)
     (room_half_undone old c.args.a c.args.b c.requires.first c.requires.second c.layer-first.ensures.range c.layer-second.ensures.range c.requires.few)
 
--- where some channel has too many, both places are as before
+-- if some channel has too many, both places are as before
 pub returns-then-is_some_over-clause-after : goal.returns-then-is_some_over-clause-after
 returns-then-is_some_over-clause-after c =
     let old : Channels = c.args.self.now in

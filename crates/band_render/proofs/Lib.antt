@@ -1,2 +1,8 @@
 pub mod Writing
+pub mod Pixels
+pub mod Rows
+pub mod Bands
+pub mod Shares
+pub mod Plans
+pub mod Drawn
 pub mod Ticks

@@ -8,7 +8,7 @@ use Rattle.play_types.specs.declared.drawn.Drawn.{Drawn}
 use Rattle.play_types.specs.declared.geometry.Geometry.{Geometry}
 use Rattle.clip_format.specs.Table.{Entry}
 use Rattle.history_model.specs.pictures.Media.{no_size}
-use Rattle.play_scene.specs.Frames.{ArePictures, FrameView, IsFrame, frame_at, no_frame, pictures_of, with_bytes, with_sound}
+use Rattle.play_scene.specs.Frames.{AreLowered, ArePictures, FrameView, IsFrame, frame_at, no_frame, pictures_of, with_bytes, with_sound}
 use Rattle.band_render.specs.Rendered.{ShowsScene, sizes}
 
 -- the frame of a channel whose bytes were written
@@ -25,11 +25,11 @@ sound_written channel sound frames now h is =
     ap (frame_at channel) is
     ∙ get_or-set_same frames (channel - 1) (record (frame_at channel frames) { sound = sound }) no_frame (omega (arith, h.0, h.1))
 
--- a sound of the same length leaves a frame a frame
-pub frame_with_sound : (frame : FrameView) (sound : List ℕ) → IsFrame frame → length sound ≡ length frame.sound →
-    IsFrame (record frame { sound = sound })
-frame_with_sound frame sound is same =
-    record { size = is.size; bytes = is.bytes; sound = same ∙ is.sound; lowered = is.lowered }
+-- a picture and a sound of the same lengths leave a frame a frame
+pub frame_with_both : (frame : FrameView) (picture sound : List ℕ) → IsFrame frame → length picture ≡ length frame.bytes → AreLowered picture →
+    length sound ≡ length frame.sound → IsFrame (record frame { bytes = picture; sound = sound })
+frame_with_both frame picture sound is long lowered heard =
+    record { size = is.size; bytes = long ∙ is.bytes; sound = heard ∙ is.sound; lowered = lowered }
 
 -- frames of which the bytes of a channel were written are as many as before
 many_written : (channel : ℕ) (bytes : List ℕ) (frames now : List FrameView) → now ≡ with_bytes channel bytes frames →
@@ -42,15 +42,6 @@ pub configured_still : (channel count : ℕ) (bytes : List ℕ) (frames now : Li
     now ≡ with_bytes channel bytes frames → IsConfigured (length now) channel
 configured_still channel count bytes frames now h many is =
     (h.0, omega (arith, h.1, many, many_written channel bytes frames now is))
-
--- where the bytes and then the sound of a channel are written, its size stays
-pub size_stays : (channel count : ℕ) (bytes sound : List ℕ) (frames middle now : List FrameView) → IsConfigured count channel → length frames ≡ count →
-    middle ≡ with_bytes channel bytes frames → now ≡ with_sound channel sound middle →
-    (frame_at channel now).size ≡ (frame_at channel frames).size
-size_stays channel count bytes sound frames middle now h many first last =
-    ap (λ (frame : FrameView). frame.size)
-    (sound_written channel sound middle now (configured_still channel count bytes frames middle h many first) last)
-    ∙ ap (λ (frame : FrameView). frame.size) (bytes_written channel bytes frames middle (h.0, omega (arith, h.1, many)) first)
 
 -- the frames of the other channels stay
 pub others_stay : (channel count : ℕ) (bytes sound : List ℕ) (frames middle now : List FrameView) → IsConfigured count channel → length frames ≡ count →
@@ -82,6 +73,16 @@ same_size channel prev next same h =
     sym (size_there channel next (h.0, omega (arith, h.1, same_many prev next same)))
     ∙ ap (λ (list : List Geometry). get_or list (channel - 1) no_size) same
     ∙ size_there channel prev h
+
+-- a size of a channel's frame is in the list of sizes
+pub size_listed : (at : ℕ) (prev next : List FrameView) → sizes next ≡ sizes prev → at < length next →
+    (frame_at (at + 1) next).size ≡ get_or (sizes prev) at (frame_at (at + 1) next).size
+size_listed at prev next same lt =
+    let here : at + 1 - 1 ≡ at = omega arith in
+    let size = (frame_at (at + 1) next).size in
+    ap (λ (n : ℕ). (get_or next n no_frame).size) here
+    ∙ sym (get_or-map (λ (frame : FrameView). frame.size) next at no_frame size lt)
+    ∙ ap (λ (list : List Geometry). get_or list at size) same
 
 -- a frame that is replaced by one of its size leaves all sizes
 pub sizes_stay : (channel : ℕ) (frames now : List FrameView) → now ≡ set frames (channel - 1) (frame_at channel now) →

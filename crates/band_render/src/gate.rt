@@ -1,8 +1,8 @@
 //! The gate that bands of rows pass.
 
-/// What a renderer that makes bands of rows on several threads enters before the first row of a band. This one has no bands.
+/// What a renderer enters before the first row of each band.
 pub trait Gate: Sync {
-    /// Lets the band of this number in. It always returns.
+    /// Lets the band of this number in. Bands are numbered from 0 over all channels. It always returns.
     fn enter(&self, band: u32);
 }
 

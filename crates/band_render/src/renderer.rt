@@ -4,7 +4,11 @@ ghost use Rattle.play_types.specs.Scene.{IsConfigured};
 ghost use Rattle.play_scene.specs.Frames.{IsFrame, frame_at, zero_frame};
 ghost use Rattle.band_render.specs.Rendered.{AreRendered};
 
+use crate::band::Group;
+use crate::bytes::bytes_of_groups;
+use crate::drawing::{Tick, draw_all};
 use crate::gate::Gate;
+use crate::plan::groups;
 use crate::rendering::render_frames;
 use clip_format::MediaTable;
 use play_scene::Frames;
@@ -12,6 +16,7 @@ use play_types::{Config, MAX_PAIRS, Scenes};
 use std::alloc::{AllocError, Global};
 use std::marker::Model;
 use std::mem;
+use std::thread::Threads;
 
 /// The frames and the sounds of the last tick, all transparent and silent before the first. Contracts see the frame of each
 /// channel.
@@ -20,47 +25,76 @@ pub struct Renderer {
     shown: Frames,
     // The frames of the tick before the last one, over which the next ones are written.
     next: Frames,
+    // The bands of all channels, parted among the threads.
+    groups: Vec<Group>,
+    // The pixels of all channels, one channel after another.
+    pixels: Vec<u8>,
     // Room for the largest sound.
     sound: Vec<u8>,
 }
 
 impl Model for Renderer {
-    ghost use Rattle.std.specs.Prelude.{◌≡◌, ◌*◌, List, length};
+    ghost use Rattle.std.specs.Prelude.{◌≡◌, ◌*◌, ◌<◌, ◌^◌, List, length};
     ghost use Rattle.play_types.specs.declared.geometry.TheConstants.{MAX_PAIRS};
     ghost use Rattle.play_scene.specs.Frames.{FrameView};
     ghost use Rattle.band_render.specs.Rendered.{sizes};
+    ghost use Rattle.band_render.specs.inner.Rows.{byte_count, rows_of_frames, rows_of_groups};
 
     ghost Value = { List FrameView };
 
     ghost view = { λ r. r.shown };
 
-    ghost invariant = { λ r. (sizes r.next ≡ sizes r.shown) × (length r.sound.items ≡ 4 * MAX_PAIRS) };
+    ghost invariant = { λ r. (sizes r.next ≡ sizes r.shown) × (length r.sound.items ≡ 4 * MAX_PAIRS)
+        × (rows_of_groups r.groups.items ≡ rows_of_frames 1 (sizes r.shown))
+        × (length r.pixels.items ≡ byte_count (rows_of_groups r.groups.items))
+        × (length r.pixels.items < 2 ^ 64) };
 }
 
 impl Renderer {
-    /// Creates the renderer of a configuration before the first tick, and takes all memory. `workers` is 1 to 64 and changes
-    /// nothing: the frames are made on the caller's thread.
+    /// Creates the renderer of a configuration before the first tick, and takes all memory. `workers`, 1 to 64, is the number of
+    /// threads that make the frames.
     pub fn new(alloc: Global, config: &Config, workers: u32) -> Result<Renderer, AllocError>
         requires some_workers { 1 ≤ workers }
         requires few_workers { workers ≤ 64 }
         ensures { IfOk result (λ renderer. renderer ≡ map zero_frame config.now.channels) }
     {
+        let groups = groups(alloc, config, workers)?;
+        let pixels = vec![in alloc; 0; bytes_of_groups(&groups)]?;
         Ok(Renderer {
             shown: Frames::new(alloc, config)?,
             next: Frames::new(alloc, config)?,
+            groups,
+            pixels,
             sound: vec![in alloc; 0; 4 * usize::from(MAX_PAIRS)]?,
         })
     }
 
     /// Makes the frame and the sound of each channel from its scene, the clips, and the frames of the tick before, also where
-    /// a scene shows the frame of another channel. There are as many scenes as channels. It takes no memory, and does not enter
-    /// the gate.
-    pub fn render<G: Gate>(&mut self, scenes: &Scenes, media: &MediaTable, gate: &G)
+    /// a scene shows the frame of another channel. There are as many scenes as channels. It takes no memory.
+    ///
+    /// The rows of each channel are cut into bands: as many as there are workers, or as many as there are rows if the channel
+    /// has fewer. Bands are numbered from 0 over all channels, and each enters the gate once with its number before its first
+    /// row. They are parted in order into as many groups as there are workers, whose numbers of bands differ by at most one, and
+    /// each group is made by a thread, one band after another. There are no more groups than bands. With one worker, and if all
+    /// frames together have fewer than 64 pixels, all bands are made by the caller's thread. The sound is made after the bands.
+    pub fn render<R: Threads + Sync, G: Gate>(
+        &mut self,
+        rt: &R,
+        scenes: &Scenes,
+        media: &MediaTable,
+        gate: &G,
+    )
         requires { length scenes.now ≡ length self.old }
         ensures rendered { AreRendered self.old media.now scenes.now self.new }
         ensures channels { length self.new ≡ length self.old }
     {
-        render_frames(scenes, &self.shown, media, &mut self.next, &mut self.sound);
+        let tick = Tick {
+            scenes,
+            prev: &self.shown,
+            media,
+        };
+        draw_all(rt, gate, &tick, &mut self.groups, &mut self.pixels);
+        render_frames(&tick, &self.pixels, &mut self.next, &mut self.sound);
         mem::swap(&mut self.shown, &mut self.next);
     }
 

@@ -9,6 +9,7 @@ use play_types::{
 };
 use std::alloc::Global;
 use std::test::Fail;
+use std::thread::Threads;
 
 /// Red with an alpha of 128.
 const HALF_RED: Still = Still::Colour(0x80FF_0000);
@@ -25,7 +26,7 @@ fn config(alloc: Global) -> Result<Config, Fail> {
 }
 
 /// Returns whether the channel that a still shows is there.
-fn is_there(still: Still, channels: u8) -> bool
+pub(crate) fn is_there(still: Still, channels: u8) -> bool
     ensures { IsTrue result ↔ ShowsConfigured channels still }
 {
     match still {
@@ -72,7 +73,8 @@ fn two_channels(alloc: Global) -> Result<Option<(Scenes, Renderer)>, Fail>
 }
 
 /// Renders a tick, and returns whether the two channels then have these frames.
-fn shows(
+fn shows<R: Threads + Sync>(
+    rt: &R,
     renderer: &mut Renderer,
     scenes: &Scenes,
     media: &MediaTable,
@@ -83,7 +85,7 @@ fn shows(
     requires renderer { length renderer.old ≡ 2 }
     ensures { length renderer.new ≡ 2 }
 {
-    renderer.render(scenes, media, &OpenGate);
+    renderer.render(rt, scenes, media, &OpenGate);
     renderer.frame(1) == first.as_slice() && renderer.frame(2) == second.as_slice()
 }
 
@@ -99,6 +101,7 @@ fn channels_that_show_each_other(rt: HostRuntime) -> Result<(), Fail> {
     add(&mut scenes, 2, Still::Channel(1));
     assert!(rt;
         shows(
+            &rt,
             &mut renderer,
             &scenes,
             &media,
@@ -108,6 +111,7 @@ fn channels_that_show_each_other(rt: HostRuntime) -> Result<(), Fail> {
     );
     assert!(rt;
         shows(
+            &rt,
             &mut renderer,
             &scenes,
             &media,
@@ -117,6 +121,7 @@ fn channels_that_show_each_other(rt: HostRuntime) -> Result<(), Fail> {
     );
     assert!(rt;
         shows(
+            &rt,
             &mut renderer,
             &scenes,
             &media,

@@ -13,6 +13,7 @@ use stage_lock::{Pass, SharedStage};
 use std::alloc::Global;
 use std::sync::Wait;
 use std::test::Fail;
+use std::thread::Threads;
 
 /// Red that is not transparent.
 const RED: Spec = Spec::Colour(0xFFFF_0000);
@@ -88,7 +89,7 @@ fn ask_both<R: Wait>(
 }
 
 /// Takes two pulses, and returns how they ended and what the outputs then are.
-fn take_two<R: Wait>(
+fn take_two<R: Threads + Wait + Sync>(
     rt: &R,
     alloc: Global,
     config: &Config,

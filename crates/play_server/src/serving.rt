@@ -29,8 +29,8 @@ use std::thread::{Threads, join_mut};
 /// Serves the clients of all doors beside a ticker, until the stage was stopped and all clients have ended, and then writes
 /// the text of the history.
 ///
-/// There are as many doors as the configuration has connections, and as many outputs as it has channels. `workers`, 1 to 64,
-/// changes nothing: the ticker makes the frames. The memory of the run is taken first: `OutOfMemory` comes before any call on
+/// There are as many doors as the configuration has connections, and as many outputs as it has channels. `workers`, 1 to 64, is
+/// the number of threads that make the frames of a tick. The memory of the run is taken first: `OutOfMemory` comes before any call on
 /// a device, and the devices are as they were given. A command's memory is taken when the command is asked for, and where it
 /// runs out the client is told.
 ///

@@ -20,7 +20,7 @@ const PROGRAM: &str = "playd";
 pub struct ServerWords {
     /// The path of the configuration.
     pub config: String,
-    /// The number of `--workers`, 1 to 64. It changes nothing.
+    /// The number of `--workers`, 1 to 64: the threads that make the frames.
     pub workers: u32,
     /// The path of the file that the history's text is written to.
     pub journal: Option<String>,

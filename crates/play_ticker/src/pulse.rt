@@ -11,10 +11,11 @@ use play_outside::Sink;
 use play_types::Scenes;
 use stage_lock::{Pass, SharedStage};
 use std::sync::Wait;
+use std::thread::Threads;
 
 /// Makes a tick, renders what the stage shows at it, and writes the frame and the sound of each channel to its output. The
 /// stage is free for other threads once the tick is made. Where the tick is refused, nothing is rendered or written.
-pub(crate) fn pulse<R: Wait, O: Sink>(
+pub(crate) fn pulse<R: Threads + Wait + Sync, O: Sink>(
     rt: &R,
     stage: &SharedStage,
     pass: &mut Pass,
@@ -35,7 +36,7 @@ pub(crate) fn pulse<R: Wait, O: Sink>(
     ensures outs { EachOutput (λ channel before after. TakesPulse result renderer.new channel (O.state before) (O.state after)) 1 outs.old outs.new }
 {
     stage.tick(rt, pass, scenes)?;
-    renderer.render(scenes, media, &OpenGate);
+    renderer.render(rt, scenes, media, &OpenGate);
     match write_frames(scenes.channels(), renderer, outs) {
         Ok(()) => Ok(()),
         Err(channel) => Err(TickEnd::OutFault { channel }),

@@ -16,6 +16,7 @@ use play_outside::{Beat, Clock, Sink};
 use play_types::Scenes;
 use stage_lock::{Pass, SharedStage};
 use std::sync::Wait;
+use std::thread::Threads;
 
 /// Makes a tick of the stage for each pulse of the clock, and writes the frame and the sound of each channel at that tick to the
 /// output of the channel, channel 1 first, until the clock is closed or fails, a tick is refused, or an output fails.
@@ -24,7 +25,7 @@ use std::sync::Wait;
 /// the outputs are as many as the channels of the stage. Other threads may use the stage while frames are rendered and written.
 ///
 /// At each end but [`TickEnd::Ended`] it stops the stage with tag 0.0, unless another stop came first. It takes no memory.
-pub fn tick_all<R: Wait, C: Clock, O: Sink>(
+pub fn tick_all<R: Threads + Wait + Sync, C: Clock, O: Sink>(
     rt: &R,
     stage: &SharedStage,
     pass: &mut Pass,
@@ -67,7 +68,7 @@ pub fn tick_all<R: Wait, C: Clock, O: Sink>(
 }
 
 /// Makes a tick for each pulse, until no more are made, and returns why.
-fn take_pulses<R: Wait, C: Clock, O: Sink>(
+fn take_pulses<R: Threads + Wait + Sync, C: Clock, O: Sink>(
     rt: &R,
     stage: &SharedStage,
     pass: &mut Pass,

@@ -1,5 +1,5 @@
 -- The words of the command line.
-use Rattle.std.specs.Prelude.{ℕ, ◌&&◌, Bool, true, false, if◌then◌else◌, Option, Some, None, option_map, option_and_then, List, [], ◌∷◌, codes}
+use Rattle.std.specs.Prelude.{ℕ, ◌≤◌, unwrap_or, ◌&&◌, Bool, true, false, if◌then◌else◌, Option, Some, None, option_map, option_and_then, List, [], ◌∷◌, codes}
 use Rattle.std.specs.Str.{bytes_eq}
 use Rattle.amcp_text.specs.Numbers.{number_within}
 use Rattle.play_types.specs.declared.geometry.Geometry.{Geometry}
@@ -48,6 +48,11 @@ options_of (option ∷ number ∷ rest) =
     if bytes_eq option (codes "--workers") then option_and_then (λ (n : ℕ). digests_of rest) (workers number) else None
 options_of other = digests_of other
 
+-- the number of workers that the words after a path name, one if they name none
+abbrev pub workers_of : List (List ℕ) → ℕ
+workers_of (option ∷ number ∷ rest) = if bytes_eq option (codes "--workers") then unwrap_or (workers number) 1 else 1
+workers_of other = 1
+
 -- what the words `run W H` name, or those that begin with `run --config PATH`
 abbrev pub command_line_of : List (List ℕ) → Option CommandLine
 command_line_of (word ∷ next ∷ path ∷ rest) =
@@ -59,9 +64,9 @@ command_line_of other = None
 -- the command line that the code has, its path by its bytes
 abbrev pub command_line_view : declared.CommandLine → CommandLine
 command_line_view (line.Plain size) = Plain size
-command_line_view (line.Configured path digests) = Configured path.now digests
+command_line_view (line.Configured path digests workers) = Configured path.now digests
 
--- a size in range, without sound
+-- a size in range, without sound, or a number of workers in range
 abbrev pub IsInRange : declared.CommandLine → Type 0
 IsInRange (line.Plain size) = IsSize size.width size.height 0
-IsInRange (line.Configured path digests) = Unit {0}
+IsInRange (line.Configured path digests workers) = (1 ≤ workers) × (workers ≤ MAX_WORKERS)

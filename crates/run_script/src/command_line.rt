@@ -1,7 +1,8 @@
 //! The words of the command line.
-ghost use Rattle.std.specs.Prelude.{◌≡◌, map, option_map, string_bytes, IfSome};
+ghost use Rattle.std.specs.Prelude.{◌≡◌, ◌≤◌, map, option_map, string_bytes, IfSome};
 ghost use Rattle.play_types.specs.Geometry.{IsSize};
-ghost use Rattle.run_script.specs.CommandLine.{IsInRange, command_line_of, command_line_view, digests_of, options_of, size_of};
+ghost use Rattle.run_script.specs.CommandLine.{IsInRange, command_line_of, command_line_view, digests_of, options_of, size_of, workers_of};
+ghost use Rattle.run_script.specs.declared.command_line.TheConstants.{MAX_WORKERS};
 
 use amcp_text::number_within;
 use play_types::{Geometry, MAX_SIDE};
@@ -20,6 +21,8 @@ pub enum CommandLine<'a> {
         path: &'a str,
         /// Whether frames are written as digests.
         digests: bool,
+        /// The number of threads that make the frames, 1 to 64.
+        workers: u32,
     },
 }
 
@@ -27,7 +30,7 @@ impl CommandLine<'_> {
     /// Returns what the words name: `run W H`, each number from 1 to 4,096, or `run --config PATH`, after which
     /// `--workers N`, a whole number from 1 to 64, and then `--digest` may follow.
     ///
-    /// `None` comes exactly if the words are no command line. The number of workers changes nothing.
+    /// `None` comes exactly where the words are no command line. Without `--workers` there is one worker.
     pub fn read(words: &[String]) -> Option<CommandLine<'_>>
         ensures value { option_map command_line_view result ≡ command_line_of (map string_bytes words.now) }
         ensures range { IfSome result IsInRange }
@@ -39,6 +42,7 @@ impl CommandLine<'_> {
                 Some(CommandLine::Configured {
                     path: path.as_str(),
                     digests,
+                    workers: workers_of(options),
                 })
             }
             _ => {
@@ -79,6 +83,23 @@ fn options_of(words: &[String]) -> Option<bool>
             digests_of(rest)
         }
         _ => digests_of(words),
+    }
+}
+
+/// Returns the number of workers that the words after a path name, and 1 if they name none.
+fn workers_of(words: &[String]) -> u32
+    ensures value { result ≡ workers_of (map string_bytes words.now) }
+    ensures some { 1 ≤ result }
+    ensures few { result ≤ MAX_WORKERS }
+{
+    match words {
+        [option, number, _rest @ ..] => {
+            if option.as_str() != "--workers" {
+                return 1;
+            }
+            number_within(1, MAX_WORKERS, number.as_bytes()).unwrap_or(1)
+        }
+        _ => 1,
     }
 }
 

@@ -13,10 +13,16 @@ use crate::player::Player;
 use band_render::OpenGate;
 use frame_writer::{write_digest, write_hex};
 use play_outside::{Sent, Sink};
+use std::thread::Threads;
 
 impl Player {
     /// Makes the next `count` ticks and writes their frames.
-    pub fn tick<K: Sink>(&mut self, count: u32, out: &mut K) -> Result<(), Halt>
+    pub fn tick<R: Threads + Sync, K: Sink>(
+        &mut self,
+        rt: &R,
+        count: u32,
+        out: &mut K,
+    ) -> Result<(), Halt>
         requires ready { IsReady self.old }
         requires time { ticks (events_in self.old) + count ≤ MAX_TICKS }
         ensures ready { OnOk result (IsReady self.new) }
@@ -24,13 +30,13 @@ impl Player {
         ensures written { WritesText result (ticks_output (playout_in self.old) (events_in self.old) count) (K.state out.old) (K.state out.new) }
     {
         for _turn in 0..count {
-            self.write_tick(out)?;
+            self.write_tick(rt, out)?;
         }
         Ok(())
     }
 
     /// Makes the next tick, and writes the frames of all channels.
-    fn write_tick<K: Sink>(&mut self, out: &mut K) -> Result<(), Halt>
+    fn write_tick<R: Threads + Sync, K: Sink>(&mut self, rt: &R, out: &mut K) -> Result<(), Halt>
         requires ready { IsReady self.old }
         requires time { ticks (events_in self.old) < MAX_TICKS }
         ensures ready { OnOk result (IsReady self.new) }
@@ -39,7 +45,7 @@ impl Player {
     {
         let tick = self.stage.tick(&mut self.scenes).unwrap();
         self.renderer
-            .render(&self.scenes, &self.setup.media, &OpenGate);
+            .render(rt, &self.scenes, &self.setup.media, &OpenGate);
         self.write_frames(tick, out)
     }
 

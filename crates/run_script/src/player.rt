@@ -29,15 +29,13 @@ use play_types::{Answer, Cmd, Name, Reply, Scenes, Tag};
 use server_setup::ServerSetup;
 use stage_core::{ApplyFault, Stage};
 use std::alloc::{AllocError, Global};
+use std::thread::Threads;
 
 /// The server itself, which stops a run.
 const SERVER: Tag = Tag {
     worker: 0,
     session: 0,
 };
-
-/// The threads that make the frames.
-const WORKERS: u32 = 1;
 
 /// What is played on, whether frames are written as digests, the connections, the stage with the history so far, and the scenes and
 /// the frames of its last tick.
@@ -53,15 +51,22 @@ pub struct Player {
 
 impl Player {
     /// Returns a player that shows nothing yet and has no connection. It takes the room for the live places, the scenes and the
-    /// frames of all channels.
-    pub fn new(alloc: Global, setup: ServerSetup, digests: bool) -> Result<Player, AllocError>
+    /// frames of all channels, which `workers` threads make.
+    pub fn new(
+        alloc: Global,
+        setup: ServerSetup,
+        digests: bool,
+        workers: u32,
+    ) -> Result<Player, AllocError>
+        requires some_workers { 1 ≤ workers }
+        requires few_workers { workers ≤ 64 }
         ensures ready { IfOk result IsReady }
         ensures empty { IfOk result (λ player. events_in player ≡ []) }
         ensures represents { IfOk result (λ player. Represents (playout_of setup digests) player []) }
     {
         let stage = Stage::new(alloc, &setup.config)?;
         let scenes = Scenes::new(alloc, &setup.config)?;
-        let renderer = Renderer::new(alloc, &setup.config, WORKERS)?;
+        let renderer = Renderer::new(alloc, &setup.config, workers)?;
         Ok(Player {
             setup,
             digests,
@@ -73,8 +78,9 @@ impl Player {
     }
 
     /// Does what a line says, its end left out.
-    pub fn take_line<K: Sink>(
+    pub fn take_line<R: Threads + Sync, K: Sink>(
         &mut self,
+        rt: &R,
         alloc: Global,
         line: &[u8],
         out: &mut K,
@@ -89,7 +95,7 @@ impl Player {
     {
         match meaning(line) {
             Line::Comment => Ok(()),
-            Line::Ticks(count) => self.tick(count, out),
+            Line::Ticks(count) => self.tick(rt, count, out),
             Line::Said(tag, text) => self.take_client_line(alloc, tag, text, out),
             Line::Stop => {
                 self.stop(SERVER);

@@ -18,7 +18,8 @@ use std::thread::Threads;
 /// The words are `run W H`, a width and a height from 1 to 4,096: one channel of that size, without sound and without
 /// clips. Or they are `run --config FILE`, after which `--workers N`, a number from 1 to 64, and then `--digest` may
 /// follow: the channels of the configuration in that file, and the clips of the folder that it names. With `--digest`
-/// each frame is written as its digest. The number of workers changes nothing that is written.
+/// each frame is written as its digest. The frames are made by `N` threads, and by one if no number is given; the number
+/// changes nothing that is written.
 ///
 /// The words are tested first, then the configuration is read and tested, then the clips are read, and then the script is
 /// played. The first cause that is met gives the exit status, which is returned.
@@ -78,11 +79,15 @@ fn play<R: Threads + Sync, I: Source, M: MediaDir, O: Sink>(
     match line {
         CommandLine::Plain(size) => {
             let plain = plain_setup(alloc, size)?;
-            run(alloc, plain, false, input, out).outcome()
+            run(rt, alloc, plain, false, 1, input, out).outcome()
         }
-        CommandLine::Configured { path, digests } => {
+        CommandLine::Configured {
+            path,
+            digests,
+            workers,
+        } => {
             let setup = set_up(rt, alloc, path, media)?;
-            run(alloc, setup, digests, input, out).outcome()
+            run(rt, alloc, setup, digests, workers, input, out).outcome()
         }
     }
 }

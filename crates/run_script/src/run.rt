@@ -13,12 +13,14 @@ use history_model::MAX_INPUT_BYTES;
 use play_outside::{ReadStep, Sink, Source};
 use server_setup::ServerSetup;
 use std::alloc::Global;
+use std::thread::Threads;
 
 /// The most bytes that are read at a time.
 const PIECE_BYTES: usize = 4_096;
 
-/// Takes a piece of the input if at most `left` bytes are allowed, and returns the number of those allowed after it.
-fn take_piece<K: Sink>(
+/// Takes a piece of the input where at most `left` bytes are allowed, and returns the number of those allowed after it.
+fn take_piece<R: Threads + Sync, K: Sink>(
+    rt: &R,
     script: &mut Script,
     alloc: Global,
     left: u64,
@@ -36,26 +38,30 @@ fn take_piece<K: Sink>(
         → ReadsOn run result script.new (bytes ++ piece.now) (K.state out.new) }
 {
     if piece.len() as u64 > left {
-        script.take(alloc, &piece[..left as usize], out)?;
+        script.take(rt, alloc, &piece[..left as usize], out)?;
         return Err(Ending::TooLong);
     }
-    script.take(alloc, piece, out)?;
+    script.take(rt, alloc, piece, out)?;
     Ok(left - piece.len() as u64)
 }
 
-/// Reads a script to its end and does what its lines say.
-pub fn run<I: Source, K: Sink>(
+/// Reads a script to its end and does what its lines say. The frames are made by `workers` threads, 1 to 64.
+pub fn run<R: Threads + Sync, I: Source, K: Sink>(
+    rt: &R,
     alloc: Global,
     setup: ServerSetup,
     digests: bool,
+    workers: u32,
     input: &mut I,
     out: &mut K,
 ) -> Ending
+    requires some_workers { 1 ≤ workers }
+    requires few_workers { workers ≤ 64 }
     ensures { RunsScript (playout_of setup digests) result
         (record { input = I.state input.old; out = K.state out.old })
         (record { input = I.state input.new; out = K.state out.new }) }
 {
-    let Ok(mut script) = Script::new(alloc, setup, digests) else {
+    let Ok(mut script) = Script::new(alloc, setup, digests, workers) else {
         return Ending::Memory;
     };
     let mut left = MAX_INPUT_BYTES;
@@ -63,12 +69,12 @@ pub fn run<I: Source, K: Sink>(
     'pieces: loop {
         match input.read(&mut buffer) {
             ReadStep::Got(count) => {
-                match take_piece(&mut script, alloc, left, &buffer[..count], out) {
+                match take_piece(rt, &mut script, alloc, left, &buffer[..count], out) {
                     Ok(rest) => left = rest,
                     Err(ending) => return ending,
                 }
             }
-            ReadStep::End => return script.finish(alloc, out),
+            ReadStep::End => return script.finish(rt, alloc, out),
             ReadStep::Failed => return Ending::ReadFault,
         }
     }

@@ -18,6 +18,7 @@ use history_model::MAX_SCRIPT_LINE_BYTES;
 use play_outside::Sink;
 use server_setup::ServerSetup;
 use std::alloc::{AllocError, Global};
+use std::thread::Threads;
 
 /// A line is too long, whatever follows, if this many of its bytes have come without its end: one more than those of the
 /// longest line and a carriage return.
@@ -34,7 +35,14 @@ pub struct Script {
 
 impl Script {
     /// Returns a script of which nothing was taken yet.
-    pub fn new(alloc: Global, setup: ServerSetup, digests: bool) -> Result<Script, AllocError>
+    pub fn new(
+        alloc: Global,
+        setup: ServerSetup,
+        digests: bool,
+        workers: u32,
+    ) -> Result<Script, AllocError>
+        requires some_workers { 1 ≤ workers }
+        requires few_workers { workers ≤ 64 }
         ensures ready { IfOk result (λ script. IsReady script.player) }
         ensures small { IfOk result (λ script. (ticks_due script ≡ 0) × (script.lines ≡ 0)) }
         ensures taken { IfOk result (λ script. (first : SinkState) → HasTaken (record { playout = playout_of setup digests; first = first }) script [] first) }
@@ -42,12 +50,18 @@ impl Script {
         Ok(Script {
             waiting: Vec::new(alloc),
             lines: 0,
-            player: Player::new(alloc, setup, digests)?,
+            player: Player::new(alloc, setup, digests, workers)?,
         })
     }
 
     /// Takes the next bytes, and does what their lines say. It stops at the first line that ends the run.
-    pub fn take<K: Sink>(&mut self, alloc: Global, piece: &[u8], out: &mut K) -> Result<(), Ending>
+    pub fn take<R: Threads + Sync, K: Sink>(
+        &mut self,
+        rt: &R,
+        alloc: Global,
+        piece: &[u8],
+        out: &mut K,
+    ) -> Result<(), Ending>
         requires ready { IsReady self.old.player }
         requires time { ticks_due self.old + ticks_per_byte * length piece.now + MAX_TICKS_PER_LINE ≤ MAX_TICKS }
         requires lines { self.old.lines + length piece.now < 2 ^ 63 }
@@ -58,7 +72,7 @@ impl Script {
             → TakesPiece run result self.new (bytes ++ piece.now) (K.state out.new) }
     {
         for byte in piece {
-            match self.take_byte(alloc, *byte, out) {
+            match self.take_byte(rt, alloc, *byte, out) {
                 Ok(()) => {}
                 Err(halt) => return Err(halt.ending(self.lines)),
             }
@@ -66,8 +80,13 @@ impl Script {
         Ok(())
     }
 
-    /// Does what the last line says if the input ends without a line feed.
-    pub fn finish<K: Sink>(&mut self, alloc: Global, out: &mut K) -> Ending
+    /// Does what the last line says where the input ends without a line feed.
+    pub fn finish<R: Threads + Sync, K: Sink>(
+        &mut self,
+        rt: &R,
+        alloc: Global,
+        out: &mut K,
+    ) -> Ending
         requires ready { IsReady self.old.player }
         requires time { ticks (events_in self.old.player) + MAX_TICKS_PER_LINE ≤ MAX_TICKS }
         requires lines { self.old.lines < 2 ^ 63 }
@@ -77,14 +96,23 @@ impl Script {
         if self.waiting.is_empty() {
             return Ending::Finished;
         }
-        match self.player.take_line(alloc, self.waiting.as_slice(), out) {
+        match self
+            .player
+            .take_line(rt, alloc, self.waiting.as_slice(), out)
+        {
             Ok(()) => Ending::Finished,
             Err(halt) => halt.ending(self.lines),
         }
     }
 
-    /// Takes the next byte, and does what its line says if the byte ends one.
-    fn take_byte<K: Sink>(&mut self, alloc: Global, byte: u8, out: &mut K) -> Result<(), Halt>
+    /// Takes the next byte, and does what its line says where the byte ends one.
+    fn take_byte<R: Threads + Sync, K: Sink>(
+        &mut self,
+        rt: &R,
+        alloc: Global,
+        byte: u8,
+        out: &mut K,
+    ) -> Result<(), Halt>
         requires ready { IsReady self.old.player }
         requires time { ticks (events_in self.old.player) + MAX_TICKS_PER_LINE ≤ MAX_TICKS }
         requires lines { self.old.lines < 2 ^ 63 }
@@ -95,14 +123,19 @@ impl Script {
             → TakesBytes run result self.new (bytes ++ byte ∷ []) (K.state out.new) }
     {
         if byte == b'\n' {
-            self.end_line(alloc, out)
+            self.end_line(rt, alloc, out)
         } else {
             self.keep_byte(byte)
         }
     }
 
     /// Does what the line that waits says.
-    fn end_line<K: Sink>(&mut self, alloc: Global, out: &mut K) -> Result<(), Halt>
+    fn end_line<R: Threads + Sync, K: Sink>(
+        &mut self,
+        rt: &R,
+        alloc: Global,
+        out: &mut K,
+    ) -> Result<(), Halt>
         requires ready { IsReady self.old.player }
         requires time { ticks (events_in self.old.player) + MAX_TICKS_PER_LINE ≤ MAX_TICKS }
         requires lines { self.old.lines < 2 ^ 63 }
@@ -113,7 +146,7 @@ impl Script {
             → TakesBytes run result self.new (bytes ++ 10 ∷ []) (K.state out.new) }
     {
         let line = without_carriage_return(self.waiting.as_slice());
-        self.player.take_line(alloc, line, out)?;
+        self.player.take_line(rt, alloc, line, out)?;
         self.lines += 1;
         self.waiting.clear();
         Ok(())

@@ -15,7 +15,7 @@ returns-in_err-tick-clause-outs g c =
     (nothing_taken g.O.Sink.state c.in_err-tick.field-0.0 c.args.renderer.now c.args.outs.now)
 
 pub render-requires-after_bounds : goal.render-requires-after_bounds
-render-requires-after_bounds g c κs = scenes_many _ _ _ _ _ c.in_ok-tick.ensures.call ∙ sym c.requires.renderer
+render-requires-after_bounds g c κs within = scenes_many _ _ _ _ _ c.in_ok-tick.ensures.call ∙ sym c.requires.renderer
 
 pub write_frames-requires-clause-channels : goal.write_frames-requires-clause-channels
 write_frames-requires-clause-channels g c =

@@ -1,0 +1,36 @@
+//! The number of bytes that bands have.
+ghost use Rattle.std.specs.Prelude.{◌≡◌, ◌<◌, ◌^◌};
+ghost use Rattle.band_render.specs.inner.Rows.{byte_count, rows_of, rows_of_bands, rows_of_groups};
+
+use crate::band::{Band, Group};
+
+/// Returns the number of bytes of the rows of a band.
+pub(crate) fn bytes_of_band(band: &Band) -> usize
+    ensures { result ≡ byte_count (rows_of band.now) }
+{
+    4 * usize::from(band.size.width) * usize::from(band.rows)
+}
+
+/// Returns the number of bytes of the rows of all bands.
+pub(crate) fn bytes_of_bands(bands: &[Band]) -> usize
+    requires { byte_count (rows_of_bands bands.now) < 2 ^ 64 }
+    ensures { result ≡ byte_count (rows_of_bands bands.now) }
+{
+    let mut count = 0;
+    for band in bands {
+        count += bytes_of_band(band);
+    }
+    count
+}
+
+/// Returns the number of bytes of the rows of all bands of these groups.
+pub(crate) fn bytes_of_groups(groups: &[Group]) -> usize
+    requires { byte_count (rows_of_groups groups.now) < 2 ^ 64 }
+    ensures { result ≡ byte_count (rows_of_groups groups.now) }
+{
+    let mut count = 0;
+    for group in groups {
+        count += bytes_of_bands(&group.bands);
+    }
+    count
+}

@@ -1,0 +1,157 @@
+//! Frames that several workers make, with ample memory: one channel of 16 by 9 pixels, which shows half red, blue within it, and
+//! its own frame of the tick before within both.
+ghost use Rattle.std.specs.Prelude.{◌≡◌, IfOk, length};
+
+use crate::renderers::is_there;
+use band_render::{Gate, OpenGate, Renderer};
+use clip_format::MediaTable;
+use play_types::{
+    Channel, ChannelList, Config, Drawn, MAX_LIVE_LAYERS, Scenes, Still, Text, Trans,
+};
+use std::alloc::Global;
+use std::sync::atomic::{AtomicU32, AtomicU64, Ordering};
+use std::test::Fail;
+use std::thread::Threads;
+
+/// A gate that counts the bands that enter it, and keeps the numbers below 64 of those that did.
+#[derive(Drop)]
+struct CountingGate {
+    count: AtomicU32,
+    numbers: AtomicU64,
+}
+
+impl Gate for CountingGate {
+    fn enter(&self, band: u32) {
+        self.count.fetch_add(1, Ordering::SeqCst);
+        if band < 64 {
+            self.numbers.fetch_or(1 << band, Ordering::SeqCst);
+        }
+    }
+}
+
+/// The most turns for which a band waits for another one.
+const MOST_TURNS: u32 = 2_000_000_000;
+
+/// A gate at which each band waits until two have come. It keeps how many waited in vain.
+#[derive(Drop)]
+struct MeetingGate {
+    came: AtomicU32,
+    alone: AtomicU32,
+}
+
+impl Gate for MeetingGate {
+    fn enter(&self, _band: u32) {
+        self.came.fetch_add(1, Ordering::SeqCst);
+        for _ in 0..MOST_TURNS {
+            if self.came.load(Ordering::SeqCst) >= 2 {
+                return;
+            }
+        }
+        self.alone.fetch_add(1, Ordering::SeqCst);
+    }
+}
+
+/// Returns a configuration of one channel of this size.
+fn config(alloc: Global, width: u16, height: u16) -> Result<Config, Fail> {
+    let mut channels = ChannelList::new(alloc);
+    let output = Text::copy(alloc, "o")?;
+    channels.push(Channel::new(width, height, 0, output).ok_or("a channel")?)?;
+    let listen = Text::copy(alloc, "l")?;
+    let media = Text::copy(alloc, "m")?;
+    Ok(Config::new(listen, media, 25, 1, 1, channels).ok_or("a configuration")?)
+}
+
+/// Adds a layer to channel 1 that fills the frame, or a part of it.
+fn add(scenes: &mut Scenes, still: Still, is_inset: bool)
+    ensures { length scenes.new ≡ length scenes.old }
+{
+    let fill = if is_inset {
+        [125_000, 333_000, 500_000, 400_000]
+    } else {
+        [0, 0, 1_000_000, 1_000_000]
+    };
+    let drawn = Drawn {
+        still,
+        old: Still::Nothing,
+        trans: Trans::cut(),
+        step: 0,
+        opacity: 1_000_000,
+        fill,
+        clip: [0, 0, 1_000_000, 1_000_000],
+        volume: 1_000_000,
+        keyer: false,
+    };
+    if is_there(still, scenes.channels()) && scenes.scene(1).drawn().len() < MAX_LIVE_LAYERS {
+        scenes.push(1, drawn);
+    }
+}
+
+/// Renders two ticks by this number of workers, and returns the renderer.
+fn two_ticks<R: Threads + Sync, G: Gate>(
+    rt: &R,
+    alloc: Global,
+    workers: u32,
+    gate: &G,
+) -> Result<Renderer, Fail>
+    requires { (1 ≤ workers) × (workers ≤ 64) }
+    ensures { IfOk result (λ renderer. length renderer ≡ 1) }
+{
+    let config = config(alloc, 16, 9)?;
+    let media = MediaTable::empty(alloc)?;
+    let mut scenes = Scenes::new(alloc, &config)?;
+    let mut renderer = Renderer::new(alloc, &config, workers)?;
+    if scenes.channels() != 1 {
+        return Err(Fail::from("one channel"));
+    }
+    add(&mut scenes, Still::Colour(0x80FF_0000), false);
+    add(&mut scenes, Still::Colour(0xFF00_00FF), true);
+    add(&mut scenes, Still::Channel(1), true);
+    renderer.render(rt, &scenes, &media, gate);
+    renderer.render(rt, &scenes, &media, gate);
+    Ok(renderer)
+}
+
+/// Any number of workers makes the same frame. It is half red in row 0. In row 4 the frame of the tick before lies over blue: at
+/// column 2 it is half red and at column 5 blue.
+#[test]
+fn workers_make_equal_frames(rt: HostRuntime) -> Result<(), Fail> {
+    let alloc = rt.alloc();
+    let one = two_ticks(&rt, alloc, 1, &OpenGate)?;
+    assert_eq!(rt; one.frame(1)[..4], [0, 0, 128, 128]);
+    assert_eq!(rt; one.frame(1)[4 * (4 * 16 + 2)..][..4], [127, 0, 128, 255]);
+    assert_eq!(rt; one.frame(1)[4 * (4 * 16 + 5)..][..4], [255, 0, 0, 255]);
+    for workers in [2, 7, 64] {
+        let more = two_ticks(&rt, alloc, workers, &OpenGate)?;
+        assert_eq!(rt; one.frame(1), more.frame(1), "by {workers} workers");
+    }
+    Ok(())
+}
+
+/// Each band enters the gate once a tick, with a number of its own from 0 on: as many as there are workers, but no more than rows.
+#[test]
+fn each_band_enters_once(rt: HostRuntime) -> Result<(), Fail> {
+    let alloc = rt.alloc();
+    for (workers, bands) in [(1, 1), (2, 2), (7, 7), (64, 9)] {
+        let gate = CountingGate {
+            count: AtomicU32::new(0),
+            numbers: AtomicU64::new(0),
+        };
+        two_ticks(&rt, alloc, workers, &gate)?;
+        assert_eq!(rt; gate.count.load(Ordering::SeqCst), 2 * bands);
+        assert_eq!(rt; gate.numbers.load(Ordering::SeqCst), (1 << bands) - 1);
+    }
+    Ok(())
+}
+
+/// Two workers make their bands beside each other.
+#[test]
+fn two_bands_meet(rt: HostRuntime) -> Result<(), Fail> {
+    let gate = MeetingGate {
+        came: AtomicU32::new(0),
+        alone: AtomicU32::new(0),
+    };
+    two_ticks(&rt, rt.alloc(), 2, &gate)?;
+    assert_eq!(rt; gate.came.load(Ordering::SeqCst), 4);
+    assert_eq!(rt; gate.alone.load(Ordering::SeqCst), 0);
+    Ok(())
+}

@@ -15,7 +15,7 @@ use Rattle.play_sound.specs.Sounds.{AreSounds, sounds_after}
 abbrev pub scenes_after : List Event → ℕ → List (List Drawn)
 scenes_after history channels = map (scene history) (range_with_len 1 channels)
 
--- the frames have the pixels and the samples of each channel at the last tick of a history, transparent and silent where it has no
+-- the frames have the pixels and the samples of each channel at the last tick of a history, transparent and silent if it has no
 -- tick, and the setup has their sizes and the clips of the media table
 pub record Represents (setup : Setup) (history : List Event) (entries : List Entry) (frames : List FrameView) : Type 0 where
   pub pictures : ArePictures (pictures_after setup history) frames entries

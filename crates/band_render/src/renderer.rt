@@ -69,7 +69,7 @@ impl Renderer {
         })
     }
 
-    /// Makes the frame and the sound of each channel from its scene, the clips, and the frames of the tick before, also where
+    /// Makes the frame and the sound of each channel from its scene, the clips, and the frames of the tick before, also if
     /// a scene shows the frame of another channel. There are as many scenes as channels. It takes no memory.
     ///
     /// The rows of each channel are cut into bands: as many as there are workers, or as many as there are rows if the channel

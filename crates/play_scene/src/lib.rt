@@ -19,4 +19,5 @@ mod render;
 
 pub use composition::pixel;
 pub use frames::Frames;
+pub use placing::visible_column;
 pub use render::render_channel;

@@ -45,8 +45,9 @@ pub(crate) fn placed_pixel(
 }
 
 /// Returns the raster column that column `x` of a frame of `width` columns shows by the left edges and widths of a fill and a
-/// clip, in millionths of the frame, and `None` if it shows none. It does so for rows too.
-fn visible_column(width: u16, fill: (i64, i64), clip: (i64, i64), x: u16) -> Option<u16>
+/// clip, in millionths of the frame, -1,000,000,000 to 1,000,000,000, and `None` if it shows none. It does so for rows too,
+/// with top edges and heights. It takes no memory.
+pub fn visible_column(width: u16, fill: (i64, i64), clip: (i64, i64), x: u16) -> Option<u16>
     requires fill { IsWide fill.0 × IsWide fill.1 }
     requires clip { IsWide clip.0 × IsWide clip.1 }
     ensures value { result ≡ (if is_kept width clip.0 clip.1 x then filled_column width fill.0 fill.1 x else None) }

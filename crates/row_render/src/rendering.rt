@@ -7,10 +7,11 @@ ghost use Rattle.history_model.specs.pictures.Frame.{scene_pixel};
 ghost use Rattle.history_model.specs.pictures.Raster.{Pictures};
 ghost use Rattle.play_scene.specs.Frames.{ArePictures, ArePixels};
 
+use crate::composition::compose_row;
 use crate::room::RowRoom;
-use crate::row::put_pixel;
+use crate::view::View;
 use clip_format::MediaTable;
-use play_scene::{Frames, pixel};
+use play_scene::Frames;
 use play_types::{Geometry, Scene};
 
 /// Writes row `y` of a frame of this size that shows a scene, by the frames of the tick before and the clips: at each column the
@@ -34,8 +35,7 @@ pub fn render_row(
     ensures pixels { ArePixels out.new }
     ensures room { room.new ≡ room.old }
 {
-    for x in 0..size.width {
-        let pixel = pixel(scene, size, prev, media, x, y);
-        put_pixel(out, x, pixel);
-    }
+    let view = View { size, prev, media };
+    let spare = 4 * out.len();
+    compose_row(&view, scene, y, out, &mut room.rows[..spare]);
 }

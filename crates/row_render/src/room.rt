@@ -4,13 +4,12 @@ ghost use Rattle.std.specs.Prelude.{◌≡◌, IfOk};
 use std::alloc::{AllocError, Global};
 use std::marker::Model;
 
-/// Room for three rows of pixels up to a width. Only [`RowRoom::new`] takes memory.
+/// Room for making rows of pixels up to a width. Only [`RowRoom::new`] takes memory.
 #[derive(Drop)]
 pub struct RowRoom {
     width: u16,
-    layer: Vec<u8>,
-    other: Vec<u8>,
-    keyer: Vec<u8>,
+    /// Four rows: that of a layer, that of a keyer, and those of a raster and of the other picture of a mix.
+    pub(crate) rows: Vec<u8>,
 }
 
 impl Model for RowRoom {
@@ -20,7 +19,7 @@ impl Model for RowRoom {
 
     ghost view = { λ r. r.width };
 
-    ghost invariant = { λ r. (vec_len r.layer ≡ 4 * r.width) × (vec_len r.other ≡ 4 * r.width) × (vec_len r.keyer ≡ 4 * r.width) };
+    ghost invariant = { λ r. vec_len r.rows ≡ 16 * r.width };
 }
 
 impl RowRoom {
@@ -28,12 +27,7 @@ impl RowRoom {
     pub fn new(alloc: Global, width: u16) -> Result<RowRoom, AllocError>
         ensures { IfOk result (λ room. room ≡ width) }
     {
-        let bytes = 4 * usize::from(width);
-        Ok(RowRoom {
-            width,
-            layer: vec![in alloc; 0; bytes]?,
-            other: vec![in alloc; 0; bytes]?,
-            keyer: vec![in alloc; 0; bytes]?,
-        })
+        let rows = vec![in alloc; 0; 16 * usize::from(width)]?;
+        Ok(RowRoom { width, rows })
     }
 }

@@ -30,7 +30,7 @@ impl CommandLine<'_> {
     /// Returns what the words name: `run W H`, each number from 1 to 4,096, or `run --config PATH`, after which
     /// `--workers N`, a whole number from 1 to 64, and then `--digest` may follow.
     ///
-    /// `None` comes exactly where the words are no command line. Without `--workers` there is one worker.
+    /// `None` comes exactly if the words are no command line. Without `--workers` there is one worker.
     pub fn read(words: &[String]) -> Option<CommandLine<'_>>
         ensures value { option_map command_line_view result ≡ command_line_of (map string_bytes words.now) }
         ensures range { IfSome result IsInRange }

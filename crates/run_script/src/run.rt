@@ -18,7 +18,7 @@ use std::thread::Threads;
 /// The most bytes that are read at a time.
 const PIECE_BYTES: usize = 4_096;
 
-/// Takes a piece of the input where at most `left` bytes are allowed, and returns the number of those allowed after it.
+/// Takes a piece of the input if at most `left` bytes are allowed, and returns the number of those allowed after it.
 fn take_piece<R: Threads + Sync, K: Sink>(
     rt: &R,
     script: &mut Script,

@@ -1,0 +1,15 @@
+-- The row that keys the next layer.
+use Rattle.std.specs.Prelude.{◌≡◌, ℕ, Bool, true, false, List, [], ◌∷◌, if◌then◌else◌}
+use Rattle.play_types.specs.declared.drawn.Drawn.{Drawn}
+use Rattle.pixel_math.specs.Pixel.{PixelView}
+use Rattle.pixel_math.specs.Arithmetic.{key}
+use Rattle.lane_blend.specs.Rows.{IsRow}
+
+-- a pixel, keyed by the red of another if it is keyed
+abbrev pub keyed_pixel_by : Bool → PixelView → PixelView → PixelView
+keyed_pixel_by keyed pixel by = if keyed then key pixel by.r else pixel
+
+-- a row keys the layers above these, the uppermost first, if the uppermost is a keyer, and it is the row of that keyer
+abbrev pub Keys : (ℕ → Drawn → PixelView) → ℕ → List Drawn → Bool → List ℕ → Type 0
+Keys placed width [] keyed keys = keyed ≡ false
+Keys placed width (next ∷ below) keyed keys = (keyed ≡ next.keyer) × (next.keyer ≡ true → IsRow width (λ x. placed x next) keys)

@@ -1,0 +1,123 @@
+//! The row of a layer's raster.
+ghost use Rattle.std.specs.Prelude.{◌≡◌, ℕ, ◌+◌, ◌*◌, ◌%◌, ◌<◌, ◌≤◌, ◌⊎◌, length, All};
+ghost use Rattle.std.specs.Option.{option_to_list};
+ghost use Rattle.play_types.specs.Scene.{NamesConfigured, ShowsConfigured};
+ghost use Rattle.play_transitions.specs.Column.{column_view};
+ghost use Rattle.play_transitions.specs.Runs.{number_of, raised, run_column};
+ghost use Rattle.history_model.specs.pictures.Raster.{Pictures, raster_pixel, still_pixel};
+ghost use Rattle.play_scene.specs.Frames.{ArePictures};
+ghost use Rattle.lane_blend.specs.Rows.{AreLowered, IsRow, pixel_at, width_of};
+ghost use Rattle.row_render.specs.inner.Rasters.{IsOutside, IsRunOf, moving_pixel};
+
+use crate::scaling::{fill_row, scale_columns};
+use crate::source::{plain_pixel, source_row};
+use crate::view::View;
+use lane_blend::mix_row;
+use pixel_math::Pixel;
+use play_transitions::{Column, Run, runs};
+use play_types::{Drawn, Still};
+
+/// Writes row `y` of the raster of a layer: that of its new picture, or, while the transition runs, what it shows of its new
+/// and of its old picture. `other` is a row of the same length for the time of the call.
+pub(crate) fn raster_row(view: &View, layer: &Drawn, y: u16, row: &mut [u8], other: &mut [u8])
+    requires line { y < view.now.size.height }
+    requires step { (0 < layer.now.step) ⊎ (layer.now.trans.duration ≡ 0) }
+    requires names { NamesConfigured (length view.now.prev.now) layer.now }
+    requires row { length row.old ≡ 4 * view.now.size.width }
+    requires other { length other.old ≡ 4 * view.now.size.width }
+    ensures row { (pictures : Pictures) → ArePictures pictures view.now.prev.now view.now.media.now →
+        IsRow view.now.size.width (λ x. raster_pixel pictures view.now.size layer.now x y) row.new }
+    ensures lowered { AreLowered row.new }
+{
+    let (trans, step) = (layer.trans, layer.step);
+    if step >= trans.duration() {
+        still_columns(view, layer.still, y, 0, row);
+        return;
+    }
+    fill_row(Pixel::transparent(), row);
+    let pair = runs(
+        trans.kind(),
+        trans.leftward(),
+        step,
+        trans.duration(),
+        view.size.width,
+    );
+    run_columns(pair.first, view, layer, y, row, other);
+    run_columns(pair.second, view, layer, y, row, other);
+}
+
+/// Writes the columns of a run of a transition, if there is one.
+fn run_columns(
+    run: Option<Run>,
+    view: &View,
+    layer: &Drawn,
+    y: u16,
+    row: &mut [u8],
+    other: &mut [u8],
+)
+    requires line { y < view.now.size.height }
+    requires after { 0 < layer.now.step }
+    requires before { layer.now.step < layer.now.trans.duration }
+    requires names { NamesConfigured (length view.now.prev.now) layer.now }
+    requires row { length row.old ≡ 4 * view.now.size.width }
+    requires other { length other.old ≡ 4 * view.now.size.width }
+    requires run { All (IsRunOf view.now.size.width) (option_to_list run) }
+    requires lowered { AreLowered row.old }
+    ensures there { (pictures : Pictures) → ArePictures pictures view.now.prev.now view.now.media.now →
+        All (λ run. (x : ℕ) → run.from ≤ x → x < run.to →
+        pixel_at row.new x ≡ moving_pixel pictures view.now.size layer.now y (run_column run x)) (option_to_list run) }
+    ensures others { (x : ℕ) → All (IsOutside x) (option_to_list run) → pixel_at row.new x ≡ pixel_at row.old x }
+    ensures lowered { AreLowered row.new }
+{
+    if let Some(run) = run {
+        let (from, to) = (4 * usize::from(run.from), 4 * usize::from(run.to));
+        moving_row(
+            run.column,
+            view,
+            layer,
+            y,
+            &mut row[from..to],
+            &mut other[from..to],
+        );
+    }
+}
+
+/// Writes the columns of a transition from `column` on: those of one picture, or the mix of both.
+fn moving_row(column: Column, view: &View, layer: &Drawn, y: u16, row: &mut [u8], other: &mut [u8])
+    requires line { y < view.now.size.height }
+    requires after { 0 < layer.now.step }
+    requires before { layer.now.step < layer.now.trans.duration }
+    requires names { NamesConfigured (length view.now.prev.now) layer.now }
+    requires whole { length row.old % 4 ≡ 0 }
+    requires other { length other.old ≡ length row.old }
+    requires fits { number_of (column_view column) + width_of row.old ≤ view.now.size.width }
+    ensures row { (pictures : Pictures) → ArePictures pictures view.now.prev.now view.now.media.now →
+        IsRow (width_of row.old) (λ i. moving_pixel pictures view.now.size layer.now y (raised (column_view column) i)) row.new }
+    ensures lowered { AreLowered row.new }
+{
+    match column {
+        Column::Old(first) => still_columns(view, layer.old, y, first, row),
+        Column::New(first) => still_columns(view, layer.still, y, first, row),
+        Column::Both(first) => {
+            still_columns(view, layer.old, y, first, row);
+            still_columns(view, layer.still, y, first, other);
+            mix_row(other, row, layer.step, layer.trans.duration());
+        }
+    }
+}
+
+/// Writes row `y` of a raster that shows a still, from column `first` on.
+fn still_columns(view: &View, still: Still, y: u16, first: u16, row: &mut [u8])
+    requires line { y < view.now.size.height }
+    requires names { ShowsConfigured (length view.now.prev.now) still }
+    requires whole { length row.old % 4 ≡ 0 }
+    requires fits { first + width_of row.old ≤ view.now.size.width }
+    ensures row { (pictures : Pictures) → ArePictures pictures view.now.prev.now view.now.media.now →
+        IsRow (width_of row.old) (λ i. still_pixel pictures view.now.size still (first + i) y) row.new }
+    ensures lowered { AreLowered row.new }
+{
+    match source_row(view, still, y) {
+        Some(source) => scale_columns(source, view.size.width, first, row),
+        None => fill_row(plain_pixel(still), row),
+    }
+}

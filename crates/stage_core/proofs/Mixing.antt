@@ -1,24 +1,29 @@
 -- What a mixer represents through commands and time, and which commands it can take.
 use Rattle.std.proofs.Common.{◌≡◌, ℕ, ◌≤◌, Bool, true, false, ◌||◌, List, [], ◌∷◌, ◌++◌, refl, sym, ap, ◌∙◌, subst, subst₂, arith}
 use Rattle.std.proofs.lemmas.Bool.{true≢false}
-use Rattle.std.specs.Prelude.{OnOk, Ok, Result}
+use Rattle.std.specs.Prelude.{IsTrue, not, OnOk, Ok, Result}
 use Rattle.play_types.specs.History.{ticks}
 use Rattle.play_types.specs.Place.{PlaceView}
 use Rattle.play_types.specs.declared.setting.Prop.{Prop}
 use Rattle.history_model.specs.stage.Value.{value, value_at}
 use Rattle.play_types.specs.Setting.{SettingView}
+use Rattle.play_types.specs.Shape.{shape_of}
+use Rattle.play_types.specs.Take.{played}
+use Rattle.play_types.specs.declared.shape.CommandShape.{CommandShape}
+use Rattle.play_types.specs.declared.shape.CommandShape.TheVariants as shape
 use Rattle.play_types.specs.declared.command.Cmd.{Cmd}
+use Rattle.play_types.specs.declared.command.Cmd.TheVariants.{LoadBg, Play, PlayTake, SwapLayers, SwapChannels, Value, Info}
 use Rattle.play_types.specs.declared.event.Event.{Event}
 use Rattle.play_types.specs.declared.event.Event.TheVariants.{Tick}
 use Rattle.play_types.proofs.Histories.{ticks-append}
-use Rattle.history_model.specs.stage.Act.{Act, acts_of}
+use Rattle.history_model.specs.stage.Act.{Act, act_after, acts_of}
 use Rattle.history_model.specs.stage.Acts.{acts}
 use Rattle.history_model.specs.stage.StageHistory.{stage_after}
 use Rattle.history_model.specs.stage.StageState.{is_refused_by, some_is_refused, stage_state, state_after}
 use Rattle.history_model.proofs.stage.Changes.{stage_state-command}
 use Rattle.history_model.proofs.stage.Histories.{stage_after-acts}
 use Rattle.mixer_state.specs.Mixer.{IsAsBefore, MixerView, values_of}
-use Rattle.mixer_state.specs.Past.{Represents}
+use Rattle.mixer_state.specs.Past.{Represents, TakesCommand, leaves_mixer}
 use Rattle.stage_core.specs.Kept.{IsMixed}
 use Rattle.stage_core.specs.inner.Settled.{CanTake}
 
@@ -39,6 +44,34 @@ module _ (m : MixerView) (past : List Act) (t : ℕ) (h : Represents m past t) w
 
   pub as_before : (after : MixerView) → IsAsBefore m after → Represents after past t
   as_before after same = subst (λ (one : MixerView). Represents one past t) (sym same) (with_spare after.spare)
+
+-- whether a command of a shape changes no mixer value and no waiting setting
+abbrev pub shape_leaves_mixer : CommandShape → Bool
+shape_leaves_mixer (shape.SwapLayers a b transforms) = not transforms
+shape_leaves_mixer (shape.SwapChannels a b transforms) = not transforms
+shape_leaves_mixer (shape.Set setting) = false
+shape_leaves_mixer (shape.CommitMixer channel) = false
+shape_leaves_mixer (shape.Reset target) = false
+shape_leaves_mixer other = true
+
+leaves_mixer-shape : (cmd : Cmd) → leaves_mixer cmd ≡ shape_leaves_mixer (shape_of cmd)
+leaves_mixer-shape (SwapLayers a b transforms) = refl
+leaves_mixer-shape (SwapChannels a b transforms) = refl
+leaves_mixer-shape cmd = refl
+
+-- what a mixer represents stays through a command that changes no value and no waiting setting
+module _ (leaves : (cmd : Cmd) (t : ℕ) (m : MixerView) → IsTrue (leaves_mixer cmd) → TakesCommand cmd t m m) (m : MixerView) (t : ℕ) where
+  stays_through : (cmd : Cmd) → IsTrue (leaves_mixer cmd) → (past : List Act) → Represents m past t → Represents m (acts_of t cmd ++ past) t
+  stays_through (PlayTake at take) e past h =
+      leaves (Play at) t m refl (act_after t (LoadBg at (played take)) ∷ past) (leaves (LoadBg at (played take)) t m refl past h)
+  stays_through (Value at prop) e past h = h
+  stays_through Info e past h = h
+  stays_through cmd e past h = leaves cmd t m e past h
+
+  -- by its shape
+  pub stays_through_shape : (cmd : Cmd) (found : CommandShape) → found ≡ shape_of cmd → IsTrue (shape_leaves_mixer found) →
+      (past : List Act) → Represents m past t → Represents m (acts_of t cmd ++ past) t
+  stays_through_shape cmd found same e = stays_through cmd (leaves_mixer-shape cmd ∙ sym (ap shape_leaves_mixer same) ∙ e)
 
 -- a value that was taken out of a result was there
 module _ {X F : Type 0} where

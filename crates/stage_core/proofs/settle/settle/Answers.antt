@@ -1,11 +1,12 @@
-use Rattle.std.proofs.Common.{ℕ, true, ◌++◌, sym, ap, ◌∙◌, subst}
+use Rattle.std.proofs.Common.{ℕ, inl, inr, true, ◌++◌, sym, ap, ◌∙◌, subst}
+use Rattle.std.specs.Prelude.{not}
 use Rattle.play_types.specs.declared.command.Cmd.{Cmd}
-use Rattle.play_types.specs.declared.command.Cmd.TheVariants.{CommitMixer, SwapChannels, SwapLayers}
+use Rattle.play_types.specs.declared.command.Cmd.TheVariants.{CommitMixer, SwapLayers}
 use Rattle.play_types.specs.declared.shape.CommandShape.TheVariants as shape
 use Rattle.play_types.specs.declared.shape.Target.TheVariants as target
 use Rattle.history_model.specs.stage.Act.{acts_of}
 use Rattle.mixer_state.specs.Past.{Represents, TakesCommand}
-use Rattle.stage_core.proofs.Mixing.{when_ok}
+use Rattle.stage_core.proofs.Mixing.{shape_leaves_mixer, stays_through_shape, when_ok}
 use Rattle.stage_core.proofs.Shapes.{of_shape}
 use Rattle.stage_core.proofs.settle.settle.Goals as goal
 
@@ -49,3 +50,23 @@ returns-then-transforms-2-clause-past c acts represents =
     (sym (of_shape c.args.cmd.now (shape.SwapChannels c.in-SwapChannels.a c.in-SwapChannels.b true)
     (sym c.shape.ensures ∙ c.in-SwapChannels.is ∙ ap (shape.SwapChannels c.in-SwapChannels.a c.in-SwapChannels.b) c.if-transforms-2.true)))
     (c.swap_channels.ensures.acts c.args.ticks acts represents)
+
+pub returns-else-transforms-clause-past : goal.returns-else-transforms-clause-past
+returns-else-transforms-clause-past c =
+    stays_through_shape c.what_leaves_a_mixer.ensures.command c.args.mixer.now c.args.ticks c.args.cmd.now c.shape.result c.shape.ensures
+    (ap shape_leaves_mixer c.in-SwapLayers.is ∙ ap not c.if-transforms.false)
+
+pub returns-else-transforms-2-clause-past : goal.returns-else-transforms-2-clause-past
+returns-else-transforms-2-clause-past c =
+    stays_through_shape c.what_leaves_a_mixer.ensures.command c.args.mixer.now c.args.ticks c.args.cmd.now c.shape.result c.shape.ensures
+    (ap shape_leaves_mixer c.in-SwapChannels.is ∙ ap not c.if-transforms-2.false)
+
+pub returns-in-Take-clause-past : goal.returns-in-Take-clause-past
+returns-in-Take-clause-past c =
+    let stays = stays_through_shape c.what_leaves_a_mixer.ensures.command c.args.mixer.now c.args.ticks c.args.cmd.now c.shape.result c.shape.ensures in
+    elim c.in-Take.is [
+      | inl take ↦ stays (ap shape_leaves_mixer take.2)
+      | inr (inl change) ↦ stays (ap shape_leaves_mixer change.1)
+      | inr (inr (inl clear)) ↦ stays (ap shape_leaves_mixer clear.1)
+      | inr (inr (inr ask)) ↦ stays (ap shape_leaves_mixer ask.1)
+    ]

@@ -9,7 +9,7 @@ use Rattle.play_types.specs.Scene.{IsConfigured}
 use Rattle.play_types.specs.declared.geometry.Geometry.{Geometry}
 use Rattle.band_render.specs.declared.band.Band.{Band}
 use Rattle.band_render.specs.declared.band.Group.{Group}
-use Rattle.band_render.specs.inner.Rows.{AreGroupsOfChannels, AreOfChannels, Row, byte_count, rows_from, rows_of, rows_of_bands, rows_of_groups}
+use Rattle.band_render.specs.Rows.{AreGroupsOfChannels, AreOfChannels, Row, byte_count, rows_from, rows_of, rows_of_bands, rows_of_groups}
 use Rattle.band_render.proofs.Rows.{all_parts, byte_count-append}
 
 -- one more piece of a list's elements

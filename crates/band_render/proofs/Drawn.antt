@@ -12,7 +12,7 @@ use Rattle.history_model.specs.pictures.Frame.{scene_pixel}
 use Rattle.play_scene.specs.Frames.{ArePictures, ArePixels, FrameView, IsFrame, pictures_of}
 use Rattle.band_render.specs.declared.band.Group.{Group}
 use Rattle.band_render.specs.declared.drawing.Tick.{Tick}
-use Rattle.band_render.specs.inner.Rows.{AreGroupsOfChannels, AreOfChannels, Row, byte_count, row_bytes, rows_from, rows_of_bands, rows_of_frames, rows_of_groups}
+use Rattle.band_render.specs.Rows.{AreGroupsOfChannels, AreOfChannels, Row, byte_count, row_bytes, rows_from, rows_of_bands, rows_of_frames, rows_of_groups}
 use Rattle.band_render.specs.inner.Drawing.{AreDrawn, CanDraw, HasDrawn}
 use Rattle.band_render.proofs.Pixels.{ArePixels-append, ArePixels-drop, ArePixels-take}
 use Rattle.band_render.proofs.Rows.{all_parts, byte_count-append, byte_count-rows, byte_count-whole, length-rows}

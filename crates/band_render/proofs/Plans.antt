@@ -13,7 +13,7 @@ use Rattle.play_scene.specs.Frames.{FrameView, zero_frame}
 use Rattle.band_render.specs.Rendered.{sizes}
 use Rattle.band_render.specs.declared.band.Band.{Band}
 use Rattle.band_render.specs.declared.band.Group.{Group}
-use Rattle.band_render.specs.inner.Rows.{AreGroupsOfChannels, Row, byte_count, rows_from, rows_of, rows_of_bands, rows_of_frames, rows_of_groups, size_of}
+use Rattle.band_render.specs.Rows.{AreGroupsOfChannels, Row, byte_count, rows_from, rows_of, rows_of_bands, rows_of_frames, rows_of_groups, size_of}
 use Rattle.band_render.proofs.Bands.{channels_of_groups}
 use Rattle.band_render.proofs.Rows.{channels_of_rows, frames_small, rows_from-more, rows_of_frames-more}
 

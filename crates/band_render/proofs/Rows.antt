@@ -11,7 +11,7 @@ use Rattle.history_model.specs.pictures.Frame.{scene_pixel}
 use Rattle.history_model.specs.pictures.Raster.{Pictures}
 use Rattle.play_types.specs.Scene.{IsConfigured, scene_at}
 use Rattle.play_scene.proofs.Rows.{length-pieces}
-use Rattle.band_render.specs.inner.Rows.{Row, byte_count, row_bytes, rows_from, rows_of_frames}
+use Rattle.band_render.specs.Rows.{Row, byte_count, row_bytes, rows_from, rows_of_frames}
 
 -- the bytes of rows in two parts
 pub byte_count-append : (xs ys : List Row) → byte_count (xs ++ ys) ≡ byte_count xs + byte_count ys

@@ -1,3 +1,4 @@
 pub mod Rendered
 pub mod Histories
+pub mod Rows
 pub mod inner

@@ -1,6 +1,6 @@
 //! The number of bytes that bands have.
 ghost use Rattle.std.specs.Prelude.{◌≡◌, ◌<◌, ◌^◌};
-ghost use Rattle.band_render.specs.inner.Rows.{byte_count, rows_of, rows_of_bands, rows_of_groups};
+ghost use Rattle.band_render.specs.Rows.{byte_count, rows_of, rows_of_bands, rows_of_groups};
 
 use crate::band::{Band, Group};
 

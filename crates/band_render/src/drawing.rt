@@ -3,7 +3,7 @@ ghost use Rattle.std.specs.Prelude.{◌≡◌, ◌<◌, ◌≤◌, ◌^◌, All,
 ghost use Rattle.std.specs.Thread.{IsSync};
 ghost use Rattle.play_types.specs.Scene.{IsConfigured};
 ghost use Rattle.band_render.specs.inner.Drawing.{AreDrawn, CanDraw, HasDrawn, IsTick};
-ghost use Rattle.band_render.specs.inner.Rows.{AreOfChannels, byte_count, rows_of, rows_of_bands};
+ghost use Rattle.band_render.specs.Rows.{AreOfChannels, byte_count, rows_of, rows_of_bands};
 
 use crate::band::{Band, Group};
 use crate::bytes::{bytes_of_band, bytes_of_groups};

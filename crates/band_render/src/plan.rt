@@ -1,7 +1,7 @@
 //! The bands of all channels, parted into groups.
 ghost use Rattle.std.specs.Prelude.{◌≡◌, ◌+◌, ◌*◌, ◌++◌, ◌<◌, ◌≤◌, ◌^◌, All, IfOk, OnOk, length, map, vec_len};
 ghost use Rattle.play_types.specs.Geometry.{IsSize};
-ghost use Rattle.band_render.specs.inner.Rows.{byte_count, rows_from, rows_of_bands, rows_of_frames, rows_of_groups, share, size_of};
+ghost use Rattle.band_render.specs.Rows.{byte_count, rows_from, rows_of_bands, rows_of_frames, rows_of_groups, share, size_of};
 
 use crate::band::{Band, Group};
 use crate::bytes::bytes_of_bands;

@@ -38,7 +38,7 @@ impl Model for Renderer {
     ghost use Rattle.play_types.specs.declared.geometry.TheConstants.{MAX_PAIRS};
     ghost use Rattle.play_scene.specs.Frames.{FrameView};
     ghost use Rattle.band_render.specs.Rendered.{sizes};
-    ghost use Rattle.band_render.specs.inner.Rows.{byte_count, rows_of_frames, rows_of_groups};
+    ghost use Rattle.band_render.specs.Rows.{byte_count, rows_of_frames, rows_of_groups};
 
     ghost Value = { List FrameView };
 

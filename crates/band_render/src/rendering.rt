@@ -5,7 +5,7 @@ ghost use Rattle.play_types.specs.Scene.{IsConfigured, scene_at};
 ghost use Rattle.play_scene.specs.Frames.{frame_at};
 ghost use Rattle.band_render.specs.Rendered.{AreRendered, ShowsScene, sizes};
 ghost use Rattle.band_render.specs.inner.Drawing.{AreDrawn, IsTick};
-ghost use Rattle.band_render.specs.inner.Rows.{rows_from, rows_of_frames};
+ghost use Rattle.band_render.specs.Rows.{rows_from, rows_of_frames};
 
 use crate::drawing::Tick;
 use play_scene::Frames;

@@ -10,7 +10,7 @@ use Rattle.history_model.specs.stage.Act.{Act, act_after}
 use Rattle.history_model.specs.stage.Group.{and_not_committed, at_once, is_deferred_of, with_group, without_waiting}
 use Rattle.history_model.specs.stage.Live.{layers}
 use Rattle.history_model.specs.stage.Resolved.{settled_act, waiting_settings}
-use Rattle.history_model.specs.inner.WaitingList.{listed_acts, waiting_list}
+use Rattle.history_model.specs.stage.WaitingList.{listed_acts, waiting_list}
 use Rattle.history_model.specs.stage.Timeline.{Entry, Did, Ticked, timeline_acts, timeline_ticks, timeline_value}
 use Rattle.history_model.specs.stage.Trail.{trail}
 use Rattle.history_model.specs.pictures.Media.{Setup}

@@ -17,7 +17,7 @@ use Rattle.history_model.specs.stage.Group.{and_not_committed, is_deferred_of, w
 use Rattle.history_model.specs.stage.Life.{Foreground, life, ready}
 use Rattle.history_model.specs.stage.Live.{foreground_at, layers, with_layers_of}
 use Rattle.history_model.specs.stage.Resolved.{resolved_acts, settled_act, waiting_settings}
-use Rattle.history_model.specs.inner.WaitingList.{listed_acts, resolved_act, waiting_after, waiting_list}
+use Rattle.history_model.specs.stage.WaitingList.{listed_acts, resolved_act, waiting_after, waiting_list}
 use Rattle.history_model.specs.stage.Timeline.{Entry, Did, Ticked, timeline_acts, timeline_ticks, timeline_value}
 use Rattle.history_model.specs.stage.Trail.{acts_on_content, content_origin, trail, tuning}
 use Rattle.history_model.specs.stage.Value.{tuned_value}

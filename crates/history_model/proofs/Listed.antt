@@ -10,7 +10,7 @@ use Rattle.play_types.specs.Setting.{SettingView}
 use Rattle.play_types.specs.declared.setting.Prop.{Prop}
 use Rattle.play_types.specs.declared.command.Cmd.{Cmd}
 use Rattle.play_types.specs.declared.command.Cmd.TheVariants.{CommitMixer, Set}
-use Rattle.history_model.specs.inner.WaitingList.{listed_acts, listed_value_at, resolved_act, waiting_after, waiting_list}
+use Rattle.history_model.specs.stage.WaitingList.{listed_acts, listed_value_at, resolved_act, waiting_after, waiting_list}
 use Rattle.history_model.specs.stage.Act.{Act, act_after}
 use Rattle.history_model.specs.stage.Resolved.{Commits, Deferral, Defers, Neither, deferral, deferred_on, is_commit, is_commit_of, is_no_commit, resolved_acts, resolved_in_order, resolved_with, settled_act, uncommitted, waiting_settings, with_settled}
 use Rattle.history_model.specs.stage.Trail.{tuning}

@@ -5,4 +5,3 @@ pub mod sessions
 pub mod text
 pub mod scripts
 pub mod Worked
-pub mod inner

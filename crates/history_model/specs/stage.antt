@@ -3,6 +3,7 @@ pub mod Acts
 pub mod Trail
 pub mod Touched
 pub mod Resolved
+pub mod WaitingList
 pub mod Life
 pub mod Live
 pub mod Value

@@ -6,9 +6,9 @@ use Rattle.std.proofs.lemmas.List.Elements.{All-nil}
 use Rattle.play_types.specs.Scene.{IsConfigured}
 use Rattle.play_types.specs.Setting.{SettingView}
 use Rattle.mixer_state.specs.Entries.{table_of}
-use Rattle.mixer_state.specs.inner.Found.{PlacesView}
-use Rattle.mixer_state.specs.inner.Kept.{AreOn, IsKept}
-use Rattle.mixer_state.specs.inner.Ranges.{AreRunning}
+use Rattle.mixer_state.specs.Found.{PlacesView}
+use Rattle.mixer_state.specs.Kept.{AreOn, IsKept}
+use Rattle.mixer_state.specs.Ranges.{AreRunning}
 
 -- the waiting settings of each channel, once those of one are replaced
 pub on-set : (waiting : List (List SettingView)) (at : ℕ) (settings : List SettingView) → at < length waiting → AreOn (at + 1) settings →

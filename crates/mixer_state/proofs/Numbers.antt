@@ -10,7 +10,7 @@ use Rattle.play_types.specs.declared.setting.Prop.TheVariants.{Opacity, Fill, Cl
 use Rattle.play_types.specs.declared.setting.TheConstants.{MICROS_PER_UNIT}
 use Rattle.play_types.proofs.Tweens.{IsBetween-along, along-end}
 use Rattle.history_model.specs.stage.Value.{all_along, default_of, four}
-use Rattle.mixer_state.specs.inner.Ranges.{AreNumbers}
+use Rattle.mixer_state.specs.Ranges.{AreNumbers}
 
 -- four numbers are their four numbers
 pub four_numbers : (xs : List ℤ) → length xs ≡ 4 → xs ≡ four (number_at xs 0) (number_at xs 1) (number_at xs 2) (number_at xs 3)

@@ -11,7 +11,7 @@ use Rattle.play_types.specs.declared.setting.Prop.{Prop}
 use Rattle.play_types.specs.declared.command.Cmd.{Cmd}
 use Rattle.play_types.specs.declared.command.Cmd.TheVariants.{CommitMixer, ResetChannel, ResetLayer, Set, SwapChannels, SwapLayers}
 use Rattle.history_model.specs.stage.Act.{Act, act_after}
-use Rattle.history_model.specs.inner.WaitingList.{listed_acts, listed_value_at, waiting_list}
+use Rattle.history_model.specs.stage.WaitingList.{listed_acts, listed_value_at, waiting_list}
 use Rattle.history_model.specs.stage.Resolved.{settled_act}
 use Rattle.history_model.specs.stage.Trail.{channel_swapped_place, same_place, swapped_place, tuning}
 use Rattle.history_model.specs.stage.Value.{all_along, default_of, tuned_value}
@@ -23,7 +23,7 @@ use Rattle.mixer_state.specs.Entries.{Entries, Table, course_at, course_of, cour
 use Rattle.mixer_state.specs.Mixer.{MixerView, values_of, waiting_on}
 use Rattle.mixer_state.specs.Past.{Represents, TakesCommand, leaves_mixer}
 use Rattle.mixer_state.specs.inner.Changes.{course_after, courses_after, with_entry, with_setting, with_settings, without_channel}
-use Rattle.mixer_state.specs.inner.Ranges.{AreRunning}
+use Rattle.mixer_state.specs.Ranges.{AreRunning}
 use Rattle.mixer_state.proofs.Exchanged.{configured-channel_swapped, configured-swapped, same_place-true}
 use Rattle.mixer_state.proofs.Numbers.{AreNumbers-default, all_along-once}
 use Rattle.mixer_state.proofs.Ways.{AreNumbers-course, course_of-after, course_of-standing, numbers_at-default}

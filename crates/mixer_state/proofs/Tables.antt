@@ -11,7 +11,7 @@ use Rattle.history_model.specs.stage.Trail.{channel_swapped_place}
 use Rattle.mixer_state.specs.declared.courses.Courses.{Courses}
 use Rattle.mixer_state.specs.Entries.{Entries, channel_in, layer_in, table_of}
 use Rattle.mixer_state.specs.inner.Changes.{with_entry, without_channel}
-use Rattle.mixer_state.specs.inner.Found.{HaveRoom, LayersView, entries_of, with_layer}
+use Rattle.mixer_state.specs.Found.{HaveRoom, LayersView, entries_of, with_layer}
 
 -- functions that agree at each argument are one
 pub one_function : {A B : Type 0} (f g : A → B) → ((x : A) → f x ≡ g x) → f ≡ g

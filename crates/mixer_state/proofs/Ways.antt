@@ -13,7 +13,7 @@ use Rattle.mixer_state.specs.declared.courses.Courses.{Courses}
 use Rattle.mixer_state.specs.Course.{numbers_at, set_out, standing}
 use Rattle.mixer_state.specs.Entries.{Table, all_standing, course_at, course_of, courses_or, with_course}
 use Rattle.mixer_state.specs.inner.Changes.{courses_after, with_entry, without_channel}
-use Rattle.mixer_state.specs.inner.Ranges.{AreCourses, AreNumbers, AreRunning, IsCourse}
+use Rattle.mixer_state.specs.Ranges.{AreCourses, AreNumbers, AreRunning, IsCourse}
 use Rattle.mixer_state.proofs.Exchanged.{same_prop-true}
 use Rattle.mixer_state.proofs.Numbers.{AreNumbers-all_along, AreNumbers-default, all_along-once}
 

@@ -1,4 +1,1 @@
 pub mod Changes
-pub mod Found
-pub mod Kept
-pub mod Ranges

@@ -3,7 +3,7 @@ ghost use Rattle.std.specs.Prelude.{◌≡◌, ◌<◌, ◌≤◌, All};
 ghost use Rattle.play_types.specs.Setting.{IsWide, number_at};
 ghost use Rattle.history_model.specs.stage.Value.{default_of};
 ghost use Rattle.mixer_state.specs.Course.{numbers_at, set_out, standing};
-ghost use Rattle.mixer_state.specs.inner.Ranges.{AreNumbers, IsCourse};
+ghost use Rattle.mixer_state.specs.Ranges.{AreNumbers, IsCourse};
 
 use mixer_tween::Tween;
 use play_types::{Curve, MICROS_PER_UNIT, Prop, Setting};

@@ -3,7 +3,7 @@ ghost use Rattle.std.specs.Prelude.{◌≡◌};
 ghost use Rattle.history_model.specs.stage.Answer.{number_count};
 ghost use Rattle.mixer_state.specs.Entries.{all_standing, course_of, with_course};
 ghost use Rattle.mixer_state.specs.inner.Changes.{courses_after};
-ghost use Rattle.mixer_state.specs.inner.Ranges.{AreCourses};
+ghost use Rattle.mixer_state.specs.Ranges.{AreCourses};
 
 use crate::course::Course;
 use play_types::{Prop, Setting};

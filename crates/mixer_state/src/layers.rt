@@ -2,7 +2,7 @@
 ghost use Rattle.std.specs.Prelude.{◌≡◌, [], ℕ, ◌+◌, ◌<◌, ◌≤◌, Some, None, IsOk, IsSome, OnErr, OnOk};
 ghost use Rattle.std.specs.Option.{option_copied};
 ghost use Rattle.mixer_state.specs.Entries.{layer_in};
-ghost use Rattle.mixer_state.specs.inner.Found.{with_layer};
+ghost use Rattle.mixer_state.specs.Found.{with_layer};
 
 use crate::courses::Courses;
 use indexmap::IndexMap;
@@ -17,7 +17,7 @@ pub(crate) struct Layers {
 
 impl Model for Layers {
     ghost use Rattle.indexmap.specs.IndexMap.{spare};
-    ghost use Rattle.mixer_state.specs.inner.Found.{LayersView};
+    ghost use Rattle.mixer_state.specs.Found.{LayersView};
 
     ghost Value = { LayersView };
 

@@ -40,7 +40,7 @@ impl Model for Mixer {
     ghost use Rattle.std.specs.Prelude.{length};
     ghost use Rattle.mixer_state.specs.Mixer.{MixerView};
     ghost use Rattle.mixer_state.specs.Entries.{waiting_lists};
-    ghost use Rattle.mixer_state.specs.inner.Kept.{IsKept};
+    ghost use Rattle.mixer_state.specs.Kept.{IsKept};
 
     ghost Value = { MixerView };
 

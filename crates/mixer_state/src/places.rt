@@ -6,9 +6,9 @@ ghost use Rattle.play_types.specs.Scene.{IsConfigured};
 ghost use Rattle.history_model.specs.stage.Trail.{channel_swapped_place, swapped_place};
 ghost use Rattle.mixer_state.specs.Entries.{course_at, courses_or, table_of};
 ghost use Rattle.mixer_state.specs.inner.Changes.{with_entry, with_setting, with_settings, without_channel};
-ghost use Rattle.mixer_state.specs.inner.Found.{HaveRoom, entries_of};
-ghost use Rattle.mixer_state.specs.inner.Kept.{AreOn};
-ghost use Rattle.mixer_state.specs.inner.Ranges.{AreRunning};
+ghost use Rattle.mixer_state.specs.Found.{HaveRoom, entries_of};
+ghost use Rattle.mixer_state.specs.Kept.{AreOn};
+ghost use Rattle.mixer_state.specs.Ranges.{AreRunning};
 
 use crate::course::Course;
 use crate::courses::Courses;
@@ -29,7 +29,7 @@ pub(crate) struct Places {
 
 impl Model for Places {
     ghost use Rattle.std.specs.Prelude.{length};
-    ghost use Rattle.mixer_state.specs.inner.Found.{HaveRoom, PlacesView, entries_of};
+    ghost use Rattle.mixer_state.specs.Found.{HaveRoom, PlacesView, entries_of};
 
     ghost Value = { PlacesView };
 

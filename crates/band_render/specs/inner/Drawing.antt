@@ -4,7 +4,7 @@ use Rattle.history_model.specs.pictures.Raster.{Pictures}
 use Rattle.play_scene.specs.Frames.{ArePictures, ArePixels}
 use Rattle.band_render.specs.declared.band.Group.{Group}
 use Rattle.band_render.specs.declared.drawing.Tick.{Tick}
-use Rattle.band_render.specs.inner.Rows.{AreGroupsOfChannels, Row, byte_count, row_bytes, rows_of_groups}
+use Rattle.band_render.specs.Rows.{AreGroupsOfChannels, Row, byte_count, row_bytes, rows_of_groups}
 
 -- scenes and frames of as many channels
 abbrev pub IsTick : Tick → Type 0

@@ -12,7 +12,7 @@ use Rattle.history_model.specs.stage.Life.{Life}
 use Rattle.history_model.specs.stage.Live.{state}
 use Rattle.history_model.specs.stage.Places.{Places, AreBy, ArePlaces, changed_at, live_places, standing, with_place}
 use Rattle.history_model.specs.stage.Resolved.{waiting_settings}
-use Rattle.history_model.specs.inner.WaitingList.{waiting_after}
+use Rattle.history_model.specs.stage.WaitingList.{waiting_after}
 use Rattle.history_model.specs.stage.StageState.{StageState, acts_after_all, exchanged, exchanged_channel, live_after, names_channel, placed_at, some_is_refused, is_refused_by, stage_state, standing_at, state_after, state_after_all, state_one_tick_later, waiting_count_after}
 use Rattle.history_model.proofs.Listed.{eqb_turned, waiting_settings-act}
 use Rattle.history_model.proofs.places.Lists.{ArePlaces-with_place, same_places, standing-with_place}

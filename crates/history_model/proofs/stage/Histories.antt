@@ -15,7 +15,7 @@ use Rattle.history_model.specs.stage.Acts.{acts, acts_back, is_over, is_refused,
 use Rattle.history_model.specs.stage.Live.{live_layers, state}
 use Rattle.history_model.specs.stage.Places.{AreBy, ArePlaces, Places, one_tick_later, place_at, places, standing}
 use Rattle.history_model.specs.stage.Resolved.{waiting_settings}
-use Rattle.history_model.specs.inner.WaitingList.{waiting_after}
+use Rattle.history_model.specs.stage.WaitingList.{waiting_after}
 use Rattle.history_model.specs.stage.StageHistory.{stage_after, waiting}
 use Rattle.history_model.specs.stage.StageState.{IsWithinLimits, StageState, acts_after_all, empty_stage, is_refused_by, live_after, names_channel, some_is_refused, stage_state, state_after, state_after_all, state_one_tick_later}
 use Rattle.history_model.proofs.Events.{ticks-reverse}

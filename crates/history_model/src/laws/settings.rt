@@ -2,7 +2,7 @@
 ghost use Rattle.std.specs.Prelude.{◌≡◌, ℕ, ◌∷◌, ◌++◌, List};
 ghost use Rattle.play_types.specs.Place.{PlaceView};
 ghost use Rattle.play_types.specs.declared.setting.Prop.{Prop};
-ghost use Rattle.history_model.specs.inner.WaitingList.{listed_acts, listed_value_at, resolved_act, waiting_after, waiting_list};
+ghost use Rattle.history_model.specs.stage.WaitingList.{listed_acts, listed_value_at, resolved_act, waiting_after, waiting_list};
 ghost use Rattle.history_model.specs.stage.Act.{Act};
 ghost use Rattle.history_model.specs.stage.Resolved.{resolved_acts, waiting_settings};
 ghost use Rattle.history_model.specs.stage.Value.{value_at};

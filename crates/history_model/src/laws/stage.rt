@@ -17,7 +17,7 @@ ghost use Rattle.history_model.specs.stage.Answer.{channel_foregrounds, statuses
 ghost use Rattle.history_model.specs.stage.Live.{foreground_at, state};
 ghost use Rattle.history_model.specs.stage.Places.{AreBy, ArePlaces, Places, live_places, one_tick_later, places, standing};
 ghost use Rattle.history_model.specs.stage.Resolved.{waiting_settings};
-ghost use Rattle.history_model.specs.inner.WaitingList.{waiting_after};
+ghost use Rattle.history_model.specs.stage.WaitingList.{waiting_after};
 ghost use Rattle.history_model.specs.stage.StageHistory.{foreground_of, stage_after, statuses_of, waiting};
 ghost use Rattle.history_model.specs.stage.StageState.{IsWithinLimits, StageState, acts_after_all, empty_stage, exchanged, is_refused_by, live_after, names_channel, some_is_refused, stage_state, standing_at, state_after, state_after_all, state_one_tick_later, waiting_count_after};
 ghost use Rattle.history_model.specs.stage.Trail.{channel_swapped_place, swapped_place};

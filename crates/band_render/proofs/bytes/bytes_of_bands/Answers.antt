@@ -1,5 +1,5 @@
 use Rattle.std.proofs.Common.{◌≡◌, ◌+◌, take, arith}
-use Rattle.band_render.specs.inner.Rows.{byte_count, rows_of, rows_of_bands}
+use Rattle.band_render.specs.Rows.{byte_count, rows_of, rows_of_bands}
 use Rattle.band_render.proofs.Bands.{bytes_taken, rows_taken}
 use Rattle.band_render.proofs.bytes.bytes_of_bands.Goals as goal
 

@@ -1,5 +1,5 @@
 use Rattle.std.proofs.Common.{◌≡◌, take}
-use Rattle.band_render.specs.inner.Rows.{byte_count, rows_of_bands}
+use Rattle.band_render.specs.Rows.{byte_count, rows_of_bands}
 use Rattle.band_render.proofs.bytes.bytes_of_bands.Given as goal
 
 -- the bytes of the bands before this one

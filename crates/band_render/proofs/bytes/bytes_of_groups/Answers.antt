@@ -1,7 +1,7 @@
 use Rattle.std.proofs.Common.{◌≡◌, ◌+◌, take, ap, ◌∙◌, List, arith}
 use Rattle.band_render.specs.declared.band.Band.{Band}
 use Rattle.band_render.specs.declared.band.Group.{Group}
-use Rattle.band_render.specs.inner.Rows.{byte_count, rows_of_bands, rows_of_groups}
+use Rattle.band_render.specs.Rows.{byte_count, rows_of_bands, rows_of_groups}
 use Rattle.band_render.proofs.Bands.{bytes_taken, rows_taken}
 use Rattle.band_render.proofs.bytes.bytes_of_groups.Goals as goal
 

@@ -1,5 +1,5 @@
 use Rattle.std.proofs.Common.{◌≡◌, take}
-use Rattle.band_render.specs.inner.Rows.{byte_count, rows_of_groups}
+use Rattle.band_render.specs.Rows.{byte_count, rows_of_groups}
 use Rattle.band_render.proofs.bytes.bytes_of_groups.Given as goal
 
 -- the bytes of the groups before this one

@@ -2,7 +2,7 @@ use Rattle.std.proofs.Common.{◌≡◌, ℕ, ◌+◌, ◌-◌, ◌*◌, ◌++�
 use Rattle.std.proofs.lemmas.List.{take_all}
 use Rattle.std.proofs.lemmas.Slice.{take-put_mid}
 use Rattle.band_render.specs.inner.Drawing.{AreDrawn}
-use Rattle.band_render.specs.inner.Rows.{Row, rows_from}
+use Rattle.band_render.specs.Rows.{Row, rows_from}
 use Rattle.band_render.proofs.Bands.{row_within}
 use Rattle.band_render.proofs.Drawn.{drawn_append, drawn_long, drawn_row}
 use Rattle.band_render.proofs.Rows.{byte_count-rows, rows_from-more}

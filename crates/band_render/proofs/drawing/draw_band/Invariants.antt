@@ -1,6 +1,6 @@
 use Rattle.std.proofs.Common.{◌≡◌, ◌*◌, take}
 use Rattle.band_render.specs.inner.Drawing.{AreDrawn}
-use Rattle.band_render.specs.inner.Rows.{rows_from}
+use Rattle.band_render.specs.Rows.{rows_from}
 use Rattle.band_render.proofs.drawing.draw_band.Given as goal
 
 -- the rows above this one

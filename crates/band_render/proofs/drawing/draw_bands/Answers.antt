@@ -1,7 +1,7 @@
 use Rattle.std.proofs.Common.{◌+◌, ◌-◌, ◌++◌, ◌<◌, ◌≤◌, List, length, take, sym, subst, ◌∙◌, arith}
 use Rattle.std.proofs.lemmas.Slice.{take-put_mid}
 use Rattle.band_render.specs.inner.Drawing.{AreDrawn}
-use Rattle.band_render.specs.inner.Rows.{Row, rows_of, rows_of_bands}
+use Rattle.band_render.specs.Rows.{Row, rows_of, rows_of_bands}
 use Rattle.band_render.proofs.Bands.{bytes_taken, flat_map-take, rows_taken}
 use Rattle.band_render.proofs.Drawn.{drawn_append, drawn_long}
 use Rattle.band_render.proofs.drawing.draw_bands.Goals as goal

@@ -1,6 +1,6 @@
 use Rattle.std.proofs.Common.{◌≡◌, take}
 use Rattle.band_render.specs.inner.Drawing.{AreDrawn}
-use Rattle.band_render.specs.inner.Rows.{byte_count, rows_of_bands}
+use Rattle.band_render.specs.Rows.{byte_count, rows_of_bands}
 use Rattle.band_render.proofs.drawing.draw_bands.Given as goal
 
 -- the bands before this one

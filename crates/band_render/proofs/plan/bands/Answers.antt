@@ -2,7 +2,7 @@ use Rattle.std.proofs.Common.{◌≡◌, ◌+◌, ◌++◌, ◌<◌, length, ap,
 use Rattle.std.specs.Prelude.{Some, slice_get}
 use Rattle.std.specs.Option.{option_copied}
 use Rattle.play_types.specs.declared.geometry.Geometry.{Geometry}
-use Rattle.band_render.specs.inner.Rows.{rows_from, rows_of_bands}
+use Rattle.band_render.specs.Rows.{rows_from, rows_of_bands}
 use Rattle.band_render.proofs.Plans.{channels_more, plan_small}
 use Rattle.band_render.proofs.plan.bands.Goals as goal
 

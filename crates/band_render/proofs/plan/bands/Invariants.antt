@@ -1,5 +1,5 @@
 use Rattle.std.proofs.Common.{◌≡◌, ◌*◌, ◌≤◌, map, take}
-use Rattle.band_render.specs.inner.Rows.{rows_of_bands, rows_of_frames, size_of}
+use Rattle.band_render.specs.Rows.{rows_of_bands, rows_of_frames, size_of}
 use Rattle.band_render.proofs.plan.bands.Given as goal
 
 -- the bands of the channels before this one

@@ -1,5 +1,5 @@
 use Rattle.std.proofs.Common.{◌≡◌, ◌∙◌, refl, arith}
-use Rattle.band_render.specs.inner.Rows.{rows_of_bands, share}
+use Rattle.band_render.specs.Rows.{rows_of_bands, share}
 use Rattle.band_render.proofs.Plans.{bands_more}
 use Rattle.band_render.proofs.Shares.{shares_more}
 use Rattle.band_render.proofs.plan.cut.Goals as goal

@@ -1,5 +1,5 @@
 use Rattle.std.proofs.Common.{◌≡◌, ◌+◌, ◌++◌}
-use Rattle.band_render.specs.inner.Rows.{rows_from, rows_of_bands, shares_before}
+use Rattle.band_render.specs.Rows.{rows_from, rows_of_bands, shares_before}
 use Rattle.band_render.proofs.plan.cut.Given as goal
 
 -- the rows above this band

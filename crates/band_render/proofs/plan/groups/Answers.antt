@@ -1,6 +1,6 @@
 use Rattle.std.proofs.Common.{List, ap, arith}
 use Rattle.band_render.specs.declared.band.Band.{Band}
-use Rattle.band_render.specs.inner.Rows.{byte_count, rows_of_bands}
+use Rattle.band_render.specs.Rows.{byte_count, rows_of_bands}
 use Rattle.band_render.proofs.plan.groups.Goals as goal
 
 pub bytes_of_bands-requires : goal.bytes_of_bands-requires

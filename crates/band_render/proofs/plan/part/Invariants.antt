@@ -1,5 +1,5 @@
 use Rattle.std.proofs.Common.{◌≡◌, length, take}
-use Rattle.band_render.specs.inner.Rows.{rows_of_bands, rows_of_groups, shares_before}
+use Rattle.band_render.specs.Rows.{rows_of_bands, rows_of_groups, shares_before}
 use Rattle.band_render.proofs.plan.part.Given as goal
 
 -- the groups before this one have the bands before its first one

@@ -3,7 +3,7 @@ use Rattle.play_types.specs.declared.geometry.Geometry.{Geometry}
 use Rattle.play_scene.specs.Frames.{frame_at}
 use Rattle.band_render.specs.Rendered.{sizes}
 use Rattle.band_render.specs.inner.Drawing.{AreDrawn}
-use Rattle.band_render.specs.inner.Rows.{rows_from}
+use Rattle.band_render.specs.Rows.{rows_from}
 use Rattle.std.proofs.lemmas.List.{length-map}
 use Rattle.band_render.proofs.Drawn.{next_picture}
 use Rattle.band_render.proofs.Writing.{same_many, scenes_more, size_listed, sizes_stay}

@@ -3,7 +3,7 @@ use Rattle.play_types.specs.Scene.{IsConfigured, scene_at}
 use Rattle.play_scene.specs.Frames.{frame_at}
 use Rattle.band_render.specs.Rendered.{ShowsScene, sizes}
 use Rattle.band_render.specs.inner.Drawing.{AreDrawn}
-use Rattle.band_render.specs.inner.Rows.{rows_of_frames}
+use Rattle.band_render.specs.Rows.{rows_of_frames}
 use Rattle.band_render.proofs.rendering.render_frames.Given as goal
 
 -- the channels before this one show their scenes, and the pictures of the others are left

@@ -2,7 +2,7 @@ use Rattle.std.proofs.Common.{ℕ, ◌<◌, ◌≤◌, List, get_or, set, length
 use Rattle.std.proofs.Math.Seq.{map-set_same}
 use Rattle.std.proofs.lemmas.Bool.{cases_eq}
 use Rattle.std.proofs.lemmas.List.{get_or-set_other, get_or-set_same}
-use Rattle.mixer_state.specs.inner.Found.{HaveRoom, LayersView}
+use Rattle.mixer_state.specs.Found.{HaveRoom, LayersView}
 use Rattle.mixer_state.proofs.Tables.{HaveRoom-at, HaveRoom-set, no_layers}
 use Rattle.mixer_state.proofs.places.reserve_each.Goals as goal
 

@@ -1,5 +1,5 @@
 use Rattle.std.proofs.Common.{◌≡◌, ℕ, ◌<◌, ◌≤◌, get_or, length}
-use Rattle.mixer_state.specs.inner.Found.{HaveRoom, entries_of}
+use Rattle.mixer_state.specs.Found.{HaveRoom, entries_of}
 use Rattle.mixer_state.proofs.Tables.{no_layers}
 use Rattle.mixer_state.proofs.places.reserve_each.Given as goal
 

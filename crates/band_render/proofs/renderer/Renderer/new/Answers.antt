@@ -1,7 +1,7 @@
 use Rattle.std.proofs.Common.{rules, ◌≡◌, List, length, sym, ap, ◌∙◌, arith}
 use Rattle.band_render.specs.declared.band.Group.{Group}
 use Rattle.band_render.specs.Rendered.{sizes}
-use Rattle.band_render.specs.inner.Rows.{byte_count, rows_of_frames, rows_of_groups}
+use Rattle.band_render.specs.Rows.{byte_count, rows_of_frames, rows_of_groups}
 use Rattle.band_render.proofs.Plans.{sizes_of_new}
 use Rattle.band_render.proofs.renderer.Renderer.new.Goals as goal
 

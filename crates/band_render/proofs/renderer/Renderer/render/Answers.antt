@@ -1,6 +1,6 @@
 use Rattle.std.proofs.Common.{List, length, sym, ap, ◌∙◌, subst, arith}
 use Rattle.band_render.specs.declared.band.Group.{Group}
-use Rattle.band_render.specs.inner.Rows.{AreGroupsOfChannels, byte_count, rows_of_groups}
+use Rattle.band_render.specs.Rows.{AreGroupsOfChannels, byte_count, rows_of_groups}
 use Rattle.band_render.proofs.Plans.{groups_of_frames}
 use Rattle.band_render.proofs.renderer.Renderer.render.Goals as goal
 

@@ -1,6 +1,6 @@
 use Rattle.std.proofs.Common.{rules, ◌≡◌, ℤ, List, length, sym, ap, ◌∙◌, subst, arith}
 use Rattle.play_types.specs.Setting.{SettingView}
-use Rattle.mixer_state.specs.inner.Ranges.{AreNumbers}
+use Rattle.mixer_state.specs.Ranges.{AreNumbers}
 use Rattle.mixer_state.proofs.Numbers.{AreNumbers-setting}
 use Rattle.mixer_state.proofs.Ways.{AreNumbers-course}
 use Rattle.mixer_state.proofs.course.Course.set_out.Goals as goal

@@ -1,5 +1,5 @@
 use Rattle.std.proofs.Common.{sym, subst}
-use Rattle.mixer_state.specs.inner.Ranges.{AreNumbers}
+use Rattle.mixer_state.specs.Ranges.{AreNumbers}
 use Rattle.mixer_state.proofs.Ways.{AreNumbers-course}
 use Rattle.mixer_state.proofs.course.Course.value.Goals as goal
 

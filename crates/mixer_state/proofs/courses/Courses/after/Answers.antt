@@ -1,6 +1,6 @@
 use Rattle.std.proofs.Common.{sym, subst}
 use Rattle.play_types.specs.declared.setting.Prop.{Prop}
-use Rattle.mixer_state.specs.inner.Ranges.{AreCourses, IsCourse}
+use Rattle.mixer_state.specs.Ranges.{AreCourses, IsCourse}
 use Rattle.mixer_state.proofs.Ways.{AreCourses-with}
 use Rattle.mixer_state.proofs.courses.Courses.after.Goals as goal
 

@@ -2,7 +2,7 @@ use Rattle.std.proofs.Common.{sym, ap, ◌∙◌, subst}
 use Rattle.mixer_state.specs.Entries.{table_of}
 use Rattle.mixer_state.specs.Mixer.{MixerView}
 use Rattle.mixer_state.specs.inner.Changes.{without_channel}
-use Rattle.mixer_state.specs.inner.Ranges.{AreRunning}
+use Rattle.mixer_state.specs.Ranges.{AreRunning}
 use Rattle.mixer_state.proofs.Kept.{IsKept-places}
 use Rattle.mixer_state.proofs.Pasts.{reset_channel_represents}
 use Rattle.mixer_state.proofs.Ways.{AreRunning-without}

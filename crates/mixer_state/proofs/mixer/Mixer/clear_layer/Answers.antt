@@ -3,7 +3,7 @@ use Rattle.std.specs.Prelude.{None}
 use Rattle.mixer_state.specs.Entries.{table_of}
 use Rattle.mixer_state.specs.Mixer.{MixerView}
 use Rattle.mixer_state.specs.inner.Changes.{with_entry}
-use Rattle.mixer_state.specs.inner.Ranges.{AreRunning}
+use Rattle.mixer_state.specs.Ranges.{AreRunning}
 use Rattle.mixer_state.proofs.Kept.{IsKept-places}
 use Rattle.mixer_state.proofs.Pasts.{reset_layer_represents}
 use Rattle.mixer_state.proofs.Ways.{AreRunning-with, AreCourses-standing}

@@ -5,7 +5,7 @@ use Rattle.play_types.specs.Setting.{SettingView}
 use Rattle.mixer_state.specs.Entries.{table_of, waiting_lists}
 use Rattle.mixer_state.specs.Mixer.{MixerView, waiting_on}
 use Rattle.mixer_state.specs.inner.Changes.{with_settings}
-use Rattle.mixer_state.specs.inner.Kept.{AreOn, IsKept}
+use Rattle.mixer_state.specs.Kept.{AreOn, IsKept}
 use Rattle.mixer_state.proofs.Kept.{IsKept-places, IsKept-waiting, waited-at}
 use Rattle.mixer_state.proofs.Pasts.{commit_represents, waiting-at, waiting-clear}
 use Rattle.mixer_state.proofs.mixer.Mixer.commit.Goals as goal

@@ -4,8 +4,8 @@ use Rattle.std.proofs.lemmas.List.{get_or-replicate, length-replicate}
 use Rattle.play_types.specs.Setting.{SettingView}
 use Rattle.mixer_state.specs.declared.courses.Courses.{Courses}
 use Rattle.mixer_state.specs.Entries.{course_of, courses_or, deferred_setting}
-use Rattle.mixer_state.specs.inner.Kept.{AreOn}
-use Rattle.mixer_state.specs.inner.Ranges.{IsCourse}
+use Rattle.mixer_state.specs.Kept.{AreOn}
+use Rattle.mixer_state.specs.Ranges.{IsCourse}
 use Rattle.mixer_state.proofs.Kept.{AreOn-none}
 use Rattle.mixer_state.proofs.Ways.{AreCourses-standing}
 use Rattle.mixer_state.proofs.Pasts.{represents_none, waiting-at}

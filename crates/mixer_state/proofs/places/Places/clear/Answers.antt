@@ -2,7 +2,7 @@ use Rattle.std.proofs.Common.{sym, ap, ◌∙◌, subst}
 use Rattle.play_types.specs.Scene.{IsConfigured}
 use Rattle.mixer_state.specs.Entries.{table_of}
 use Rattle.mixer_state.specs.inner.Changes.{without_channel}
-use Rattle.mixer_state.specs.inner.Found.{PlacesView}
+use Rattle.mixer_state.specs.Found.{PlacesView}
 use Rattle.mixer_state.proofs.Tables.{table-cleared}
 use Rattle.mixer_state.proofs.places.Places.clear.Goals as goal
 

@@ -1,7 +1,7 @@
 use Rattle.std.proofs.Common.{◌≡◌, ◌≤◌, [], vec_len}
 use Rattle.std.specs.Prelude.{All}
 use Rattle.std.specs.Vec.{vec_capacity}
-use Rattle.mixer_state.specs.inner.Found.{LayersView}
+use Rattle.mixer_state.specs.Found.{LayersView}
 use Rattle.mixer_state.proofs.places.Places.new.Given as goal
 
 -- the channels so far have no entries, and there is room for the others

@@ -3,7 +3,7 @@ use Rattle.std.specs.Prelude.{None}
 use Rattle.play_types.specs.Scene.{IsConfigured}
 use Rattle.mixer_state.specs.Entries.{table_of}
 use Rattle.mixer_state.specs.inner.Changes.{with_entry}
-use Rattle.mixer_state.specs.inner.Found.{PlacesView}
+use Rattle.mixer_state.specs.Found.{PlacesView}
 use Rattle.mixer_state.proofs.Tables.{table-changed}
 use Rattle.mixer_state.proofs.places.Places.remove.Goals as goal
 

@@ -1,7 +1,7 @@
 use Rattle.std.proofs.Common.{◌≡◌, List, ◌∙◌, sym, subst}
 use Rattle.std.specs.Vec.{with_items}
 use Rattle.std.proofs.lemmas.List.{with_items_is}
-use Rattle.mixer_state.specs.inner.Found.{HaveRoom, LayersView}
+use Rattle.mixer_state.specs.Found.{HaveRoom, LayersView}
 use Rattle.mixer_state.proofs.places.Places.reserve.Goals as goal
 
 -- after a fault each channel has the room that it had

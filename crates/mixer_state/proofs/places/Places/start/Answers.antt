@@ -1,7 +1,7 @@
 use Rattle.std.proofs.Common.{sym, subst}
 use Rattle.std.specs.Prelude.{Some}
 use Rattle.mixer_state.specs.Entries.{Entries, table_of}
-use Rattle.mixer_state.specs.inner.Ranges.{AreRunning}
+use Rattle.mixer_state.specs.Ranges.{AreRunning}
 use Rattle.mixer_state.proofs.Ways.{AreRunning-with}
 use Rattle.mixer_state.proofs.places.Places.start.Goals as goal
 

@@ -1,7 +1,7 @@
 use Rattle.std.proofs.Common.{◌≡◌, ◌+◌, ◌≤◌, length, take}
 use Rattle.mixer_state.specs.Entries.{table_of}
 use Rattle.mixer_state.specs.inner.Changes.{with_settings}
-use Rattle.mixer_state.specs.inner.Ranges.{AreRunning}
+use Rattle.mixer_state.specs.Ranges.{AreRunning}
 use Rattle.mixer_state.proofs.places.Places.start_all.Given as goal
 
 -- the settings so far are started, and there is room for the others

@@ -2,7 +2,7 @@ use Rattle.std.proofs.Common.{◌-◌, ℕ, List, get_or, set, sym, ap, ap₂, �
 use Rattle.play_types.specs.Scene.{IsConfigured}
 use Rattle.history_model.specs.stage.Trail.{channel_swapped_place}
 use Rattle.mixer_state.specs.Entries.{table_of}
-use Rattle.mixer_state.specs.inner.Found.{LayersView, PlacesView}
+use Rattle.mixer_state.specs.Found.{LayersView, PlacesView}
 use Rattle.mixer_state.proofs.Tables.{no_layers, table-swap}
 use Rattle.mixer_state.proofs.places.Places.swap_channels.Goals as goal
 

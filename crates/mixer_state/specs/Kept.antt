@@ -2,8 +2,8 @@
 use Rattle.std.specs.Prelude.{◌≡◌, ℕ, ◌+◌, List, [], length, All, slice_index_or}
 use Rattle.play_types.specs.Setting.{SettingView}
 use Rattle.mixer_state.specs.Entries.{table_of}
-use Rattle.mixer_state.specs.inner.Found.{PlacesView}
-use Rattle.mixer_state.specs.inner.Ranges.{AreRunning}
+use Rattle.mixer_state.specs.Found.{PlacesView}
+use Rattle.mixer_state.specs.Ranges.{AreRunning}
 
 -- each setting is for a place of this channel
 abbrev pub AreOn : ℕ → List SettingView → Type 0

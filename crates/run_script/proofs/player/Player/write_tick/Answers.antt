@@ -1,4 +1,4 @@
-use Rattle.std.proofs.Common.{◌≡◌, ◌+◌, refl, ap, subst, rules}
+use Rattle.std.proofs.Common.{◌≡◌, ◌+◌, refl, ap, subst}
 use Rattle.play_types.specs.History.{ticks}
 use Rattle.stage_core.specs.Stage.{StageView}
 use Rattle.run_script.specs.inner.Player.{WritesText, events_in}
@@ -9,11 +9,11 @@ use Rattle.run_script.proofs.player.Player.write_tick.Goals as goal
 pub unwrap-tick-requires : goal.unwrap-tick-requires
 unwrap-tick-requires g c = tick_taken c.args.self.now.stage c.tick.result c.tick.ensures.fault c.requires.ready.running c.requires.time
 
-pub render-requires : goal.render-requires
-render-requires g c =
+pub render-requires-after_bounds : goal.render-requires-after_bounds
+render-requires-after_bounds g c κs within =
     let made = from_ok c.tick.result c.unwrap-tick.result c.unwrap-tick.ensures c.tick.ensures.journal in
     let shown = from_ok c.tick.result c.unwrap-tick.result c.unwrap-tick.ensures c.tick.ensures.scenes in
-    (search rules, as_many c.args.self.now c.tick.new.self c.tick.new.scenes c.args.self.now.renderer c.requires.ready made shown)
+    as_many c.args.self.now c.tick.new.self c.tick.new.scenes c.args.self.now.renderer c.requires.ready made shown
 
 pub write_frames-requires : goal.write_frames-requires
 write_frames-requires g c =

@@ -1,23 +1,24 @@
 -- Drawn rows in parts.
-use Rattle.std.proofs.Common.{◌≡◌, ℕ, ◌+◌, ◌*◌, ◌≤◌, List, ◌∷◌, ◌++◌, length, take, drop, flat_map, sym, ap, ap₂, ◌∙◌, take_at, drop_at, append-nil, length-append, length-drop, drop-drop, get_or, subst, ◌<◌, suc, arith}
+use Rattle.std.proofs.Common.{◌≡◌, ℕ, ◌+◌, ◌≤◌, List, [], ◌∷◌, ◌++◌, length, take, drop, flat_map, sym, ap, ap₂, ◌∙◌, take_at, drop_at, append-nil, length-append, get_or, subst, ◌<◌, zero, suc, refl, arith}
 use Rattle.std.proofs.lemmas.Grind.{flat_map-append}
 use Rattle.history_model.specs.pictures.Raster.{Pictures}
 use Rattle.std.specs.List.{range_with_len}
-use Rattle.std.proofs.Math.Seq.{drop-cons}
 use Rattle.play_types.specs.Scene.{scene_at}
 use Rattle.play_types.specs.declared.drawn.Drawn.{Drawn}
 use Rattle.play_types.specs.declared.geometry.Geometry.{Geometry}
 use Rattle.pixel_math.specs.Pixel.{pixel_bytes}
 use Rattle.history_model.specs.pictures.Frame.{scene_pixel}
-use Rattle.play_scene.specs.Frames.{ArePictures, ArePixels, FrameView, IsFrame, pictures_of}
+use Rattle.play_scene.specs.Frames.{ArePictures, ArePixels, FrameView, no_frame, picture_length, pictures_length, pictures_of, with_pixels}
+use Rattle.play_scene.proofs.Pixels.{ArePixels-append, ArePixels-drop, ArePixels-take}
+use Rattle.play_sound.specs.Sounds.{sounds_of}
+use Rattle.band_render.specs.Rendered.{ShowsScene, sizes}
 use Rattle.band_render.specs.declared.band.Group.{Group}
 use Rattle.band_render.specs.declared.drawing.Tick.{Tick}
 use Rattle.band_render.specs.Rows.{AreGroupsOfChannels, AreOfChannels, Row, byte_count, row_bytes, rows_from, rows_of_bands, rows_of_frames, rows_of_groups}
-use Rattle.band_render.specs.inner.Drawing.{AreDrawn, CanDraw, HasDrawn}
-use Rattle.band_render.proofs.Pixels.{ArePixels-append, ArePixels-drop, ArePixels-take}
-use Rattle.band_render.proofs.Rows.{all_parts, byte_count-append, byte_count-rows, byte_count-whole, length-rows}
+use Rattle.band_render.specs.inner.Drawing.{AreDrawn, CanDraw, HasDrawn, HasSoundOf, ShowsRows}
+use Rattle.band_render.proofs.Rows.{all_parts, byte_count-append, byte_count-rows, byte_count-whole, bytes_of_rows, length-rows}
 use Rattle.band_render.proofs.Bands.{bytes_of_parts}
-use Rattle.band_render.proofs.Writing.{pictures_there}
+use Rattle.band_render.proofs.Writing.{pictures_there, sounds_there}
 
 -- rows and others after them
 pub drawn_append : (tick : Tick) (rows more : List Row) (bytes others : List ℕ) → AreDrawn tick rows bytes → AreDrawn tick more others →
@@ -97,35 +98,52 @@ has_drawn_both tick groups first last first_now last_now bytes more is one other
       groups = ap₂ (λ (xs ys : List Group). xs ++ ys) one.groups other.groups ∙ is;
     }
 
--- the picture of a channel is as many bytes as its frame has
-pub picture_long : (tick : Tick) (channel : ℕ) (frame : FrameView) (picture : List ℕ) → IsFrame frame →
-    AreDrawn tick (rows_from channel frame.size 0 frame.size.height) picture → length picture ≡ length frame.bytes
-picture_long tick channel frame picture is drawn =
-    drawn_long tick (rows_from channel frame.size 0 frame.size.height) picture drawn
-    ∙ byte_count-rows channel frame.size 0 frame.size.height
-    ∙ sym is.bytes
+-- the pictures of all frames are as many bytes as their rows
+pub pictures_long : (first : ℕ) (frames : List FrameView) → pictures_length frames ≡ byte_count (rows_of_frames first (sizes frames))
+pictures_long first [] = refl
+pictures_long first (frame ∷ frames) =
+    let here = rows_from first frame.size 0 frame.size.height in
+    let more = rows_of_frames (first + 1) (sizes frames) in
+    omega (arith, byte_count-rows first frame.size 0 frame.size.height, pictures_long (first + 1) frames, byte_count-append here more)
 
--- the pictures of the frames from a channel on: the first of them, and the others
-pub next_picture : (tick : Tick) (at start n : ℕ) (sizes : List Geometry) (size : Geometry) (pixels : List ℕ) → at < length sizes → size ≡ get_or sizes at size →
-    n ≡ 4 * size.width * size.height → start ≤ length pixels → AreDrawn tick (rows_of_frames (at + 1) (drop at sizes)) (drop start pixels) →
-    (start + n ≤ length pixels)
-    × AreDrawn tick (rows_from (at + 1) size 0 size.height) (take n (drop start pixels))
-    × AreDrawn tick (rows_of_frames (at + 1 + 1) (drop (at + 1) sizes)) (drop (start + n) pixels)
-next_picture tick at start n sizes size pixels lt is counted within drawn =
-    let one : suc at ≡ at + 1 = omega arith in
-    let here = rows_from (at + 1) size 0 size.height in
-    let more = rows_of_frames (at + 1 + 1) (drop (at + 1) sizes) in
-    let parts : drop at sizes ≡ size ∷ drop (at + 1) sizes =
-    drop-cons sizes at size lt ∙ ap₂ (λ (s : Geometry) (k : ℕ). s ∷ drop k sizes) (sym is) one in
-    let whole : AreDrawn tick (here ++ more) (drop start pixels) =
-    subst (λ (l : List Geometry). AreDrawn tick (rows_of_frames (at + 1) l) (drop start pixels)) parts drawn in
-    let long = drawn_long tick (here ++ more) (drop start pixels) whole in
-    let sum = byte_count-append here more in
-    let first = byte_count-rows (at + 1) size 0 size.height in
-    let left = length-drop start pixels in
-    let exact : n ≡ byte_count here = counted ∙ sym first in
-    let fits : n ≤ length (drop start pixels) = omega (arith, long, sum, exact) in (
-      omega (arith, fits, left, within),
-      drawn_take tick here more (drop start pixels) n whole exact fits,
-      subst (AreDrawn tick more) (drop-drop n start pixels) (drawn_drop tick here more (drop start pixels) n whole exact fits),
-    )
+-- other pixels leave the sizes of the frames
+pub sizes_with_pixels : (frames : List FrameView) (pixels : List ℕ) → sizes (with_pixels pixels frames) ≡ sizes frames
+sizes_with_pixels [] pixels = refl
+sizes_with_pixels (frame ∷ frames) pixels =
+    ap (λ (list : List Geometry). frame.size ∷ list) (sizes_with_pixels frames (drop (picture_length frame.size) pixels))
+
+-- frames with the pixels of all their rows have each its own picture
+pub picture_there : (tick : Tick) (first : ℕ) (frames : List FrameView) (pixels : List ℕ) (k channel : ℕ) → k < length frames → first + k ≡ channel →
+    AreDrawn tick (rows_of_frames first (sizes frames)) pixels → ShowsRows tick channel (get_or (with_pixels pixels frames) k no_frame)
+picture_there tick first [] pixels k channel lt is drawn = absurd (omega (arith, lt))
+picture_there tick first (frame ∷ frames) pixels zero channel lt is drawn =
+    let here = rows_from first frame.size 0 frame.size.height in
+    let more = rows_of_frames (first + 1) (sizes frames) in
+    let n = picture_length frame.size in
+    let exact : n ≡ byte_count here = sym (byte_count-rows first frame.size 0 frame.size.height) in
+    let fits : n ≤ length pixels = omega (arith, drawn_long tick (here ++ more) pixels drawn, byte_count-append here more, exact) in
+    let same : first ≡ channel = omega (arith, is) in
+    subst (λ (c : ℕ). AreDrawn tick (rows_from c frame.size 0 frame.size.height) (take n pixels)) same
+    (drawn_take tick here more pixels n drawn exact fits)
+picture_there tick first (frame ∷ frames) pixels (suc k) channel lt is drawn =
+    let here = rows_from first frame.size 0 frame.size.height in
+    let more = rows_of_frames (first + 1) (sizes frames) in
+    let n = picture_length frame.size in
+    let exact : n ≡ byte_count here = sym (byte_count-rows first frame.size 0 frame.size.height) in
+    let fits : n ≤ length pixels = omega (arith, drawn_long tick (here ++ more) pixels drawn, byte_count-append here more, exact) in
+    picture_there tick (first + 1) frames (drop n pixels) k channel (omega (arith, lt)) (omega (arith, is))
+    (drawn_drop tick here more pixels n drawn exact fits)
+
+-- a frame with the picture and the sound of its channel shows the scene
+pub scene_shown : (tick : Tick) (channel : ℕ) (frame : FrameView) → ShowsRows tick channel frame → HasSoundOf tick channel frame →
+    ShowsScene tick.prev.now tick.media.now (scene_at channel tick.scenes.now) frame
+scene_shown tick channel frame drawn heard =
+    let prev = tick.prev.now in
+    let entries = tick.media.now in
+    record {
+      picture = λ pictures are. record {
+        whole = (heard (sounds_of prev entries) (sounds_there prev entries)).whole;
+        bytes = drawn.picture pictures are ∙ bytes_of_rows pictures tick.scenes.now channel frame.size 0 frame.size.height;
+      };
+      sound = heard;
+    }

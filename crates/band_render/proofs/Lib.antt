@@ -1,5 +1,4 @@
 pub mod Writing
-pub mod Pixels
 pub mod Rows
 pub mod Bands
 pub mod Shares

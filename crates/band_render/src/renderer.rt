@@ -27,7 +27,8 @@ pub struct Renderer {
     next: Frames,
     // The bands of all channels, parted among the threads.
     groups: Vec<Group>,
-    // The pixels of all channels, one channel after another.
+    // The pixels of all channels, one channel after another: the threads write them, and then they are exchanged for those of
+    // `next`.
     pixels: Vec<u8>,
     // Room for the largest sound.
     sound: Vec<u8>,
@@ -94,7 +95,7 @@ impl Renderer {
             media,
         };
         draw_all(rt, gate, &tick, &mut self.groups, &mut self.pixels);
-        render_frames(&tick, &self.pixels, &mut self.next, &mut self.sound);
+        render_frames(&tick, &mut self.pixels, &mut self.next, &mut self.sound);
         mem::swap(&mut self.shown, &mut self.next);
     }
 

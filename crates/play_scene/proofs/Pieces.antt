@@ -4,7 +4,7 @@ use Rattle.std.proofs.lemmas.Bool.{cases_lt}
 use Rattle.std.specs.Vec.{with_items}
 use Rattle.std.proofs.lemmas.List.{with_items_is, get_or_append_left, get_or-append_right, get_or-take, get_or-drop, get_or_past, drop_all}
 use Rattle.pixel_math.specs.Pixel.{PixelView, IsPixel, pixel_bytes}
-use Rattle.clip_format.specs.Lowering.{IsLoweredAt}
+use Rattle.play_scene.proofs.Pixels.{lowered_alike}
 use Rattle.play_scene.specs.Frames.{AreLowered, ArePixels, FrameView, IsFrame, with_piece}
 
 -- the piece has its own bytes, and the others stay
@@ -35,46 +35,23 @@ after_piece at piece bytes k fits le =
     ∙ get_or-drop (at + length piece) bytes (k - at - length piece) 0
     ∙ ap (slice_index bytes) same
 
--- four equal bytes are lowered together
-lowered_alike : (xs ys : List ℕ) (i j : ℕ) → slice_index ys j ≡ slice_index xs i → slice_index ys (j + 1) ≡ slice_index xs (i + 1)
-    → slice_index ys (j + 2) ≡ slice_index xs (i + 2) → slice_index ys (j + 3) ≡ slice_index xs (i + 3) → IsLoweredAt xs i → IsLoweredAt ys j
-lowered_alike xs ys i j blue green red alpha h = record {
-  blue = omega (arith, blue, alpha, h.blue);
-  green = omega (arith, green, alpha, h.green);
-  red = omega (arith, red, alpha, h.red);
-}
-
 -- pixels that are put at the place of a pixel leave all pixels lowered
 pub AreLowered-with_piece : (at : ℕ) (piece bytes : List ℕ) → at % 4 ≡ 0 → at + length piece ≤ length bytes → ArePixels piece → AreLowered bytes →
     AreLowered (with_piece at piece bytes)
 AreLowered-with_piece at piece bytes place fits pixels lowered pixel =
     let whole = pixels.whole in
     let k = 4 * pixel in
+    let now = with_piece at piece bytes in
     let before = λ (lt : k < at).
-    lowered_alike bytes (with_piece at piece bytes) k k
-    (before_piece at piece bytes k fits (omega (arith, lt, place)))
-    (before_piece at piece bytes (k + 1) fits (omega (arith, lt, place)))
-    (before_piece at piece bytes (k + 2) fits (omega (arith, lt, place)))
-    (before_piece at piece bytes (k + 3) fits (omega (arith, lt, place)))
-    (lowered pixel) in
+    lowered_alike bytes now k k (λ j small. before_piece at piece bytes (k + j) fits (omega (arith, lt, place, small))) (lowered pixel) in
     let after = λ (le : at + length piece ≤ k).
-    lowered_alike bytes (with_piece at piece bytes) k k
-    (after_piece at piece bytes k fits (omega (arith, le)))
-    (after_piece at piece bytes (k + 1) fits (omega (arith, le)))
-    (after_piece at piece bytes (k + 2) fits (omega (arith, le)))
-    (after_piece at piece bytes (k + 3) fits (omega (arith, le)))
-    (lowered pixel) in
+    lowered_alike bytes now k k (λ j small. after_piece at piece bytes (k + j) fits (omega (arith, le))) (lowered pixel) in
     let inside = λ (le : at ≤ k) (lt : k < at + length piece).
     let start : 4 * (pixel - at / 4) ≡ k - at = omega (arith, le, place) in
-    let moved = λ (j : ℕ) (small : j < 4).
-    (let same : k + j - at ≡ 4 * (pixel - at / 4) + j = omega (arith, start, le) in
-    in_piece at piece bytes (k + j) fits (omega (arith, le)) (omega (arith, lt, whole, place, small))
-    ∙ ap (slice_index piece) same) in
-    let first : k + 0 ≡ k = omega arith in
-    let first_there : 4 * (pixel - at / 4) + 0 ≡ 4 * (pixel - at / 4) = omega arith in
-    lowered_alike piece (with_piece at piece bytes) (4 * (pixel - at / 4)) k
-    (ap (slice_index (with_piece at piece bytes)) (sym first) ∙ moved 0 (omega arith) ∙ ap (slice_index piece) first_there)
-    (moved 1 (omega arith)) (moved 2 (omega arith)) (moved 3 (omega arith))
+    lowered_alike piece now (4 * (pixel - at / 4)) k
+    (λ j small.
+    let same : k + j - at ≡ 4 * (pixel - at / 4) + j = omega (arith, start, le) in
+    in_piece at piece bytes (k + j) fits (omega (arith, le)) (omega (arith, lt, whole, place, small)) ∙ ap (slice_index piece) same)
     (pixels.lowered (pixel - at / 4)) in
     ⊎_elim before (λ (le : at ≤ k). ⊎_elim (inside le) after (cases_lt k (at + length piece))) (cases_lt k at)
 

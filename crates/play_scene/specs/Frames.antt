@@ -1,5 +1,5 @@
 -- The frames of all channels, and the pictures that the frames of one tick give to the next.
-use Rattle.std.specs.Prelude.{◌≡◌, ℕ, ◌+◌, ◌-◌, ◌*◌, ◌%◌, ◌<◌, List, [], ◌++◌, length, map, take, drop, replicate, slice_index_or, slice_set}
+use Rattle.std.specs.Prelude.{◌≡◌, ℕ, ◌+◌, ◌-◌, ◌*◌, ◌%◌, ◌<◌, List, [], ◌∷◌, ◌++◌, length, flat_map, map, take, drop, replicate, slice_index_or, slice_set}
 use Rattle.play_types.specs.Geometry.{IsSize}
 use Rattle.play_types.specs.Config.{ChannelView}
 use Rattle.play_types.specs.Scene.{IsConfigured}
@@ -61,6 +61,24 @@ with_bytes channel bytes frames = slice_set frames (channel - 1) (record (frame_
 -- the frames of which one channel has this sound
 abbrev pub with_sound : ℕ → List ℕ → List FrameView → List FrameView
 with_sound channel sound frames = slice_set frames (channel - 1) (record (frame_at channel frames) { sound = sound })
+
+-- the number of bytes of a picture of this size, and of the pictures of all frames
+abbrev pub picture_length : Geometry → ℕ
+picture_length size = 4 * size.width * size.height
+
+abbrev pub pictures_length : List FrameView → ℕ
+pictures_length [] = 0
+pictures_length (frame ∷ frames) = picture_length frame.size + pictures_length frames
+
+-- the bytes of the pixels of all frames, one frame after another
+abbrev pub pixels_of : List FrameView → List ℕ
+pixels_of frames = flat_map (λ frame. frame.bytes) frames
+
+-- the frames with these bytes as their pixels, one frame after another
+abbrev pub with_pixels : List ℕ → List FrameView → List FrameView
+with_pixels pixels [] = []
+with_pixels pixels (frame ∷ frames) =
+    record frame { bytes = take (picture_length frame.size) pixels } ∷ with_pixels (drop (picture_length frame.size) pixels) frames
 
 -- the frames of which one channel shows this pixel at each column and row
 abbrev pub with_picture : ℕ → (ℕ → ℕ → PixelView) → List FrameView → List FrameView

@@ -66,7 +66,11 @@ layer_of still = record {
 abbrev pub frame_before : FrameView
 frame_before = record { size = strip 2; bytes = reds (50 ∷ 60 ∷ []); sound = [] }
 
--- the clips and that frame
+-- a frame of one column
+abbrev pub frame_beside : FrameView
+frame_beside = record { size = strip 1; bytes = reds (70 ∷ []); sound = [] }
+
+-- the clips and the frame of channel 1
 abbrev pub pictures : Pictures
 pictures = record {
   setup = record { channels = strip 2 ∷ []; clips = media };

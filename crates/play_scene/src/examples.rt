@@ -3,8 +3,8 @@
 ghost use Rattle.std.specs.Prelude.{◌≡◌, ◌∷◌, [], true};
 ghost use Rattle.play_types.specs.declared.take.Spec.TheVariants.{Clip, Colour, RouteChannel};
 ghost use Rattle.play_types.specs.declared.drawn.Still.TheVariants as still;
-ghost use Rattle.play_scene.specs.Frames.{with_piece};
-ghost use Rattle.play_scene.specs.Worked.{bars, bytes_of, played, reds_of, row_of, steps};
+ghost use Rattle.play_scene.specs.Frames.{pixels_of, with_piece, with_pixels};
+ghost use Rattle.play_scene.specs.Worked.{bars, bytes_of, frame_before, frame_beside, played, reds, reds_of, row_of, steps};
 
 pub mod scenes;
 
@@ -63,4 +63,11 @@ pub fn frame_of_a_channel()
 /// A piece replaces the bytes if it is put.
 pub fn piece_of_bytes()
     ensures { with_piece 2 (7 ∷ 8 ∷ []) (0 ∷ 1 ∷ 2 ∷ 3 ∷ 4 ∷ []) ≡ 0 ∷ 1 ∷ 7 ∷ 8 ∷ 4 ∷ [] }
+{}
+
+/// Frames of two columns and of one get the pixels of both, one after another.
+pub fn pixels_of_frames()
+    ensures parted { with_pixels (reds (1 ∷ 2 ∷ 3 ∷ [])) (frame_before ∷ frame_beside ∷ [])
+        ≡ record frame_before { bytes = reds (1 ∷ 2 ∷ []) } ∷ record frame_beside { bytes = reds (3 ∷ []) } ∷ [] }
+    ensures joined { pixels_of (frame_before ∷ frame_beside ∷ []) ≡ reds (50 ∷ 60 ∷ 70 ∷ []) }
 {}

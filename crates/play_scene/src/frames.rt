@@ -1,79 +1,34 @@
 //! The frames of all channels.
-ghost use Rattle.std.specs.Prelude.{◌≡◌, ◌+◌, ◌*◌, ◌%◌, ◌≤◌, length, map, replicate, IfOk};
-ghost use Rattle.play_types.specs.Config.{IsChannel};
+ghost use Rattle.std.specs.Prelude.{◌≡◌, ◌+◌, ◌%◌, ◌≤◌, length, map, IfOk};
 ghost use Rattle.play_types.specs.Scene.{IsConfigured};
-ghost use Rattle.play_scene.specs.Frames.{ArePixels, IsFrame, frame_at, with_bytes, with_piece, with_sound, zero_frame};
+ghost use Rattle.play_scene.specs.Frames.{ArePixels, IsFrame, frame_at, pictures_length, pixels_of, with_bytes, with_piece, with_pixels, with_sound, zero_frame};
 
-use play_types::{Channel, Config, Geometry};
+use crate::part::Part;
+use play_types::{Config, Geometry};
 use std::alloc::{AllocError, Global};
 use std::marker::Model;
-
-/// The frame of a channel: its size, the bytes of its pixels and those of its sound.
-#[derive(Drop)]
-struct Frame {
-    size: Geometry,
-    bytes: Vec<u8>,
-    sound: Vec<u8>,
-}
-
-impl Model for Frame {
-    ghost use Rattle.play_scene.specs.Frames.{FrameView, IsFrame};
-
-    ghost Value = { FrameView };
-
-    ghost view = { λ f. record { size = f.size; bytes = f.bytes.items; sound = f.sound.items } };
-
-    ghost invariant = { λ f. IsFrame (record { size = f.size; bytes = f.bytes.items; sound = f.sound.items }) };
-}
-
-impl Frame {
-    /// Returns the transparent and silent frame of a channel.
-    fn new(alloc: Global, channel: &Channel) -> Result<Frame, AllocError>
-        ensures { IfOk result (λ frame. frame ≡ zero_frame channel.now) }
-    {
-        let size = channel.geometry();
-        let pixels = usize::from(size.width) * usize::from(size.height);
-        Ok(Frame {
-            size,
-            bytes: vec![in alloc; 0; 4 * pixels]?,
-            sound: vec![in alloc; 0; 4 * usize::from(size.pairs)]?,
-        })
-    }
-
-    /// Writes pixels in place of those from byte `at` on.
-    fn put(&mut self, at: usize, bytes: &[u8])
-        requires place { at % 4 ≡ 0 }
-        requires fits { at + length bytes.now ≤ length self.old.bytes }
-        requires pixels { ArePixels bytes.now }
-        ensures { self.new ≡ record self.old { bytes = with_piece at bytes.now self.old.bytes } }
-    {
-        self.bytes[at..at + bytes.len()].copy_from_slice(bytes);
-    }
-
-    /// Writes the whole sound.
-    fn put_sound(&mut self, bytes: &[u8])
-        requires fits { length bytes.now ≡ length self.old.sound }
-        ensures { self.new ≡ record self.old { sound = bytes.now } }
-    {
-        self.sound.copy_from_slice(bytes);
-    }
-}
+use std::mem;
 
 /// A frame for each channel of a configuration: the bytes of its pixels, in rows from the top, each from the left, blue,
 /// green, red and alpha of each pixel, and the bytes of its sound. No pixel has a colour byte above its alpha. Only
 /// [`Frames::new`] takes memory.
 #[derive(Drop)]
 pub struct Frames {
-    frames: Vec<Frame>,
+    parts: Vec<Part>,
+    // The bytes of the pixels of all channels, one channel after another.
+    pixels: Vec<u8>,
 }
 
 impl Model for Frames {
     ghost use Rattle.std.specs.Prelude.{List};
     ghost use Rattle.play_scene.specs.Frames.{FrameView};
+    ghost use Rattle.play_scene.specs.Parts.{ArePartsOf, frames_of};
 
     ghost Value = { List FrameView };
 
-    ghost view = { λ f. f.frames.items };
+    ghost view = { λ f. frames_of f.parts.items f.pixels.items };
+
+    ghost invariant = { λ f. ArePartsOf f.pixels.items f.parts.items };
 }
 
 impl Frames {
@@ -82,11 +37,17 @@ impl Frames {
         ensures { IfOk result (λ frames. frames ≡ map zero_frame config.now.channels) }
     {
         let channels = config.channels();
-        let mut frames = Vec::with_capacity(alloc, channels.len())?;
+        let mut parts = Vec::with_capacity(alloc, channels.len())?;
+        let mut count = 0;
         for channel in channels.iter() {
-            frames.push(Frame::new(alloc, channel)?)?;
+            let part = Part::new(alloc, channel, count)?;
+            count += part.picture_length();
+            parts.push(part)?;
         }
-        Ok(Frames { frames })
+        Ok(Frames {
+            parts,
+            pixels: vec![in alloc; 0; count]?,
+        })
     }
 
     /// Returns the size of the frame of a channel, which is configured.
@@ -95,7 +56,7 @@ impl Frames {
         ensures value { result ≡ (frame_at channel self.now).size }
         ensures range { IsFrame (frame_at channel self.now) }
     {
-        self.frames[usize::from(channel) - 1].size
+        self.parts[usize::from(channel) - 1].size
     }
 
     /// Returns the bytes of the pixels of a channel, which is configured.
@@ -104,7 +65,8 @@ impl Frames {
         ensures value { result.now ≡ (frame_at channel self.now).bytes }
         ensures range { IsFrame (frame_at channel self.now) }
     {
-        &self.frames[usize::from(channel) - 1].bytes
+        let part = &self.parts[usize::from(channel) - 1];
+        &self.pixels[part.start..part.start + part.picture_length()]
     }
 
     /// Returns the bytes of the sound of a channel, which is configured: its stereo pairs, left and right, each an `i16` in
@@ -114,7 +76,7 @@ impl Frames {
         ensures value { result.now ≡ (frame_at channel self.now).sound }
         ensures range { IsFrame (frame_at channel self.now) }
     {
-        &self.frames[usize::from(channel) - 1].sound
+        &self.parts[usize::from(channel) - 1].sound
     }
 
     /// Writes pixels of a channel in place of those from byte `at` on. The channel is configured, `at` is the place of a
@@ -126,7 +88,8 @@ impl Frames {
         requires pixels { ArePixels bytes.now }
         ensures { self.new ≡ with_bytes channel (with_piece at bytes.now (frame_at channel self.old).bytes) self.old }
     {
-        self.frames[usize::from(channel) - 1].put(at, bytes);
+        let start = self.parts[usize::from(channel) - 1].start + at;
+        self.pixels[start..start + bytes.len()].copy_from_slice(bytes);
     }
 
     /// Writes the whole sound of a channel, which is configured.
@@ -135,6 +98,18 @@ impl Frames {
         requires fits { length bytes.now ≡ length (frame_at channel self.old).sound }
         ensures { self.new ≡ with_sound channel bytes.now self.old }
     {
-        self.frames[usize::from(channel) - 1].put_sound(bytes);
+        self.parts[usize::from(channel) - 1].put_sound(bytes);
+    }
+
+    /// Exchanges the pixels of all channels, one channel after another, for those of `pixels`: as many bytes, and no pixel with a
+    /// colour byte above its alpha. It copies no byte, and the sounds stay.
+    pub fn exchange(&mut self, pixels: &mut Vec<u8>)
+        requires length { length pixels.old.items ≡ pictures_length self.old }
+        requires pixels { ArePixels pixels.old.items }
+        ensures frames { self.new ≡ with_pixels pixels.old.items self.old }
+        ensures pixels { pixels.new.items ≡ pixels_of self.old }
+        ensures length { length pixels.new.items ≡ length pixels.old.items }
+    {
+        mem::swap(&mut self.pixels, pixels);
     }
 }

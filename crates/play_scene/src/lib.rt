@@ -13,6 +13,7 @@ pub mod examples;
 mod frames;
 pub mod laws;
 mod layer;
+mod part;
 mod placing;
 mod raster;
 mod render;

@@ -6,7 +6,7 @@ use Rattle.clip_format.specs.Lowering.{IsLoweredAt}
 use Rattle.play_scene.specs.Frames.{ArePixels}
 
 -- a pixel of which each byte stands in other bytes too
-lowered_alike : (xs ys : List ℕ) (i j : ℕ) → ((k : ℕ) → k < 4 → slice_index ys (j + k) ≡ slice_index xs (i + k)) → IsLoweredAt xs i → IsLoweredAt ys j
+pub lowered_alike : (xs ys : List ℕ) (i j : ℕ) → ((k : ℕ) → k < 4 → slice_index ys (j + k) ≡ slice_index xs (i + k)) → IsLoweredAt xs i → IsLoweredAt ys j
 lowered_alike xs ys i j same h =
     let here : j + 0 ≡ j = omega arith in
     let there : i + 0 ≡ i = omega arith in

@@ -49,6 +49,13 @@ impl RowFade {
         }
     }
 
+    /// Returns the opacity, in millionths.
+    pub fn opacity(&self) -> u32
+        ensures { result ≡ self.now }
+    {
+        self.opacity
+    }
+
     /// Fades each pixel of a row to the opacity, as [`fade_row`] does. The row has whole pixels, none with a colour byte
     /// above its alpha.
     pub fn apply(&self, row: &mut [u8])

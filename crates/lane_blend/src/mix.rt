@@ -1,5 +1,5 @@
 //! A mix of two rows.
-ghost use Rattle.std.specs.Prelude.{◌≡◌, ◌<◌, ◌%◌, length};
+ghost use Rattle.std.specs.Prelude.{◌≡◌, ◌<◌, ◌%◌, ◌↔◌, true, length};
 ghost use Rattle.pixel_math.specs.Arithmetic.{mix};
 ghost use Rattle.lane_blend.specs.Rows.{AreLowered, IsRow, pixel_at, width_of};
 ghost use Rattle.lane_blend.specs.Steps.{MixStep, step_of};
@@ -56,6 +56,13 @@ impl RowMix {
             d,
             weights: Weights::find(j, d),
         }
+    }
+
+    /// Returns whether it is step `j` of `d`.
+    pub fn is_step(&self, j: u32, d: u32) -> bool
+        ensures { (result ≡ true) ↔ (self.now ≡ step_of j d) }
+    {
+        self.j == j && self.d == d
     }
 
     /// Mixes each pixel of the row `old_in_out` with the one of `new` at the same place, as [`mix_row`] does. Both rows have

@@ -9,17 +9,24 @@ ghost use Rattle.play_scene.specs.Frames.{ArePictures};
 ghost use Rattle.lane_blend.specs.Rows.{AreLowered, IsRow, pixel_at, width_of};
 ghost use Rattle.row_render.specs.inner.Rasters.{IsOutside, IsRunOf, moving_pixel};
 
+use crate::kept::Kept;
 use crate::scaling::{fill_row, scale_columns};
 use crate::source::{plain_pixel, source_row};
 use crate::view::View;
-use lane_blend::mix_row;
 use pixel_math::Pixel;
 use play_transitions::{Column, Run, runs};
 use play_types::{Drawn, Still};
 
 /// Writes row `y` of the raster of a layer: that of its new picture, or, while the transition runs, what it shows of its new
 /// and of its old picture. `other` is a row of the same length for the time of the call.
-pub(crate) fn raster_row(view: &View, layer: &Drawn, y: u16, row: &mut [u8], other: &mut [u8])
+pub(crate) fn raster_row(
+    view: &View,
+    layer: &Drawn,
+    y: u16,
+    row: &mut [u8],
+    other: &mut [u8],
+    kept: &mut Kept,
+)
     requires line { y < view.now.size.height }
     requires step { (0 < layer.now.step) ⊎ (layer.now.trans.duration ≡ 0) }
     requires names { NamesConfigured (length view.now.prev.now) layer.now }
@@ -42,8 +49,8 @@ pub(crate) fn raster_row(view: &View, layer: &Drawn, y: u16, row: &mut [u8], oth
         trans.duration(),
         view.size.width,
     );
-    run_columns(pair.first, view, layer, y, row, other);
-    run_columns(pair.second, view, layer, y, row, other);
+    run_columns(pair.first, view, layer, y, row, other, kept);
+    run_columns(pair.second, view, layer, y, row, other, kept);
 }
 
 /// Writes the columns of a run of a transition, if there is one.
@@ -54,6 +61,7 @@ fn run_columns(
     y: u16,
     row: &mut [u8],
     other: &mut [u8],
+    kept: &mut Kept,
 )
     requires line { y < view.now.size.height }
     requires after { 0 < layer.now.step }
@@ -78,12 +86,21 @@ fn run_columns(
             y,
             &mut row[from..to],
             &mut other[from..to],
+            kept,
         );
     }
 }
 
 /// Writes the columns of a transition from `column` on: those of one picture, or the mix of both.
-fn moving_row(column: Column, view: &View, layer: &Drawn, y: u16, row: &mut [u8], other: &mut [u8])
+fn moving_row(
+    column: Column,
+    view: &View,
+    layer: &Drawn,
+    y: u16,
+    row: &mut [u8],
+    other: &mut [u8],
+    kept: &mut Kept,
+)
     requires line { y < view.now.size.height }
     requires after { 0 < layer.now.step }
     requires before { layer.now.step < layer.now.trans.duration }
@@ -101,7 +118,7 @@ fn moving_row(column: Column, view: &View, layer: &Drawn, y: u16, row: &mut [u8]
         Column::Both(first) => {
             still_columns(view, layer.old, y, first, row);
             still_columns(view, layer.still, y, first, other);
-            mix_row(other, row, layer.step, layer.trans.duration());
+            kept.mix_row(other, row, layer.step, layer.trans.duration());
         }
     }
 }

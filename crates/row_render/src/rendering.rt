@@ -6,9 +6,11 @@ ghost use Rattle.pixel_math.specs.Pixel.{pixel_bytes};
 ghost use Rattle.history_model.specs.pictures.Frame.{scene_pixel};
 ghost use Rattle.history_model.specs.pictures.Raster.{Pictures};
 ghost use Rattle.play_scene.specs.Frames.{ArePictures, ArePixels};
+ghost use Rattle.lane_blend.specs.Rows.{AreLowered, IsRow};
 
 use crate::composition::compose_row;
-use crate::room::RowRoom;
+use crate::kept::Kept;
+use crate::room::{RowRoom, SpareRows};
 use crate::view::View;
 use clip_format::MediaTable;
 use play_scene::Frames;
@@ -35,7 +37,32 @@ pub fn render_row(
     ensures pixels { ArePixels out.new }
     ensures room { room.new ≡ room.old }
 {
-    let view = View { size, prev, media };
-    let spare = 4 * out.len();
-    compose_row(&view, scene, y, out, &mut room.rows[..spare]);
+    let view = View {
+        size,
+        y,
+        prev,
+        media,
+    };
+    compose_with(&view, scene, out, &mut room.rows, &mut room.kept);
+}
+
+/// Writes the row of a scene, with the first bytes of the spare rows for the time of the call.
+fn compose_with(
+    view: &View,
+    scene: &Scene,
+    row: &mut [u8],
+    rows: &mut SpareRows,
+    kept: &mut Kept,
+)
+    requires line { view.now.y < view.now.size.height }
+    requires names { All (NamesConfigured (length view.now.prev.now)) scene.now }
+    requires row { length row.old ≡ 4 * view.now.size.width }
+    requires spare { view.now.size.width ≤ rows.old }
+    ensures row { (pictures : Pictures) → ArePictures pictures view.now.prev.now view.now.media.now →
+        IsRow view.now.size.width (λ x. scene_pixel pictures view.now.size scene.now x view.now.y) row.new }
+    ensures lowered { AreLowered row.new }
+    ensures spare { rows.new ≡ rows.old }
+{
+    let spare = 16 * usize::from(view.size.width);
+    compose_row(view, scene, row, &mut rows.bytes[..spare], kept);
 }

@@ -58,8 +58,8 @@ pub record IsService (service : Service) (sizes : Sizes) (worker session : ℕ) 
   pub number : 1 ≤ session
 
 -- what a connection is served with is such a service
-pub is_service : (connection : Connection) (worker : ℕ) → IsReady connection → IsService (service_in connection worker) connection.stage.now.sizes worker connection.number
-is_service connection worker ready = record { tag = refl; channels = ready.channels; limit = ready.limit; number = ready.number }
+pub is_service : (connection : Connection) (worker : ℕ) → IsReady connection → IsService (service_in connection worker) connection.server.stage.now.sizes worker connection.number
+is_service connection worker ready = record { tag = refl; channels = ready.stage.channels; limit = ready.stage.limit; number = ready.number }
 
 -- a number that is at least 1 is not 0
 pub positive : (n : ℕ) → 1 ≤ n → (n == 0) ≡ false

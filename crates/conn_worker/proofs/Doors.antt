@@ -13,7 +13,7 @@ use Rattle.stage_lock.specs.Views.{PassView}
 use Rattle.stage_lock.specs.Calls.{Adds, IsStopped, Looks, stop_tag}
 use Rattle.std.specs.Prelude.{MatchResult}
 use Rattle.conn_worker.specs.Explained.{IsExplained}
-use Rattle.conn_worker.specs.Work.{AtDoor, Came, GoesOnAfter, IsServed, LooksOn, NoneYet, Setting, StopsAfter, Takes, TakesAll, Turn, Visit, links_come, number_came, service_of}
+use Rattle.conn_worker.specs.Work.{AtDoor, Came, GoesOnAfter, IsServed, LooksOn, NoneYet, Setting, StopsAfter, Takes, TakesAll, Turn, LinkRun, links_come, number_came, service_of}
 use Rattle.conn_worker.specs.inner.Door.{GivesBack, LooksAtStage, PassesOn, TakesTurn}
 use Rattle.conn_worker.specs.declared.link_end.LinkEnd.{LinkEnd}
 use Rattle.conn_worker.specs.declared.link_end.LinkEnd.TheVariants as ends
@@ -36,11 +36,11 @@ goes_on_number (ends.Ended at) before after none = absurd none
 module _ {L : Type 0} where
   -- after a turn the pass has its number, and no more links are away than before
   pub takes_number : (setting : Setting L) (number : ℕ) (turn : Turn L) (before after : AtDoor L) → Takes setting number turn before after → after.pass.number ≡ before.pass.number
-  takes_number setting number (Came visit) before after takes = goes_on_number visit.end visit.pass after.pass takes.1 ∙ takes.0.explained.made.number
+  takes_number setting number (Came link_run) before after takes = goes_on_number link_run.end link_run.pass after.pass takes.1 ∙ takes.0.explained.made.number
   takes_number setting number NoneYet before after takes = looks_number before.pass after.pass takes.0
 
   pub takes_away : (setting : Setting L) (number : ℕ) (turn : Turn L) (before after : AtDoor L) → Takes setting number turn before after → after.door.away ≡ before.door.away
-  takes_away setting number (Came visit) before after takes =
+  takes_away setting number (Came link_run) before after takes =
       let same : (before.door.away + 1) - 1 ≡ before.door.away = omega arith in
       ap (λ (d : ListenerState L). d.away) takes.0.door ∙ same
   takes_away setting number NoneYet before after takes = ap (λ (d : ListenerState L). d.away) takes.1
@@ -63,33 +63,33 @@ module _ {L : Type 0} where
   pub number_came-more : (turns : List (Turn L)) (turn : Turn L) → number_came (turns ++ turn ∷ []) ≡ number_came turns + links_come turn
   number_came-more turns turn = sum_by_push links_come turns turn
 
-  -- after a link was served the work goes on where no stop was seen
-  goes_on_running : (setting : Setting L) (number : ℕ) (visit : Visit L) (before after : AtDoor L) → IsServed setting number visit before after
-      → (end : LinkEnd) → visit.end ≡ end → GoesOnAfter end visit.pass after.pass → stop_at after.pass.seen ≡ None
-  goes_on_running setting number visit before after served ends.Over is same =
+  -- after a link was served the work goes on if no stop was seen
+  goes_on_running : (setting : Setting L) (number : ℕ) (link_run : LinkRun L) (before after : AtDoor L) → IsServed setting number link_run before after
+      → (end : LinkEnd) → link_run.end ≡ end → GoesOnAfter end link_run.pass after.pass → stop_at after.pass.seen ≡ None
+  goes_on_running setting number link_run before after served ends.Over is same =
       ap (λ (p : PassView). stop_at p.seen) same
-      ∙ (let e : IsExplained (service_of setting number) ends.Over (record { pass = before.pass; link = visit.came }) (record { pass = visit.pass; link = setting.tells visit.line }) =
-      subst (λ (x : LinkEnd). IsExplained (service_of setting number) x (record { pass = before.pass; link = visit.came }) (record { pass = visit.pass; link = setting.tells visit.line })) is served.explained in
+      ∙ (let e : IsExplained (service_of setting number) ends.Over (record { pass = before.pass; link = link_run.came }) (record { pass = link_run.pass; link = setting.tells link_run.line }) =
+      subst (λ (x : LinkEnd). IsExplained (service_of setting number) x (record { pass = before.pass; link = link_run.came }) (record { pass = link_run.pass; link = setting.tells link_run.line })) is served.explained in
       e.ending.running)
-  goes_on_running setting number visit before after served ends.Killed is looks = looks_running visit.pass after.pass looks
-  goes_on_running setting number visit before after served ends.LinkFault is same =
+  goes_on_running setting number link_run before after served ends.Killed is looks = looks_running link_run.pass after.pass looks
+  goes_on_running setting number link_run before after served ends.LinkFault is same =
       ap (λ (p : PassView). stop_at p.seen) same
-      ∙ (let e : IsExplained (service_of setting number) ends.LinkFault (record { pass = before.pass; link = visit.came }) (record { pass = visit.pass; link = setting.tells visit.line }) =
-      subst (λ (x : LinkEnd). IsExplained (service_of setting number) x (record { pass = before.pass; link = visit.came }) (record { pass = visit.pass; link = setting.tells visit.line })) is served.explained in
+      ∙ (let e : IsExplained (service_of setting number) ends.LinkFault (record { pass = before.pass; link = link_run.came }) (record { pass = link_run.pass; link = setting.tells link_run.line }) =
+      subst (λ (x : LinkEnd). IsExplained (service_of setting number) x (record { pass = before.pass; link = link_run.came }) (record { pass = link_run.pass; link = setting.tells link_run.line })) is served.explained in
       e.ending.running)
-  goes_on_running setting number visit before after served (ends.Ended at) is none = absurd none
+  goes_on_running setting number link_run before after served (ends.Ended at) is none = absurd none
 
   -- a link was served between these moments
   served_at : (setting : Setting L) (served : ℕ) (came : SinkState) (result : Result (Unit {0}) WorkEnd) (before middle after : AtDoor L)
       → stop_at before.pass.seen ≡ None → IsNewSink came → middle.pass ≡ before.pass → middle.door ≡ after_came before.door
       → (gives : GivesBack setting (served + 1) came result (middle, after))
-      → IsServed setting (served + 1) gives.visit before after
+      → IsServed setting (served + 1) gives.link_run before after
   served_at setting served came result before middle after running new same door gives = record {
     running = running;
     new = subst IsNewSink (sym gives.came_is) new;
-    explained = subst (λ (p : PassView). IsExplained (service_of setting (served + 1)) gives.visit.end
-        (record { pass = p; link = gives.visit.came }) (record { pass = gives.visit.pass; link = setting.tells gives.visit.line })) same gives.explained;
-    door = gives.door ∙ ap (λ (d : ListenerState L). after_give_back d gives.visit.line) door;
+    explained = subst (λ (p : PassView). IsExplained (service_of setting (served + 1)) gives.link_run.end
+        (record { pass = p; link = gives.link_run.came }) (record { pass = gives.link_run.pass; link = setting.tells gives.link_run.line })) same gives.explained;
+    door = gives.door ∙ ap (λ (d : ListenerState L). after_give_back d gives.link_run.line) door;
   }
 
   -- a link came and was given back, and the work goes on
@@ -98,8 +98,8 @@ module _ {L : Type 0} where
       → GivesBack setting (served + 1) came (Ok done) (middle, after)
       → TakesTurn setting served (Ok (served + 1)) before after
   turn_served setting served came done before middle after running new same door gives =
-      let is : IsServed setting (served + 1) gives.visit before after = served_at setting served came (Ok done) before middle after running new same door gives in
-      (Came gives.visit, ((is, gives.pass), (refl, goes_on_running setting (served + 1) gives.visit before after is gives.visit.end refl gives.pass)))
+      let is : IsServed setting (served + 1) gives.link_run before after = served_at setting served came (Ok done) before middle after running new same door gives in
+      (Came gives.link_run, ((is, gives.pass), (refl, goes_on_running setting (served + 1) gives.link_run before after is gives.link_run.end refl gives.pass)))
 
   -- a link came and was given back, and the history holds a stop
   pub turn_stopped : (setting : Setting L) (served : ℕ) (came : SinkState) (end : WorkEnd) (before middle after : AtDoor L)
@@ -108,9 +108,9 @@ module _ {L : Type 0} where
       → TakesTurn setting served (Err end) before after
   turn_stopped setting served came Closed before middle after running new same door gives few = absurd gives.pass
   turn_stopped setting served came (Ended at) before middle after running new same door gives few =
-      let is : IsServed setting (served + 1) gives.visit before after = served_at setting served came (Err (Ended at)) before middle after running new same door gives in
+      let is : IsServed setting (served + 1) gives.link_run before after = served_at setting served came (Err (Ended at)) before middle after running new same door gives in
       let number : served + 1 ≡ 1 + served = omega arith in
-      inr (omega (arith, few), (gives.visit, (subst (λ (n : ℕ). IsServed setting n gives.visit before after) number is, gives.pass)))
+      inr (omega (arith, few), (gives.link_run, (subst (λ (n : ℕ). IsServed setting n gives.link_run before after) number is, gives.pass)))
   turn_stopped setting served came DoorFault before middle after running new same door gives few = absurd gives.pass
   turn_stopped setting served came SessionsOver before middle after running new same door gives few = absurd gives.pass
 
@@ -138,16 +138,16 @@ module _ {L : Type 0} where
   turn_failed setting served before after (Err refusal) running looks door = record { running = running; door = door; stops = inr (refusal.at, looks) }
 
   -- after a kill the history was looked at
-  pub looked_after_kill : (result : Result (Unit {0}) WorkEnd) (visit : Visit L) (after : PassView) → visit.end ≡ ends.Killed
-      → LooksAtStage result visit.pass after → PassesOn result visit after
-  looked_after_kill (Ok done) visit after is looks = subst (λ (e : LinkEnd). GoesOnAfter e visit.pass after) (sym is) looks
-  looked_after_kill (Err Closed) visit after is looks = absurd looks
-  looked_after_kill (Err (Ended at)) visit after is looks = subst (λ (e : LinkEnd). StopsAfter at e visit.pass after) (sym is) looks
-  looked_after_kill (Err DoorFault) visit after is looks = absurd looks
-  looked_after_kill (Err SessionsOver) visit after is looks = absurd looks
+  pub looked_after_kill : (result : Result (Unit {0}) WorkEnd) (link_run : LinkRun L) (after : PassView) → link_run.end ≡ ends.Killed
+      → LooksAtStage result link_run.pass after → PassesOn result link_run after
+  looked_after_kill (Ok done) link_run after is looks = subst (λ (e : LinkEnd). GoesOnAfter e link_run.pass after) (sym is) looks
+  looked_after_kill (Err Closed) link_run after is looks = absurd looks
+  looked_after_kill (Err (Ended at)) link_run after is looks = subst (λ (e : LinkEnd). StopsAfter at e link_run.pass after) (sym is) looks
+  looked_after_kill (Err DoorFault) link_run after is looks = absurd looks
+  looked_after_kill (Err SessionsOver) link_run after is looks = absurd looks
 
   one_at_most : (turn : Turn L) → links_come turn ≤ 1
-  one_at_most (Came visit) = omega arith
+  one_at_most (Came link_run) = omega arith
   one_at_most NoneYet = omega arith
 
   -- there is a number for each link that comes

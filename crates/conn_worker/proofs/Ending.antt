@@ -32,7 +32,7 @@ use Rattle.conn_worker.proofs.Passes.{made_looked, made_more}
 use Rattle.conn_worker.proofs.Links.{after_rounds-looked, after_rounds-step, looks_more, looks_step}
 use Rattle.conn_worker.proofs.Going.{waits_caught_up}
 
--- what holds of the steps that were followed holds where no step more was left unsent
+-- what holds of the steps that were followed holds if no step more was left unsent
 whole : (P : List Followed → Type 0) (followed : List Followed) → P followed → P (followed ++ [])
 whole P followed holds = subst P (sym (append-nil followed)) holds
 
@@ -234,7 +234,7 @@ module _ (past : Past) (piece : List ℕ) (followed : List Followed) (before : S
       subst (λ (bs : List ℕ). steps_in (had ++ one ∷ []) ≡ steps_of past.service (had ++ one ∷ []) bs) here.bytes
       (given_end past.service here.new here.fed here.more had one (given one same) none (ap is_end same ∙ ends))
 
-  -- the step is an end, and its reply, where it has one, was written
+  -- the step is an end, and its reply, if it has one, was written
   sent_step : (end : LinkEnd) (after : Standing) (follows : Follows past.service step sent.All before after) → is_end step ≡ true
       → ((all : steps_in (followed_in (with_piece past piece (followed ++ follows.one ∷ [])).rounds)
       ≡ steps_of past.service (followed_in (with_piece past piece (followed ++ follows.one ∷ [])).rounds) (bytes_in (with_piece past piece (followed ++ follows.one ∷ [])).rounds))

@@ -24,7 +24,7 @@ use Rattle.conn_worker.specs.Followed.{Service, Followed, given_up_of, is_lost, 
 use Rattle.conn_worker.specs.inner.UnderWay.{HasGiven, progress_of}
 use Rattle.conn_worker.proofs.Lists.{list_any-last, list_any-more, slice_get-after, slice_get-seam, steps_in-more}
 
--- the number of a line where it was given up
+-- the number of a line if it was given up
 abbrev lost_number : ℕ → Bool → List ℕ
 lost_number n lost = filter_map number_given_up ((n, lost) ∷ [])
 
@@ -48,7 +48,7 @@ lost_after : (followed : List Followed) (lost : Bool)
 lost_after followed true = refl
 lost_after followed false = sym (append-nil (given_up_of followed))
 
--- a step of a session gives its line up where the step of the definition does
+-- a step of a session gives its line up if the step of the definition does
 same_loss : (result : Step) (commands : List Cmd) (given : model.Step) → viewed result commands ≡ Some given → gives_up result ≡ is_lost given
 same_loss (step.Local answer) commands given is = ap is_lost (same_Some (model.Local answer) given is)
 same_loss (step.Ask command) commands given is = ap is_lost (same_Some (model.Ask command) given is)
@@ -118,7 +118,7 @@ module _ (service : Service) (session : SessionState) (fed : List ℕ) (followed
             ∙ l.whole ∙ ap (λ (ss : List model.Step). ss ++ l.added) (sym steps_done);
       }
 
-  -- the same where no line was given up later
+  -- the same if no line was given up later
   goes_on : (more : List ℕ) → (added : List model.Step) × (line_steps service.config service.names (given_up_of followed) (lines_of (fed ++ more)) ≡ steps_in followed ++ added)
   goes_on more =
       let g = goes [] more (All-nil (λ k. length followed ≤ k)) in
@@ -141,7 +141,7 @@ module _ (service : Service) (session : SessionState) (fed : List ℕ) (followed
       let g = goes_on more in
       (until_end g.0, sym (ap until_end g.1 ∙ until_end-going (steps_in followed) g.0 going))
 
-  -- where a step has been given for each line, they are all steps
+  -- if a step has been given for each line, they are all steps
   pub given_all : list_any is_end (steps_in followed) ≡ false → length (lines_of fed) ≡ length followed → steps_in followed ≡ steps_of service followed fed
   unfolding steps
   given_all going all =
@@ -229,7 +229,7 @@ given_end service session fed more followed one has going ends =
     ∙ ap (λ (ss : List model.Step). steps_in followed ++ ss) (until_end-one one.step ends) in
     steps_in-more followed one ∙ sym (ap until_end g.1 ∙ shorter)
 
--- the steps with one more are the first ones of every longer stream, also where that is an end
+-- the steps with one more are the first ones of every longer stream, also if that is an end
 pub given_first : (service : Service) (session : SessionState) (fed more : List ℕ) (followed : List Followed) (one : Followed)
     → HasGiven service session fed (followed ++ one ∷ []) → list_any is_end (steps_in followed) ≡ false
     → IsPrefix (steps_in (followed ++ one ∷ [])) (steps_of service (followed ++ one ∷ []) (fed ++ more))

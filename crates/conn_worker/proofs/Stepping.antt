@@ -67,7 +67,7 @@ module _ (past : Past) (piece : List ℕ) (followed : List Followed) (fed : List
         (subst (λ (s : Standing). IsUnderWay (with_piece past piece followed) fed (record { standing = s; session = old })) (sym goes) way),
   )
 
-  -- what holds where the session gave a step
+  -- what holds if the session gave a step
   at_step : (result : Step) (step : model.Step) (more : List ℕ) → fed ++ more ≡ bytes_in (with_piece past piece followed).rounds → viewed result new.batch ≡ Some step
       → GivesStep past.service.config past.service.names result new (progress_of fed (followed_in (with_piece past piece followed).rounds))
       → IsAtStep past piece followed before step

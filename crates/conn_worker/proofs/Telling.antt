@@ -109,7 +109,7 @@ look_step service taken added reading bytes rounds =
     append_assoc reading.looks (one ∷ []) (looks_from service (length (taken ++ added)) (length (reading.bytes ++ bytes)) rounds)
     ∙ ap₂ (λ (a b : ℕ). reading.looks ++ one ∷ looks_from service a b rounds) (length-append taken added) (length-append reading.bytes bytes)
 
--- what a link tells of its looks, where it tells of them
+-- what a link tells of its looks, if it tells of them
 abbrev told_looks : SinkState → Option (List told.Look)
 told_looks link = option_map (λ (r : Reading). r.looks) link.reading
 

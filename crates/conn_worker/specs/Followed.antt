@@ -33,7 +33,7 @@ playout_of service = record { config = service.config; names = service.names; cl
 abbrev pub turn_of : Service → Followed → Turn
 turn_of service one = record { playout = playout_of service; events = one.found; tag = service.tag; no_memory = one.no_memory }
 
--- the event of a step, where it made one: its command, its batch or its stop
+-- the event of a step, if it made one: its command, its batch or its stop
 abbrev pub events_of : Service → Followed → List Event
 events_of service one = step_events (turn_of service one) (Some one.step)
 
@@ -41,11 +41,11 @@ events_of service one = step_events (turn_of service one) (Some one.step)
 abbrev pub positions_of : Service → Followed → List ℕ
 positions_of service one = range_with_len (length one.found) (length (events_of service one))
 
--- the reply to a step, where it has one
+-- the reply to a step, if it has one
 abbrev pub reply_of : Service → Followed → Option Reply
 reply_of service one = step_reply (turn_of service one) (Some one.step)
 
--- the bytes of a reply, where there is one
+-- the bytes of a reply, if there is one
 abbrev pub sent_bytes : Service → Option Reply → List ℕ
 sent_bytes service None = []
 sent_bytes service (Some answer) = reply_bytes service.config service.names answer

@@ -23,7 +23,7 @@ look_bytes (Got bytes) = bytes
 look_bytes End = []
 look_bytes Nothing = []
 
--- 1 where a look found nothing yet
+-- 1 if a look found nothing yet
 abbrev pub idle_looks : Look → ℕ
 idle_looks (Got bytes) = 0
 idle_looks End = 0
@@ -56,7 +56,7 @@ abbrev pub after_rounds : Service → List Round → SinkState → SinkState
 after_rounds service [] link = link
 after_rounds service (round ∷ rounds) link = after_rounds service rounds (after_round service round link)
 
--- what a link tells of its looks in these rounds, where it had taken and given so many bytes before: a look comes when the replies
+-- what a link tells of its looks in these rounds, if it had taken and given so many bytes before: a look comes when the replies
 -- to all steps before it have been taken
 abbrev pub looks_from : Service → ℕ → ℕ → List Round → List told.Look
 looks_from service taken read [] = []

@@ -55,7 +55,7 @@ module _ (L : Type 0) where
 
   -- a link that came and was served: the link when it came and when it was given back, how its serving ended, and the pass after
   -- that
-  pub record Visit : Type 0 where
+  pub record LinkRun : Type 0 where
     pub came : SinkState
     pub line : L
     pub end : link.LinkEnd
@@ -63,7 +63,7 @@ module _ (L : Type 0) where
 
   -- what asking the door gave: a link, or none yet
   pub data Turn : Type 0 where
-    Came : Visit → Turn
+    Came : LinkRun → Turn
     NoneYet : Turn
 
 module _ {L : Type 0} where
@@ -72,22 +72,22 @@ module _ {L : Type 0} where
   service_of setting number = record { config = setting.config; names = setting.names; tag = tag_of setting.worker number }
 
   -- a link came, was served as the session of this number from its first look on, and was given back
-  pub record IsServed (setting : Setting L) (number : ℕ) (visit : Visit L) (before after : AtDoor L) : Type 0 where
+  pub record IsServed (setting : Setting L) (number : ℕ) (link_run : LinkRun L) (before after : AtDoor L) : Type 0 where
     pub running : stop_at before.pass.seen ≡ None
-    pub new : IsNewSink visit.came
-    pub explained : IsExplained (service_of setting number) visit.end
-        (record { pass = before.pass; link = visit.came }) (record { pass = visit.pass; link = setting.tells visit.line })
-    pub door : after.door ≡ after_give_back (after_came before.door) visit.line
+    pub new : IsNewSink link_run.came
+    pub explained : IsExplained (service_of setting number) link_run.end
+        (record { pass = before.pass; link = link_run.came }) (record { pass = link_run.pass; link = setting.tells link_run.line })
+    pub door : after.door ≡ after_give_back (after_came before.door) link_run.line
 
   -- the door was asked once, and the work goes on: a link was served as the session of this number, or there was none yet, and a
   -- look at the history found no stop
   abbrev pub Takes : Setting L → ℕ → Turn L → AtDoor L → AtDoor L → Type 0
-  Takes setting number (Came visit) before after = IsServed setting number visit before after × GoesOnAfter visit.end visit.pass after.pass
+  Takes setting number (Came link_run) before after = IsServed setting number link_run before after × GoesOnAfter link_run.end link_run.pass after.pass
   Takes setting number NoneYet before after = LooksOn before.pass after.pass × (after.door ≡ after_none_came before.door)
 
-  -- 1 where a link came
+  -- 1 if a link came
   abbrev pub links_come : Turn L → ℕ
-  links_come (Came visit) = 1
+  links_come (Came link_run) = 1
   links_come NoneYet = 0
 
   -- how many links came
@@ -112,7 +112,7 @@ module _ {L : Type 0} where
   IsStopFound setting number at before after =
       (FindsEnd at before.pass after.pass × (after.door ≡ after_none_came before.door))
       ⊎ ((number ≤ MAX_SESSIONS)
-      × ((visit : Visit L) × (IsServed setting number visit before after × StopsAfter at visit.end visit.pass after.pass)))
+      × ((link_run : LinkRun L) × (IsServed setting number link_run before after × StopsAfter at link_run.end link_run.pass after.pass)))
 
   -- the door failed, and the worker stopped the stage with tag 0.0 unless a stop had come before
   pub record IsDoorFault (before after : AtDoor L) : Type 0 where
@@ -127,7 +127,7 @@ module _ {L : Type 0} where
     pub running : stop_at before.pass.seen ≡ None
     pub same : after ≡ before
 
-  -- the work ended so, where the next session would have had this number
+  -- the work ended so, if the next session would have had this number
   abbrev pub EndsWork : Setting L → ℕ → WorkEnd → AtDoor L → AtDoor L → Type 0
   EndsWork setting number Closed before after = IsClosed before after
   EndsWork setting number (Ended at) before after = IsStopFound setting number at before after

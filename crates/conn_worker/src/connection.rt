@@ -10,28 +10,24 @@ ghost use Rattle.conn_worker.specs.inner.Steps.{AsksFor, IsReady, SendsBytes, re
 ghost use Rattle.conn_worker.specs.inner.UnderWay.{EndsAtStep, FollowsStep};
 
 use crate::link_end::LinkEnd;
+use crate::server::Server;
 use play_outside::{Link, Sent};
 use play_session::Step;
-use play_types::{Answer, Cmd, Config, MediaNames, Name, Reply};
+use play_types::{Answer, Cmd, Name, Reply};
 use return_codes::send_reply;
 use stage_core::{ApplyFault, Ended};
-use stage_lock::{Pass, SharedStage};
-use std::alloc::Global;
+use stage_lock::Pass;
 use std::sync::Wait;
 
-/// What a connection is served with: the memory, the stage, its configuration, the names of the media table, and the number
-/// of the connection among those of its pass.
+/// A connection of a server: it has this number, at least 1, among those of its pass.
 #[derive(Clone, Copy)]
 pub(crate) struct Connection<'a> {
-    pub alloc: Global,
-    pub stage: &'a SharedStage,
-    pub config: &'a Config,
-    pub media: &'a MediaNames,
+    pub server: Server<'a>,
     pub number: u32,
 }
 
 impl Connection<'_> {
-    /// Follows a step, and sends its reply. `batch` are the commands of a batch that is asked for.
+    /// Executes a step, and sends its reply. `batch` holds the commands of a batch that is asked for.
     pub(crate) fn follow<R: Wait, L: Link>(
         &self,
         rt: &R,
@@ -41,12 +37,12 @@ impl Connection<'_> {
         link: &mut L,
     ) -> Result<(), LinkEnd>
         requires ready { IsReady self.now }
-        requires of { pass.old.stage ≡ self.now.stage.now }
-        requires fits { Fits self.now.config.now step }
-        requires aimed { AreAimed self.now.config.now batch.now }
+        requires of { pass.old.stage ≡ self.now.server.stage.now }
+        requires fits { Fits self.now.server.config.now step }
+        requires aimed { AreAimed self.now.server.config.now batch.now }
         requires filled { step ≡ Step.AskBatch → 0 < length batch.now }
         requires running { stop_at pass.old.seen ≡ None }
-        ensures of { pass.new.stage ≡ self.now.stage.now }
+        ensures of { pass.new.stage ≡ self.now.server.stage.now }
         ensures follows { FollowsStep (service_in self.now pass.old.number) (viewed step batch.now) result
             (record { pass = pass.old; link = L.state link.old }) (record { pass = pass.new; link = L.state link.new }) }
     {
@@ -69,41 +65,45 @@ impl Connection<'_> {
     /// Asks the stage for a command, and returns the reply.
     fn ask<R: Wait>(&self, rt: &R, pass: &mut Pass, cmd: Cmd) -> Result<Reply, LinkEnd>
         requires ready { IsReady self.now }
-        requires of { pass.old.stage ≡ self.now.stage.now }
-        requires aimed { IsAimed self.now.config.now cmd }
-        ensures of { pass.new.stage ≡ self.now.stage.now }
-        ensures fits { IfOk result (IsReplyTo self.now.config.now) }
+        requires of { pass.old.stage ≡ self.now.server.stage.now }
+        requires aimed { IsAimed self.now.server.config.now cmd }
+        ensures of { pass.new.stage ≡ self.now.server.stage.now }
+        ensures fits { IfOk result (IsReplyTo self.now.server.config.now) }
         ensures asks { AsksFor (service_in self.now pass.old.number) (model.Ask cmd) result pass.old pass.new }
     {
-        let answered = self.stage.ask(rt, self.alloc, pass, self.number, cmd);
+        let answered = self
+            .server
+            .stage
+            .ask(rt, self.server.alloc, pass, self.number, cmd);
         reply_to(cmd.name(), answered)
     }
 
     /// Asks the stage for a batch, and returns the reply.
     fn ask_batch<R: Wait>(&self, rt: &R, pass: &mut Pass, cmds: &[Cmd]) -> Result<Reply, LinkEnd>
         requires ready { IsReady self.now }
-        requires of { pass.old.stage ≡ self.now.stage.now }
-        requires aimed { AreAimed self.now.config.now cmds.now }
+        requires of { pass.old.stage ≡ self.now.server.stage.now }
+        requires aimed { AreAimed self.now.server.config.now cmds.now }
         requires filled { 0 < length cmds.now }
-        ensures of { pass.new.stage ≡ self.now.stage.now }
-        ensures fits { IfOk result (IsReplyTo self.now.config.now) }
+        ensures of { pass.new.stage ≡ self.now.server.stage.now }
+        ensures fits { IfOk result (IsReplyTo self.now.server.config.now) }
         ensures asks { AsksFor (service_in self.now pass.old.number) (model.AskBatch cmds.now) result pass.old pass.new }
     {
         let answered = self
+            .server
             .stage
-            .ask_batch(rt, self.alloc, pass, self.number, cmds);
+            .ask_batch(rt, self.server.alloc, pass, self.number, cmds);
         reply_to(Name::Commit, answered)
     }
 
-    /// Stops the stage. Where this call made the stop, the reply to it is sent, as far as the link takes it.
+    /// Stops the stage. If this call made the stop, it sends the reply, as far as the link takes it.
     fn kill<R: Wait, L: Link>(&self, rt: &R, pass: &mut Pass, link: &mut L) -> LinkEnd
         requires ready { IsReady self.now }
-        requires of { pass.old.stage ≡ self.now.stage.now }
-        ensures of { pass.new.stage ≡ self.now.stage.now }
+        requires of { pass.old.stage ≡ self.now.server.stage.now }
+        ensures of { pass.new.stage ≡ self.now.server.stage.now }
         ensures kills { EndsAtStep (service_in self.now pass.old.number) model.KillServer result
             (record { pass = pass.old; link = L.state link.old }) (record { pass = pass.new; link = L.state link.new }) }
     {
-        match self.stage.stop(rt, pass, self.number) {
+        match self.server.stage.stop(rt, pass, self.number) {
             Ok(_) => {
                 let _ = self.send(&Reply::Done(Name::Kill), link);
                 LinkEnd::Killed
@@ -114,17 +114,17 @@ impl Connection<'_> {
 
     /// Sends a reply.
     fn send<L: Link>(&self, reply: &Reply, link: &mut L) -> Result<(), LinkEnd>
-        requires { IsReplyTo self.now.config.now reply.now }
-        ensures { SendsBytes (reply_bytes self.now.config.now self.now.media.now reply.now) result (L.state link.old) (L.state link.new) }
+        requires { IsReplyTo self.now.server.config.now reply.now }
+        ensures { SendsBytes (reply_bytes self.now.server.config.now self.now.server.media.now reply.now) result (L.state link.old) (L.state link.new) }
     {
-        match send_reply(reply, self.config, self.media, link) {
+        match send_reply(reply, self.server.config, self.server.media, link) {
             Sent::All => Ok(()),
             Sent::Failed => Err(LinkEnd::LinkFault),
         }
     }
 }
 
-/// Returns the reply to a command or a batch of this name: 503 where the journal is full, and 501 where the stage had no
+/// Returns the reply to a command or a batch of this name: 503 if the journal is full, and 501 if the stage had no
 /// memory.
 fn reply_to(name: Name, answered: Result<Answer, ApplyFault>) -> Result<Reply, LinkEnd>
     ensures { result ≡ replied name answered }

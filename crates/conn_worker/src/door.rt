@@ -3,10 +3,12 @@ ghost use Rattle.std.specs.Prelude.{◌≡◌, ◌+◌, ◌<◌, None, length};
 ghost use Rattle.play_types.specs.History.{stop_at};
 ghost use Rattle.play_outside.specs.Fresh.{IsNewSink};
 ghost use Rattle.conn_worker.specs.Work.{HasWorked};
-ghost use Rattle.conn_worker.specs.inner.Door.{GivesBack, IsStageOf, LooksAtStage, TakesTurn, setting_in};
+ghost use Rattle.conn_worker.specs.Server.{HasStageOfConfig, setting_in};
+ghost use Rattle.conn_worker.specs.inner.Door.{GivesBack, LooksAtStage, TakesTurn};
 
+use crate::connection::Connection;
 use crate::link_end::LinkEnd;
-use crate::serve::serve_link;
+use crate::server::Server;
 use crate::work_end::{MAX_SESSIONS, WorkEnd};
 use play_outside::{Arrival, Listener, MOST_AWAY};
 use play_session::Session;
@@ -15,19 +17,10 @@ use stage_lock::{Pass, SharedStage};
 use std::alloc::Global;
 use std::sync::Wait;
 
-/// What the links of a door are served with: the memory, the stage, its configuration, and the names of the media table.
-#[derive(Clone, Copy)]
-pub(crate) struct Worker<'a> {
-    pub alloc: Global,
-    pub stage: &'a SharedStage,
-    pub config: &'a Config,
-    pub media: &'a MediaNames,
-}
-
 /// Serves the links of a door, one after another, until the door is closed or failed, or the stage was stopped.
 ///
-/// Each link is served as the next session, from 1 on, and given back. Where the door has no link yet, the worker looks whether
-/// the stage was stopped. Where the door fails, it stops the stage with tag 0.0, unless a stop came before.
+/// Each link is served as the next session, from 1 on, and given back. If the door has no link yet, the worker checks whether the
+/// stage was stopped. If the door fails, it stops the stage with tag 0.0, unless a stop came before.
 pub fn work<R: Wait, D: Listener>(
     rt: &R,
     alloc: Global,
@@ -48,28 +41,49 @@ pub fn work<R: Wait, D: Listener>(
         (record { config = config.now; names = media.now; worker = pass.old.number; tells = D.Line.state })
         result (record { pass = pass.old; door = D.state door.old }) (record { pass = pass.new; door = D.state door.new }) }
 {
-    let worker = Worker {
+    let server = Server {
         alloc,
         stage,
         config,
         media,
     };
-    let mut served = 0;
-    for _ in rt.forever() {
-        if served == MAX_SESSIONS {
-            return WorkEnd::SessionsOver;
-        }
-        match worker.ask_door(rt, pass, session, served, door) {
-            Ok(came) => served = came,
-            Err(end) => return end,
-        }
-    }
-    unreachable!()
+    server.work(rt, pass, session, door)
 }
 
-impl Worker<'_> {
-    /// Asks the door once, where `served` links were served before, and returns how many were served then. A link that came is
-    /// served; where there is none yet, the history is looked at.
+impl Server<'_> {
+    /// Serves the links of a door, one after another, until the door is closed or failed, or the stage was stopped.
+    ///
+    /// It does what [`work`](crate::work) does with what the server holds.
+    pub fn work<R: Wait, D: Listener>(
+        &self,
+        rt: &R,
+        pass: &mut Pass,
+        session: &mut Session,
+        door: &mut D,
+    ) -> WorkEnd
+        requires stage { HasStageOfConfig self.now }
+        requires of { pass.old.stage ≡ self.now.stage.now }
+        requires running { stop_at pass.old.seen ≡ None }
+        requires away { (D.state door.old).away < MOST_AWAY }
+        ensures of { pass.new.stage ≡ self.now.stage.now }
+        ensures worked { HasWorked (setting_in self.now pass.old.number D.Line.state) result
+            (record { pass = pass.old; door = D.state door.old }) (record { pass = pass.new; door = D.state door.new }) }
+    {
+        let mut served = 0;
+        for _ in rt.forever() {
+            if served == MAX_SESSIONS {
+                return WorkEnd::SessionsOver;
+            }
+            match self.ask_door(rt, pass, session, served, door) {
+                Ok(came) => served = came,
+                Err(end) => return end,
+            }
+        }
+        unreachable!()
+    }
+
+    /// Asks the door once, after `served` links were served, and returns how many were served then. A link that came is served; if
+    /// there is none yet, the worker checks whether the stage was stopped.
     fn ask_door<R: Wait, D: Listener>(
         &self,
         rt: &R,
@@ -78,23 +92,24 @@ impl Worker<'_> {
         served: u32,
         door: &mut D,
     ) -> Result<u32, WorkEnd>
-        requires stage { IsStageOf self.now pass.old }
+        requires stage { HasStageOfConfig self.now }
+        requires of { pass.old.stage ≡ self.now.stage.now }
         requires running { stop_at pass.old.seen ≡ None }
         requires away { (D.state door.old).away < MOST_AWAY }
         requires served { served < MAX_SESSIONS }
-        ensures stage { IsStageOf self.now pass.new }
+        ensures of { pass.new.stage ≡ self.now.stage.now }
         ensures takes { TakesTurn (setting_in self.now pass.old.number D.Line.state) served result
             (record { pass = pass.old; door = D.state door.old }) (record { pass = pass.new; door = D.state door.new }) }
     {
         match door.next() {
-            Arrival::Came(line) => match self.serve(rt, pass, session, served + 1, line, door) {
-                Ok(()) => Ok(served + 1),
-                Err(end) => Err(end),
-            },
-            Arrival::Again => match self.look(rt, pass) {
-                Ok(()) => Ok(served),
-                Err(end) => Err(end),
-            },
+            Arrival::Came(line) => {
+                self.serve_line(rt, pass, session, served + 1, line, door)?;
+                Ok(served + 1)
+            }
+            Arrival::Again => {
+                self.look(rt, pass)?;
+                Ok(served)
+            }
             Arrival::Closed => Err(WorkEnd::Closed),
             Arrival::Failed => {
                 let _ = self.stage.stop(rt, pass, 0);
@@ -103,8 +118,8 @@ impl Worker<'_> {
         }
     }
 
-    /// Serves a link as the session of this number, gives it back, and looks at the history where the link stopped the stage.
-    fn serve<R: Wait, D: Listener>(
+    /// Serves a link as the session of this number, gives it back, and checks the history if the link stopped the stage.
+    fn serve_line<R: Wait, D: Listener>(
         &self,
         rt: &R,
         pass: &mut Pass,
@@ -113,25 +128,17 @@ impl Worker<'_> {
         mut line: D::Line,
         door: &mut D,
     ) -> Result<(), WorkEnd>
-        requires stage { IsStageOf self.now pass.old }
+        requires stage { HasStageOfConfig self.now }
+        requires of { pass.old.stage ≡ self.now.stage.now }
         requires running { stop_at pass.old.seen ≡ None }
         requires number { 0 < number }
         requires away { 0 < (D.state door.old).away }
-        ensures stage { IsStageOf self.now pass.new }
+        ensures of { pass.new.stage ≡ self.now.stage.now }
         ensures gives_back { GivesBack (setting_in self.now pass.old.number D.Line.state) number (D.Line.state line) result
             (record { pass = pass.old; door = D.state door.old }, record { pass = pass.new; door = D.state door.new }) }
     {
-        let end = serve_link(
-            rt,
-            self.alloc,
-            self.stage,
-            pass,
-            session,
-            number,
-            self.config,
-            self.media,
-            &mut line,
-        );
+        let server = *self;
+        let end = Connection { server, number }.serve(rt, pass, session, &mut line);
         door.give_back(line);
         match end {
             LinkEnd::Over | LinkEnd::LinkFault => Ok(()),
@@ -140,10 +147,10 @@ impl Worker<'_> {
         }
     }
 
-    /// Looks at the history: there is an error where it holds a stop.
+    /// Checks whether the history holds a stop: if it does, returns the end.
     fn look<R: Wait>(&self, rt: &R, pass: &mut Pass) -> Result<(), WorkEnd>
-        requires { IsStageOf self.now pass.old }
-        ensures stage { IsStageOf self.now pass.new }
+        requires { pass.old.stage ≡ self.now.stage.now }
+        ensures of { pass.new.stage ≡ self.now.stage.now }
         ensures looks { LooksAtStage result pass.old pass.new }
     {
         match self.stage.ended(rt, pass) {

@@ -1,4 +1,4 @@
-//! What the rounds of a connection leave at its link, where the link tells it.
+//! What the rounds of a connection leave at its link, if the link tells it.
 ghost use Rattle.std.specs.Prelude.{◌≡◌, ℕ, ◌+◌, ◌-◌, ◌^◌, ◌<◌, ◌++◌, List, Some, length, option_map};
 ghost use Rattle.play_outside.specs.Reading.{Reading};
 ghost use Rattle.play_outside.specs.SinkState.{SinkState, more_taken};

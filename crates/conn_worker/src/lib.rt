@@ -3,7 +3,7 @@
 //! [`serve_link`] reads a client's bytes from a link, asks the shared stage for what each line says, and writes the reply
 //! before it goes on to the next line. However the bytes are cut, the events of the connection stand in the stage's history
 //! once each and in their order, and each reply is the one that the definitions give after the history that was found.
-//! [`work`] serves the links of a door, one after another.
+//! [`work`] serves the links of a door, one after another. A [`Server`] holds what all connections of a server share.
 #![tactic(auto)]
 
 mod connection;
@@ -11,9 +11,11 @@ mod door;
 pub mod laws;
 mod link_end;
 mod serve;
+mod server;
 mod work_end;
 
 pub use door::work;
 pub use link_end::LinkEnd;
 pub use serve::serve_link;
+pub use server::Server;
 pub use work_end::{MAX_SESSIONS, WorkEnd};

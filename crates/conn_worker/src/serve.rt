@@ -10,6 +10,7 @@ ghost use Rattle.conn_worker.specs.inner.UnderWay.{HasProgress, IsBetweenLooks, 
 
 use crate::connection::Connection;
 use crate::link_end::LinkEnd;
+use crate::server::Server;
 use play_outside::{Link, LinkStep};
 use play_session::{Session, Step};
 use play_types::{Config, MediaNames};
@@ -44,26 +45,43 @@ pub fn serve_link<R: Wait, L: Link>(
     ensures explained { IsExplained (record { config = config.now; names = media.now; tag = tag_of pass.old.number number }) result
         (record { pass = pass.old; link = L.state link.old }) (record { pass = pass.new; link = L.state link.new }) }
 {
-    session.restart();
-    let connection = Connection {
+    let server = Server {
         alloc,
         stage,
         config,
         media,
-        number,
     };
-    let mut buffer = [0; PIECE];
-    for _ in rt.forever() {
-        match connection.serve_look(rt, pass, session, &mut buffer, link) {
-            Ok(()) => {}
-            Err(end) => return end,
-        }
-    }
-    unreachable!()
+    Connection { server, number }.serve(rt, pass, session, link)
 }
 
 impl Connection<'_> {
-    /// Looks at the link once, and follows the lines that end in what it found. Where it found nothing yet, it looks whether the
+    /// Serves a link until its client has ended, the link failed, or the stage was stopped.
+    pub(crate) fn serve<R: Wait, L: Link>(
+        &self,
+        rt: &R,
+        pass: &mut Pass,
+        session: &mut Session,
+        link: &mut L,
+    ) -> LinkEnd
+        requires ready { IsReady self.now }
+        requires of { pass.old.stage ≡ self.now.server.stage.now }
+        requires running { stop_at pass.old.seen ≡ None }
+        ensures of { pass.new.stage ≡ self.now.server.stage.now }
+        ensures explained { IsExplained (service_in self.now pass.old.number) result
+            (record { pass = pass.old; link = L.state link.old }) (record { pass = pass.new; link = L.state link.new }) }
+    {
+        session.restart();
+        let mut buffer = [0; PIECE];
+        for _ in rt.forever() {
+            match self.serve_look(rt, pass, session, &mut buffer, link) {
+                Ok(()) => {}
+                Err(end) => return end,
+            }
+        }
+        unreachable!()
+    }
+
+    /// Reads from the link once, and executes the lines that end in what was read. If there is nothing yet, it checks whether the
     /// stage was stopped.
     fn serve_look<R: Wait, L: Link>(
         &self,
@@ -74,13 +92,13 @@ impl Connection<'_> {
         link: &mut L,
     ) -> Result<(), LinkEnd>
         requires ready { IsReady self.now }
-        requires of { pass.old.stage ≡ self.now.stage.now }
+        requires of { pass.old.stage ≡ self.now.server.stage.now }
         requires buffer { 0 < length buffer.old }
-        requires known { HasProgress self.now.config.now self.now.media.now session.old }
+        requires known { HasProgress self.now.server.config.now self.now.server.media.now session.old }
         requires going { session.old.ended ≡ false }
-        requires aimed { AreAimed self.now.config.now session.old.batch }
+        requires aimed { AreAimed self.now.server.config.now session.old.batch }
         requires running { stop_at pass.old.seen ≡ None }
-        ensures of { pass.new.stage ≡ self.now.stage.now }
+        ensures of { pass.new.stage ≡ self.now.server.stage.now }
         ensures takes { (past : Past) → past.service ≡ service_in self.now pass.old.number
             → IsBetweenLooks past (record { standing = record { pass = pass.old; link = L.state link.old }; session = session.old })
             → TakesRound past result (record { standing = record { pass = pass.new; link = L.state link.new }; session = session.new }) }
@@ -88,7 +106,7 @@ impl Connection<'_> {
         match link.read(buffer) {
             LinkStep::Got(count) => self.take_piece(rt, pass, session, &buffer[..count], link),
             LinkStep::End => Err(LinkEnd::Over),
-            LinkStep::Again => match self.stage.ended(rt, pass) {
+            LinkStep::Again => match self.server.stage.ended(rt, pass) {
                 None => Ok(()),
                 Some(at) => Err(LinkEnd::Ended { at }),
             },
@@ -96,7 +114,7 @@ impl Connection<'_> {
         }
     }
 
-    /// Feeds a piece to the session, and follows the step of each line.
+    /// Feeds a piece to the session, and executes the step of each line.
     fn take_piece<R: Wait, L: Link>(
         &self,
         rt: &R,
@@ -106,12 +124,12 @@ impl Connection<'_> {
         link: &mut L,
     ) -> Result<(), LinkEnd>
         requires ready { IsReady self.now }
-        requires of { pass.old.stage ≡ self.now.stage.now }
-        requires known { HasProgress self.now.config.now self.now.media.now session.old }
+        requires of { pass.old.stage ≡ self.now.server.stage.now }
+        requires known { HasProgress self.now.server.config.now self.now.server.media.now session.old }
         requires going { session.old.ended ≡ false }
-        requires aimed { AreAimed self.now.config.now session.old.batch }
+        requires aimed { AreAimed self.now.server.config.now session.old.batch }
         requires running { stop_at pass.old.seen ≡ None }
-        ensures of { pass.new.stage ≡ self.now.stage.now }
+        ensures of { pass.new.stage ≡ self.now.server.stage.now }
         ensures takes { (past : Past) → past.service ≡ service_in self.now pass.old.number
             → IsUnderWay (with_piece past piece.now []) (bytes_in past.rounds) (record { standing = record { pass = pass.old; link = L.state link.old }; session = session.old })
             → TakesPiece past piece.now result (record { standing = record { pass = pass.new; link = L.state link.new }; session = session.new }) }
@@ -119,7 +137,7 @@ impl Connection<'_> {
         let mut at = 0;
         for _ in rt.forever() {
             at += session.feed(&piece[at..]);
-            let step = session.next(self.alloc, self.config, self.media);
+            let step = session.next(self.server.alloc, self.server.config, self.server.media);
             if at == piece.len() && matches!(step, Step::NeedMore) {
                 return Ok(());
             }

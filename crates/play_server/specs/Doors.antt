@@ -5,7 +5,7 @@ use Rattle.play_types.specs.declared.event.Event.{Event}
 use Rattle.play_types.specs.declared.event.Tag.{Tag}
 use Rattle.play_outside.specs.Faults.{Rose, one_more}
 use Rattle.play_outside.specs.ListenerState.{ListenerState, ListenerTold}
-use Rattle.conn_worker.specs.Work.{Setting, Visit}
+use Rattle.conn_worker.specs.Work.{Setting, LinkRun}
 use Rattle.conn_worker.specs.declared.link_end.LinkEnd as link
 use Rattle.conn_worker.specs.declared.link_end.LinkEnd.TheVariants as ends
 use Rattle.conn_worker.specs.declared.work_end.TheConstants.{MAX_SESSIONS}
@@ -44,20 +44,20 @@ faults_after SessionsOver faults = faults
 module _ (L : Type 0) where
   -- the work at a door: the links that were served and given back, in order, and how it ended
   pub record DoorRun : Type 0 where
-    pub links : List (Visit L)
+    pub links : List (LinkRun L)
     pub end : WorkEnd
 
 module _ {L : Type 0} where
   -- of these links none was ended by a stop of another call, but for the last one
-  abbrev pub OnlyLastIsStopped : List (Visit L) → Type 0
+  abbrev pub OnlyLastIsStopped : List (LinkRun L) → Type 0
   OnlyLastIsStopped [] = Unit {0}
-  OnlyLastIsStopped (visit ∷ []) = Unit {0}
-  OnlyLastIsStopped (visit ∷ next ∷ visits) = (is_stopped visit.end ≡ false) × OnlyLastIsStopped (next ∷ visits)
+  OnlyLastIsStopped (link_run ∷ []) = Unit {0}
+  OnlyLastIsStopped (link_run ∷ next ∷ link_runs) = (is_stopped link_run.end ≡ false) × OnlyLastIsStopped (next ∷ link_runs)
 
   -- what a door tells after it was given these links back, and had answered Closed or not
   abbrev pub given_back : DoorRun L → ListenerTold L → ListenerTold L
   given_back run told = record {
-    returned = told.returned ++ map (λ (visit : Visit L). visit.line) run.links;
+    returned = told.returned ++ map (λ (link_run : LinkRun L). link_run.line) run.links;
     closed = told.closed || is_closed run.end;
   }
 
@@ -67,7 +67,7 @@ module _ {L : Type 0} where
       (0 < length run.links) ⊎ ((is_closed run.end ≡ true) ⊎ ((is_door_fault run.end ≡ true) ⊎ Rose before.idle after.idle))
 
   -- how the work at a door ended, by the history of the run
-  abbrev pub EndsByHistory : List Event → List (Visit L) → WorkEnd → Type 0
+  abbrev pub EndsByHistory : List Event → List (LinkRun L) → WorkEnd → Type 0
   EndsByHistory history links Closed = Unit {0}
   EndsByHistory history links (Ended at) = stop_at history ≡ Some at
   EndsByHistory history links DoorFault = Unit {0}

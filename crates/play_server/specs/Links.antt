@@ -10,7 +10,7 @@ use Rattle.play_outside.specs.Fresh.{IsNewSink}
 use Rattle.conn_worker.specs.Followed.{Service, events_of, steps_in, steps_of}
 use Rattle.conn_worker.specs.Rounds.{IsAfterFailure, after_rounds, bytes_in}
 use Rattle.conn_worker.specs.Explained.{AreInOrder, EndsBy, IsCaughtUp, Talk, covered}
-use Rattle.conn_worker.specs.Work.{Setting, Visit, service_of}
+use Rattle.conn_worker.specs.Work.{Setting, LinkRun, service_of}
 use Rattle.conn_worker.specs.declared.link_end.LinkEnd.{LinkEnd}
 
 -- whether an event has this tag: it is of this connection
@@ -30,7 +30,7 @@ pub record IsExplainedBy (service : Service) (history : List Event) (end : LinkE
   pub talk : Talk
   -- the steps that were followed are the first ones of the bytes that were read, in order
   pub steps : IsPrefix (steps_in (covered talk)) (steps_of service (covered talk) (bytes_in talk.rounds))
-  -- each step found a part of the history, which goes on with the step's event, where it has one
+  -- each step found a part of the history, which goes on with the step's event, if it has one
   pub order : AreInOrder service [] (covered talk) history
   -- the events of the history that are of this connection are just those of the steps, in order
   pub events : tagged service.tag history ≡ flat_map (events_of service) (covered talk)
@@ -39,7 +39,7 @@ pub record IsExplainedBy (service : Service) (history : List Event) (end : LinkE
   -- the link was called just so: look by look, and after each look the replies to its steps were written, in order; a failure comes
   -- after that
   pub link : IsAfterFailure service talk.failure (after_rounds service talk.rounds came) left
-  -- what the end tells, where the pass had seen a part of the history
+  -- what the end tells, if the pass had seen a part of the history
   pub ending : EndsBy service talk end
   pub seen : IsPrefix talk.pass.seen history
 
@@ -50,6 +50,6 @@ EachFrom Holds number (x ∷ xs) = Holds number x × EachFrom Holds (suc number)
 
 module _ {L : Type 0} where
   -- a link was new when it came, and is explained as the session of this number
-  pub record IsExplainedLink (setting : Setting L) (history : List Event) (number : ℕ) (visit : Visit L) : Type 0 where
-    pub new : IsNewSink visit.came
-    pub explained : IsExplainedBy (service_of setting number) history visit.end visit.came (setting.tells visit.line)
+  pub record IsExplainedLink (setting : Setting L) (history : List Event) (number : ℕ) (link_run : LinkRun L) : Type 0 where
+    pub new : IsNewSink link_run.came
+    pub explained : IsExplainedBy (service_of setting number) history link_run.end link_run.came (setting.tells link_run.line)

@@ -4,7 +4,7 @@ use Rattle.std.specs.List.{list_any}
 use Rattle.play_types.specs.Config.{ConfigView}
 use Rattle.play_outside.specs.Faults.{one_more}
 use Rattle.play_outside.specs.declared.devices.Devices.{Devices}
-use Rattle.play_server.specs.declared.planned_faults.PlannedFaults.{PlannedFaults}
+use Rattle.play_server.specs.declared.in_memory.planned_faults.PlannedFaults.{PlannedFaults}
 
 -- whether the next call is planned to fail
 abbrev pub fails_next : PlannedFaults → Bool

@@ -12,7 +12,7 @@ use Rattle.server_setup.specs.declared.fault.RunFault.TheVariants.{Usage, Config
 use Rattle.server_setup.specs.declared.setup.ServerSetup.{ServerSetup}
 use Rattle.play_server.specs.Run.{Program, Serves}
 use Rattle.play_server.specs.ServerWords.{ReadsWords}
-use Rattle.play_server.specs.Site.{AreReady, DeviceWords, IsNotReady, Says, ready_call}
+use Rattle.play_server.specs.Site.{AreReady, DeviceStates, IsNotReady, Says, ready_call}
 use Rattle.play_server.specs.SiteState.{SiteState, after_call, after_finish}
 use Rattle.play_server.specs.declared.served.ServeEnd.{ServeEnd}
 use Rattle.play_server.specs.declared.served.ServeEnd.TheVariants as serve
@@ -29,7 +29,7 @@ status_in (Err fault) = status_of fault
 abbrev pub program_of : ServerSetup → Program
 program_of setup = record { config = setup.config; media = setup.media }
 
--- what is asked for: a run on this configuration and these clips, with this file of the history, where there is one
+-- what is asked for: a run on this configuration and these clips, with this file of the history, if there is one
 pub record Asked : Type 0 where
   pub program : Program
   pub path : Option (List ℕ)
@@ -55,7 +55,7 @@ module _ (C D O : Type 0) where
     pub site : SiteState C D O
 
 module _ {C D O : Type 0} where
-  -- the line of a fault was said; or not at all, where it has a name or a number and memory ran out for it
+  -- the line of a fault was said; or not at all, if it has a name or a number and memory ran out for it
   pub record SaysLine (fault : RunFault) (before after : SiteState C D O) : Type 0 where
     pub line : List ℕ
     pub line_is : line ++ 10 ∷ [] ≡ fault_line fault
@@ -68,7 +68,7 @@ module _ {C D O : Type 0} where
 
 module _ {C D O L : Type 0} where
   -- devices were taken for such a run, served, and finished
-  pub record ServesOn (device : DeviceWords C D O L) (tells : L → SinkState) (asked : Asked) (end : ServeEnd) (moments : SiteState C D O × SiteState C D O) : Type 0 where
+  pub record ServesOn (device : DeviceStates C D O L) (tells : L → SinkState) (asked : Asked) (end : ServeEnd) (moments : SiteState C D O × SiteState C D O) : Type 0 where
     pub given : Devices C D O
     pub finished : Devices C D O
     pub ready : AreReady device asked.program.config given
@@ -77,7 +77,7 @@ module _ {C D O L : Type 0} where
 
   -- what a run on a configuration and clips came to: no device failed; or a device failed in the run, or the site gave no devices; or
   -- memory ran out, before the run or for the devices
-  abbrev pub RunsOn : DeviceWords C D O L → (L → SinkState) → Asked → Result (Unit {0}) RunFault → SiteState C D O × SiteState C D O → Type 0
+  abbrev pub RunsOn : DeviceStates C D O L → (L → SinkState) → Asked → Result (Unit {0}) RunFault → SiteState C D O × SiteState C D O → Type 0
   RunsOn device tells asked (Ok done) moments = ServesOn device tells asked serve.Ended moments
   RunsOn device tells asked (Err Device) moments =
       ServesOn device tells asked serve.DeviceFault moments
@@ -94,29 +94,29 @@ module _ {C D O L : Type 0} where
   RunsOn device tells asked (Err (MediaTotal total)) moments = ⊥
 
   -- after setting up: the run, or the fault of the configuration or the clips, and no call of the site
-  abbrev pub RunsSetUp : DeviceWords C D O L → (L → SinkState) → Result Asked RunFault → Result (Unit {0}) RunFault → SiteState C D O × SiteState C D O → Type 0
+  abbrev pub RunsSetUp : DeviceStates C D O L → (L → SinkState) → Result Asked RunFault → Result (Unit {0}) RunFault → SiteState C D O × SiteState C D O → Type 0
   RunsSetUp device tells (Ok asked) result moments = RunsOn device tells asked result moments
   RunsSetUp device tells (Err fault) result moments = (result ≡ Err fault) × (moments.1 ≡ moments.0)
 
   -- with words that were accepted the configuration and the clips are read, and then the server runs
-  pub record RunsAccepted (device : DeviceWords C D O L) (tells : L → SinkState) (named : ServerWords) (result : Result (Unit {0}) RunFault) (moments : AtSite C D O × AtSite C D O) : Type 0 where
+  pub record RunsAccepted (device : DeviceStates C D O L) (tells : L → SinkState) (named : ServerWords) (result : Result (Unit {0}) RunFault) (moments : AtSite C D O × AtSite C D O) : Type 0 where
     pub setup : Result ServerSetup RunFault
     pub sets_up : SetsUp (string_bytes named.config) setup moments.0.folder moments.1.folder
     pub runs : RunsSetUp device tells (asked_in setup (option_map string_bytes named.journal)) result (moments.0.site, moments.1.site)
 
   -- after the words were read: they are refused, or memory ran out, and nothing else was called; or they name a run
-  abbrev pub RunsWords : DeviceWords C D O L → (L → SinkState) → Result ServerWords WordsFault → Result (Unit {0}) RunFault → AtSite C D O × AtSite C D O → Type 0
+  abbrev pub RunsWords : DeviceStates C D O L → (L → SinkState) → Result ServerWords WordsFault → Result (Unit {0}) RunFault → AtSite C D O × AtSite C D O → Type 0
   RunsWords device tells (Ok named) result moments = RunsAccepted device tells named result moments
   RunsWords device tells (Err fault) result moments = (result ≡ Err (fault_of_words fault)) × (moments.1 ≡ moments.0)
 
   -- the words are read, and then the server runs as they say. The first word of the line is the program's name
-  pub record RunsLine (device : DeviceWords C D O L) (tells : L → SinkState) (line : List (List ℕ)) (result : Result (Unit {0}) RunFault) (moments : AtSite C D O × AtSite C D O) : Type 0 where
+  pub record RunsLine (device : DeviceStates C D O L) (tells : L → SinkState) (line : List (List ℕ)) (result : Result (Unit {0}) RunFault) (moments : AtSite C D O × AtSite C D O) : Type 0 where
     pub read : Result ServerWords WordsFault
     pub reads : ReadsWords line read
     pub runs : RunsWords device tells read result moments
 
   -- the whole program, from the site before it to the site after it
-  pub record RunsServer (device : DeviceWords C D O L) (tells : L → SinkState) (line : List (List ℕ)) (status : ℕ) (moments : AtSite C D O × AtSite C D O) : Type 0 where
+  pub record RunsServer (device : DeviceStates C D O L) (tells : L → SinkState) (line : List (List ℕ)) (status : ℕ) (moments : AtSite C D O × AtSite C D O) : Type 0 where
     -- what the run came to, and the site after it
     pub result : Result (Unit {0}) RunFault
     pub between : AtSite C D O

@@ -23,7 +23,7 @@ use Rattle.play_ticker.specs.Ends.{clock_at_end}
 use Rattle.play_ticker.specs.Outputs.{EachOutput, IsWritten}
 use Rattle.play_ticker.specs.declared.ending.TickEnd.{TickEnd}
 use Rattle.play_ticker.specs.declared.ending.TickEnd.TheVariants.{ClockClosed, Ended, TicksOver, ClockFault, OutFault}
-use Rattle.play_server.specs.Site.{DeviceWords}
+use Rattle.play_server.specs.Site.{DeviceStates}
 use Rattle.play_server.specs.Doors.{DoorRun, EachDoor, HasServed, IsTagOfLink, is_door_fault}
 use Rattle.play_server.specs.declared.served.ServeEnd.{ServeEnd}
 use Rattle.play_server.specs.declared.served.ServeEnd.TheVariants as serve
@@ -84,7 +84,7 @@ is_found TicksOver = false
 is_found ClockFault = false
 is_found (OutFault channel) = false
 
--- who made the stop: a connection, or the server itself, where the pulses ended for another cause or a door failed
+-- who made the stop: a connection, or the server itself, if the pulses ended for another cause or a door failed
 abbrev pub IsStoppedBy : {L : Type 0} → TickEnd → List (DoorRun L) → Tag → Type 0
 IsStoppedBy {L} ticker runs tag =
     (tag ≡ server → (is_found ticker ≡ false) ⊎ (list_any (λ (run : DoorRun L). is_door_fault run.end) runs ≡ true))
@@ -94,14 +94,14 @@ abbrev pub has_device_fault : {L : Type 0} → TickEnd → List (DoorRun L) → 
 has_device_fault {L} ticker runs written =
     is_tick_fault ticker || (list_any (λ (run : DoorRun L). is_door_fault run.end) runs || is_cut written)
 
--- a run ends so where a device failed, or none
+-- a run ends so if a device failed, or none
 abbrev pub ends_so : Bool → ServeEnd
 ends_so true = serve.DeviceFault
 ends_so false = serve.Ended
 
 module _ {C D O L : Type 0} where
   -- a run, from the devices that it was given to those that it gives back
-  pub record HasRun (words : DeviceWords C D O L) (tells : L → SinkState) (program : Program) (end : ServeEnd) (devices : Devices C D O × Devices C D O) : Type 0 where
+  pub record HasRun (words : DeviceStates C D O L) (tells : L → SinkState) (program : Program) (end : ServeEnd) (devices : Devices C D O × Devices C D O) : Type 0 where
     -- the history, how the pulses ended, the work at each door, and whether the text was written
     pub history : List Event
     pub ticker : TickEnd
@@ -120,7 +120,7 @@ module _ {C D O L : Type 0} where
     -- each output took the frames of its channel at all ticks of the history
     pub outs : EachOutput (λ channel before after. IsWritten ticker (record { setup = setup_of program; history = history }) channel (words.out before) (words.out after))
         1 devices.0.outs.items devices.1.outs.items
-    -- a pulse was taken for each tick, and one more where a tick was refused
+    -- a pulse was taken for each tick, and one more if a tick was refused
     pub clock : words.clock devices.1.clock ≡ clock_at_end ticker (ticks history) (words.clock devices.0.clock)
     pub pulses : TicksEndBy (length program.config.channels) history ticker
     -- the text of the history was written, or a prefix of it
@@ -128,7 +128,7 @@ module _ {C D O L : Type 0} where
     pub ending : end ≡ ends_so (has_device_fault ticker runs written)
 
   -- what serving did: it took no device for a run, out of memory, or there was a run
-  abbrev pub Serves : DeviceWords C D O L → (L → SinkState) → Program → ServeEnd → Devices C D O × Devices C D O → Type 0
+  abbrev pub Serves : DeviceStates C D O L → (L → SinkState) → Program → ServeEnd → Devices C D O × Devices C D O → Type 0
   Serves words tells program serve.Ended devices = HasRun words tells program serve.Ended devices
   Serves words tells program serve.DeviceFault devices = HasRun words tells program serve.DeviceFault devices
   Serves words tells program serve.OutOfMemory devices = devices.1 ≡ devices.0

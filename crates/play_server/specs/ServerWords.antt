@@ -35,7 +35,7 @@ bare_app = on_top (λ settings. record settings { disable_help_flag = true; disa
 abbrev pub playd_app : App
 playd_app = with_rule (with_rule (with_rule bare_app config_rule) workers_rule) journal_rule
 
--- the number of workers that was given, which is 1 to 64, and 1 where none was given
+-- the number of workers that was given, which is 1 to 64, and 1 if none was given
 abbrev pub workers_in : List Row → ℕ
 workers_in rows = option_map_or (λ text. max 1 (min (byte_or_zero text) 64)) (first_of (codes "workers") rows) 1
 

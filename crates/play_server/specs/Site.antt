@@ -14,10 +14,14 @@ use Rattle.play_server.specs.SiteState.{SiteState, after_call, after_site_fault,
 use Rattle.play_server.specs.declared.site.ReadyCall.{ReadyCall}
 
 -- how clocks, doors and outputs are read: what each of them tells
-pub record DeviceWords (C D O L : Type 0) : Type 0 where
+pub record DeviceStates (C D O L : Type 0) : Type 0 where
   pub clock : C → ClockState
   pub door : D → ListenerState L
   pub out : O → SinkState
+
+-- how the clock, the doors and the outputs of a run are read
+abbrev pub device_states : {C D O L : Type 0} → (C → ClockState) → (D → ListenerState L) → (O → SinkState) → DeviceStates C D O L
+device_states clock door out = record { clock = clock; door = door; out = out }
 
 -- a clock that is fresh and has not failed
 abbrev pub IsNewClock : ClockState → Type 0
@@ -33,7 +37,7 @@ AreNumbered {X} mark xs = (at : ℕ) (other : X) → at < length xs → mark (sl
 
 -- the clock, the doors and the outputs are fresh and without faults, and marked: the doors and the outputs by their places
 -- from 1 on, and the output for the history by 0
-pub record AreNew {C D O L : Type 0} (words : DeviceWords C D O L) (devices : Devices C D O) : Type 0 where
+pub record AreNew {C D O L : Type 0} (words : DeviceStates C D O L) (devices : Devices C D O) : Type 0 where
   pub clock : IsNewClock (words.clock devices.clock)
   pub doors : All (λ door. IsNewDoor (words.door door)) devices.doors.items
   pub door_marks : AreNumbered (λ door. (words.door door).mark) devices.doors.items
@@ -43,7 +47,7 @@ pub record AreNew {C D O L : Type 0} (words : DeviceWords C D O L) (devices : De
   pub history_mark : (words.out devices.history).mark ≡ 0
 
 -- the devices are new, with a door for each connection of the configuration and an output for each channel
-pub record AreReady {C D O L : Type 0} (words : DeviceWords C D O L) (config : ConfigView) (devices : Devices C D O) : Type 0 where
+pub record AreReady {C D O L : Type 0} (words : DeviceStates C D O L) (config : ConfigView) (devices : Devices C D O) : Type 0 where
   pub new : AreNew words devices
   pub doors : vec_len devices.doors ≡ config.connections
   pub outs : vec_len devices.outs ≡ length config.channels

@@ -17,7 +17,7 @@ use Rattle.play_server.specs.Doors.{IsTagOfLink}
 use Rattle.play_server.specs.Program.{AtSite, SaysLine, ServesOn, asked_of}
 use Rattle.play_server.specs.Run.{HasRun, Program}
 use Rattle.play_server.specs.ServerWords.{Accepts, playd_app}
-use Rattle.play_server.specs.Site.{DeviceWords}
+use Rattle.play_server.specs.Site.{DeviceStates}
 use Rattle.play_server.specs.SiteState.{SiteState}
 use Rattle.play_server.specs.declared.served.ServeEnd.{ServeEnd}
 use Rattle.play_server.specs.declared.served.ServeEnd.TheVariants as serve
@@ -62,7 +62,7 @@ module _ {C D O : Type 0} where
 
 module _ {C D O L : Type 0} where
   -- the count of faults of the clock, of a door, of an output or of the output for the history rose
-  abbrev pub ADeviceFails : DeviceWords C D O L → Devices C D O → Devices C D O → Type 0
+  abbrev pub ADeviceFails : DeviceStates C D O L → Devices C D O → Devices C D O → Type 0
   ADeviceFails device given finished =
       Rose (device.clock given.clock).faults (device.clock finished.clock).faults
       ⊎ (AnyRose (λ door. (device.door door).faults) given.doors.items finished.doors.items
@@ -70,14 +70,14 @@ module _ {C D O L : Type 0} where
       ⊎ Rose (device.out given.history).faults (device.out finished.history).faults))
 
   -- the counts of faults of all devices are as they were
-  pub record NoDeviceFails (device : DeviceWords C D O L) (given finished : Devices C D O) : Type 0 where
+  pub record NoDeviceFails (device : DeviceStates C D O L) (given finished : Devices C D O) : Type 0 where
     pub clock : (device.clock finished.clock).faults ≡ (device.clock given.clock).faults
     pub doors : AllStay (λ door. (device.door door).faults) given.doors.items finished.doors.items
     pub outs : AllStay (λ out. (device.out out).faults) given.outs.items finished.outs.items
     pub history : (device.out finished.history).faults ≡ (device.out given.history).faults
 
   -- what stopped a run in which no device failed: a client, the clock that was closed, or the last tick that there may be
-  abbrev pub IsStopped : {device : DeviceWords C D O L} {tells : L → SinkState} {program : Program} {end : ServeEnd} {devices : Devices C D O × Devices C D O}
+  abbrev pub IsStopped : {device : DeviceStates C D O L} {tells : L → SinkState} {program : Program} {end : ServeEnd} {devices : Devices C D O × Devices C D O}
       → HasRun device tells program end devices → Type 0
   IsStopped {device} {devices = devices} run =
       IsTagOfLink 1 run.runs run.stopped.tag
@@ -86,7 +86,7 @@ module _ {C D O L : Type 0} where
 
   -- the words were accepted, a server was set up as they say, and there was a run on the devices that the site gave for it, which
   -- ended so
-  pub record HasServedClients (device : DeviceWords C D O L) (tells : L → SinkState) (line : List (List ℕ)) (end : ServeEnd) (moments : AtSite C D O × AtSite C D O) : Type 0 where
+  pub record HasServedClients (device : DeviceStates C D O L) (tells : L → SinkState) (line : List (List ℕ)) (end : ServeEnd) (moments : AtSite C D O × AtSite C D O) : Type 0 where
     pub named : ServerWords
     pub accepted : Accepts line named
     pub setup : ServerSetup
@@ -96,14 +96,14 @@ module _ {C D O L : Type 0} where
     pub served : ServesOn device tells (asked_of setup (option_map string_bytes named.journal)) end (moments.0.site, site)
 
   -- something failed: the folder, the site, or in the run a device
-  abbrev pub SomethingFails : DeviceWords C D O L → (L → SinkState) → List (List ℕ) → AtSite C D O × AtSite C D O → Type 0
+  abbrev pub SomethingFails : DeviceStates C D O L → (L → SinkState) → List (List ℕ) → AtSite C D O × AtSite C D O → Type 0
   SomethingFails device tells line moments =
       Rose moments.0.folder.faults moments.1.folder.faults
       ⊎ (Rose moments.0.site.faults moments.1.site.faults
       ⊎ ((run : HasServedClients device tells line serve.DeviceFault moments) × ADeviceFails device run.served.given run.served.finished))
 
   -- a run ended without a fault of anything
-  pub record EndsWell (device : DeviceWords C D O L) (tells : L → SinkState) (line : List (List ℕ)) (moments : AtSite C D O × AtSite C D O) : Type 0 where
+  pub record EndsWell (device : DeviceStates C D O L) (tells : L → SinkState) (line : List (List ℕ)) (moments : AtSite C D O × AtSite C D O) : Type 0 where
     pub run : HasServedClients device tells line serve.Ended moments
     pub stopped : IsStopped run.served.serves
     pub devices : NoDeviceFails device run.served.given run.served.finished
@@ -111,29 +111,29 @@ module _ {C D O L : Type 0} where
     pub site : moments.1.site.faults ≡ moments.0.site.faults
 
   -- memory ran out, and no call was made on a device: the site gave none, or it was given back what it gave. Then a line was said
-  abbrev pub EndsUncalled : DeviceWords C D O L → (L → SinkState) → List (List ℕ) → AtSite C D O × AtSite C D O → Type 0
+  abbrev pub EndsUncalled : DeviceStates C D O L → (L → SinkState) → List (List ℕ) → AtSite C D O × AtSite C D O → Type 0
   EndsUncalled device tells line moments =
       SaysLine fault.OutOfMemory moments.0.site moments.1.site
       ⊎ ((run : HasServedClients device tells line serve.OutOfMemory moments)
       × (run.served.finished ≡ run.served.given) × SaysLine fault.OutOfMemory run.site moments.1.site)
 
   -- the exit status of a call of the program has its cause
-  pub record HasItsCause (words : DeviceWords C D O L) (tells : L → SinkState) (line : List (List ℕ)) (status : ℕ) (moments : AtSite C D O × AtSite C D O) : Type 0 where
+  pub record HasItsCause (words : DeviceStates C D O L) (tells : L → SinkState) (line : List (List ℕ)) (status : ℕ) (moments : AtSite C D O × AtSite C D O) : Type 0 where
     pub most : status ≤ 5
-    -- 1 comes only where `clap` refuses the words, and then the status is 1, or 5 where memory ran out
+    -- 1 comes only if `clap` refuses the words, and then the status is 1, or 5 if memory ran out
     pub usage : status ≡ 1 → fault_of playd_app line ≢ []
     pub refused : fault_of playd_app line ≢ [] → (status ≡ 1) ⊎ (status ≡ 5)
-    -- 2 comes only where the configuration is refused, and 3 only where the clips are
+    -- 2 comes only if the configuration is refused, and 3 only if the clips are
     pub config : status ≡ 2 → RefusesConfig line moments
     pub clips : status ≡ 3 → RefusesClips line moments
-    -- 4 comes only where a count of faults rose: of the folder, of the site, or of a device in the run
+    -- 4 comes only if a count of faults rose: of the folder, of the site, or of a device in the run
     pub device : status ≡ 4 → SomethingFails words tells line moments
-    -- 5 comes only where memory ran out, and no call was made on a device
+    -- 5 comes only if memory ran out, and no call was made on a device
     pub memory : status ≡ 5 → EndsUncalled words tells line moments
     -- 0 comes only after a run in which nothing failed
     pub success : status ≡ 0 → EndsWell words tells line moments
-    -- where the words are accepted and the folder tells its files, in which there is no fault, the status is 0, or 5, or a count rose
+    -- if the words are accepted and the folder tells its files, in which there is no fault, the status is 0, or 5, or a count rose
     pub valid : HasFirstFault line None moments.0.folder → (status ≡ 0) ⊎ ((status ≡ 5) ⊎ ((status ≡ 4) × SomethingFails words tells line moments))
-    -- and where there is one, the first decides, unless a read of the folder failed or memory ran out
+    -- and if there is one, the first decides, unless a read of the folder failed or memory ran out
     pub invalid : (found : RunFault) → HasFirstFault line (Some found) moments.0.folder
         → (status ≡ status_of found) ⊎ ((status ≡ 5) ⊎ ((status ≡ 4) × Rose moments.0.folder.faults moments.1.folder.faults))

@@ -6,7 +6,7 @@ use Rattle.play_outside.specs.SinkState.{SinkState}
 use Rattle.play_outside.specs.ClockState.{ClockState}
 use Rattle.play_outside.specs.Fresh.{IsNewSink}
 use Rattle.play_outside.specs.declared.devices.Devices.{Devices}
-use Rattle.play_server.specs.Site.{DeviceWords, IsNewClock, AreNumbered}
+use Rattle.play_server.specs.Site.{DeviceStates, IsNewClock, AreNumbered}
 
 -- a door was given back nothing, has no link out, has not answered Closed, and has not failed
 abbrev pub IsUnusedDoor : {L : Type 0} → ListenerState L → Type 0
@@ -14,7 +14,7 @@ IsUnusedDoor state =
     IfSome state.told (λ told. (length told.returned ≡ 0) × (told.closed ≡ false)) × (state.away ≡ 0) × (state.faults ≡ 0)
 
 -- the devices are fresh and without faults, and marked by their places
-pub record AreUnused {C D O L : Type 0} (words : DeviceWords C D O L) (devices : Devices C D O) : Type 0 where
+pub record AreUnused {C D O L : Type 0} (words : DeviceStates C D O L) (devices : Devices C D O) : Type 0 where
   pub clock : IsNewClock (words.clock devices.clock)
   pub doors : All (λ door. IsUnusedDoor (words.door door)) devices.doors.items
   pub door_marks : AreNumbered (λ door. (words.door door).mark) devices.doors.items
@@ -33,5 +33,5 @@ door-prop : {L : Type 0} (state : ListenerState L) → IsProp (IsUnusedDoor stat
 door-prop state = hlevel props
 
 -- that devices are unused has at most one proof
-pub unused-prop : {C D O L : Type 0} (words : DeviceWords C D O L) (devices : Devices C D O) → IsProp (AreUnused words devices)
+pub unused-prop : {C D O L : Type 0} (words : DeviceStates C D O L) (devices : Devices C D O) → IsProp (AreUnused words devices)
 unused-prop words devices = hlevel (props, clock-prop, sink-prop, door-prop)

@@ -8,7 +8,7 @@ use Rattle.play_server.specs.ServerWords.{playd_app, workers_in}
 abbrev pub line : List String → List (List ℕ)
 line words = codes "playd" ∷ map codes words
 
--- why the words are refused; nothing where they are accepted
+-- why the words are refused; nothing if they are accepted
 abbrev pub faults : List String → Kinds
 faults words = fault_of playd_app (line words)
 

@@ -1,3 +1,3 @@
 pub mod ServerCommand
-pub mod Places
-pub mod Beside
+pub mod Workers
+pub mod Threads

@@ -14,11 +14,12 @@ ghost use Rattle.history_replay.specs.Replay.{IsPlayout, IsReplayable, NamesShor
 ghost use Rattle.history_replay.specs.ReplayOutput.{history_output};
 ghost use Rattle.conn_worker.specs.Explained.{covered};
 ghost use Rattle.conn_worker.specs.Followed.{Followed, events_of};
-ghost use Rattle.conn_worker.specs.Work.{Visit, service_of};
+ghost use Rattle.conn_worker.specs.Work.{LinkRun, service_of};
 ghost use Rattle.play_server.specs.Links.{IsExplainedLink};
 ghost use Rattle.play_server.specs.Program.{AtSite, program_of};
 ghost use Rattle.play_server.specs.Replay.{IsAnsweredAgain, IsOpenedAgain, IsShownAgain, playout_of};
 ghost use Rattle.play_server.specs.Run.{HasRun, Program, setting_of};
+ghost use Rattle.play_server.specs.Site.{device_states};
 ghost use Rattle.play_server.specs.Statuses.{HasServedClients};
 ghost use Rattle.play_server.specs.declared.served.ServeEnd.{ServeEnd};
 ghost use Rattle.play_server.specs.declared.served.ServeEnd.TheVariants as serve;
@@ -28,27 +29,27 @@ use play_outside::{Clock, Listener, Sink};
 /// The history of each run can be played again from its text.
 ///
 /// There are as many doors as the configuration has connections, and the name of each clip that the history names is short enough to
-/// be printed in a line. The text is what the
-/// output for the history has taken, where it was new and did not fail. Each run of the text as a script on the same configuration
-/// and clips, of which no reply says that memory ran out, has the history of the first run, and writes its answers and its frames.
+/// be printed in a line. The text is what the output for the history has taken, if it was new and did not fail. Each run of the text
+/// as a script on the same configuration and clips, of which no reply says that memory ran out, has the history of the first run,
+/// and writes its answers and its frames.
 pub fn runs_are_played_again<C: Clock, D: Listener, O: Sink>()
     ensures replayable { (program : Program) (end : ServeEnd) (devices : Devices C D O × Devices C D O) (digests : Bool)
-        (run : HasRun (record { clock = C.state; door = D.state; out = O.state }) D.Line.state program end devices) →
+        (run : HasRun (device_states C.state D.state O.state) D.Line.state program end devices) →
         length devices.0.doors.items ≡ program.config.connections → IsPlayout (playout_of program digests) →
         All (NamesShortClips (media_names program.media)) run.history → IsReplayable (playout_of program digests) run.history }
     ensures text { (program : Program) (end : ServeEnd) (devices : Devices C D O × Devices C D O)
-        (run : HasRun (record { clock = C.state; door = D.state; out = O.state }) D.Line.state program end devices) →
+        (run : HasRun (device_states C.state D.state O.state) D.Line.state program end devices) →
         IsNewSink (O.state devices.0.history) → run.written ≡ sent.All →
         (text : List ℕ) → (O.state devices.1.history).taken ≡ Some text → text ≡ history_text (media_names program.media) run.history }
     ensures again { (program : Program) (end : ServeEnd) (devices : Devices C D O × Devices C D O) (digests : Bool)
-        (run : HasRun (record { clock = C.state; door = D.state; out = O.state }) D.Line.state program end devices) →
+        (run : HasRun (device_states C.state D.state O.state) D.Line.state program end devices) →
         length devices.0.doors.items ≡ program.config.connections → IsPlayout (playout_of program digests) →
         All (NamesShortClips (media_names program.media)) run.history →
         (played : List PlayedLine) → lines_played played ≡ script_of (history_text (media_names program.media) run.history) →
         HasMemory (playout_of program digests) played →
         script_events (playout_of program digests) played ≡ run.history }
     ensures output { (program : Program) (end : ServeEnd) (devices : Devices C D O × Devices C D O) (digests : Bool)
-        (run : HasRun (record { clock = C.state; door = D.state; out = O.state }) D.Line.state program end devices) →
+        (run : HasRun (device_states C.state D.state O.state) D.Line.state program end devices) →
         length devices.0.doors.items ≡ program.config.connections → IsPlayout (playout_of program digests) →
         All (NamesShortClips (media_names program.media)) run.history →
         (played : List PlayedLine) → lines_played played ≡ script_of (history_text (media_names program.media) run.history) →
@@ -56,25 +57,25 @@ pub fn runs_are_played_again<C: Clock, D: Listener, O: Sink>()
         script_output (playout_of program digests) played ≡ history_output (playout_of program digests) run.history }
 {}
 
-/// The replies of a run are written again where its text is played.
+/// The replies of a run are written again if its text is played.
 ///
 /// What is written for a history has, for each step of a link that made an event, the reply that the step had, after what is
-/// written for the events before. Where the event is a batch this is the reply to COMMIT; before it stand those that the client
+/// written for the events before. If the event is a batch this is the reply to COMMIT; before it stand those that the client
 /// had to BEGIN and to the commands of the batch.
 pub fn answers_are_written_again<D: Listener>()
-    ensures answers { (program : Program) (worker session : ℕ) (history : List Event) (visit : Visit D.Line) (digests : Bool)
-        (link : IsExplainedLink (setting_of program D.Line.state worker) history session visit) → 1 ≤ worker →
+    ensures answers { (program : Program) (worker session : ℕ) (history : List Event) (link_run : LinkRun D.Line) (digests : Bool)
+        (link : IsExplainedLink (setting_of program D.Line.state worker) history session link_run) → 1 ≤ worker →
         All (λ one. (event : Event) → events_of (service_of (setting_of program D.Line.state worker) session) one ≡ event ∷ [] →
         IsAnsweredAgain (playout_of program digests) (service_of (setting_of program D.Line.state worker) session) history one event)
         (covered link.explained.talk) }
-    ensures openings { (program : Program) (worker session : ℕ) (history : List Event) (visit : Visit D.Line) (digests : Bool)
-        (link : IsExplainedLink (setting_of program D.Line.state worker) history session visit) →
+    ensures openings { (program : Program) (worker session : ℕ) (history : List Event) (link_run : LinkRun D.Line) (digests : Bool)
+        (link : IsExplainedLink (setting_of program D.Line.state worker) history session link_run) →
         (before later : List Followed) (one : Followed) (event : Event) → covered link.explained.talk ≡ before ++ one ∷ later →
         events_of (service_of (setting_of program D.Line.state worker) session) one ≡ event ∷ [] →
         IsOpenedAgain (playout_of program digests) (service_of (setting_of program D.Line.state worker) session) before event }
 {}
 
-/// The frames of a run are written again where its text is played.
+/// The frames of a run are written again if its text is played.
 ///
 /// What is written for a history has, for each tick, the frames of all channels after what is written for the events before. Their
 /// bytes are those that the outputs take at this tick.
@@ -85,23 +86,23 @@ pub fn frames_are_written_again()
 
 /// So it is with each run of the program that ends with status 0.
 ///
-/// The site gave a door for each connection, and a new output for the history. Where this output tells its bytes, it holds the text
+/// The site gave a door for each connection, and a new output for the history. If this output tells its bytes, it holds the text
 /// of the history. Each run of the text as a script on the same configuration and clips, of which no reply says that memory ran out,
 /// has the history of the run, and writes its answers and its frames.
 pub fn programs_are_played_again<C: Clock, D: Listener, O: Sink>()
     ensures text { (line : List (List ℕ)) (moments : AtSite C D O × AtSite C D O)
-        (run : HasServedClients (record { clock = C.state; door = D.state; out = O.state }) D.Line.state line serve.Ended moments) →
+        (run : HasServedClients (device_states C.state D.state O.state) D.Line.state line serve.Ended moments) →
         (text : List ℕ) → (O.state run.served.finished.history).taken ≡ Some text →
         text ≡ history_text (media_names run.setup.media) run.served.serves.history }
     ensures again { (line : List (List ℕ)) (moments : AtSite C D O × AtSite C D O) (digests : Bool)
-        (run : HasServedClients (record { clock = C.state; door = D.state; out = O.state }) D.Line.state line serve.Ended moments) →
+        (run : HasServedClients (device_states C.state D.state O.state) D.Line.state line serve.Ended moments) →
         IsPlayout (playout_of (program_of run.setup) digests) →
         All (NamesShortClips (media_names run.setup.media)) run.served.serves.history →
         (played : List PlayedLine) → lines_played played ≡ script_of (history_text (media_names run.setup.media) run.served.serves.history) →
         HasMemory (playout_of (program_of run.setup) digests) played →
         script_events (playout_of (program_of run.setup) digests) played ≡ run.served.serves.history }
     ensures output { (line : List (List ℕ)) (moments : AtSite C D O × AtSite C D O) (digests : Bool)
-        (run : HasServedClients (record { clock = C.state; door = D.state; out = O.state }) D.Line.state line serve.Ended moments) →
+        (run : HasServedClients (device_states C.state D.state O.state) D.Line.state line serve.Ended moments) →
         IsPlayout (playout_of (program_of run.setup) digests) →
         All (NamesShortClips (media_names run.setup.media)) run.served.serves.history →
         (played : List PlayedLine) → lines_played played ≡ script_of (history_text (media_names run.setup.media) run.served.serves.history) →

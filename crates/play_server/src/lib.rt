@@ -5,26 +5,20 @@
 //! worker for each door over the devices, and [`serve_main`] is the whole program.
 #![tactic(auto)]
 
-mod copies;
-mod desk;
+mod connection_workers;
 pub mod examples;
-mod floor;
 mod history;
-mod kept;
+mod in_memory;
 pub mod laws;
-mod mem_site;
-mod plain_site;
-mod planned_faults;
 mod program;
-mod room;
+mod run_memory;
 mod served;
 mod serving;
 mod site;
+mod ticker_thread;
 mod words;
-mod workers;
 
-pub use mem_site::MemSite;
-pub use plain_site::PlainSite;
+pub use in_memory::{MemSite, PlainSite};
 pub use program::serve_main;
 pub use served::{ServeEnd, Served};
 pub use serving::serve;

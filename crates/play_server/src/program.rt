@@ -1,14 +1,14 @@
 //! The program: the words, the folder, the devices and the exit status.
 ghost use Rattle.std.specs.Prelude.{◌≡◌, ◌≤◌, ◌∷◌, Err, codes, map, option_map, string_bytes};
 ghost use Rattle.play_server.specs.Program.{RunsLine, RunsOn, RunsServer, SaysLine, asked_of, fault_of_words};
+ghost use Rattle.play_server.specs.Site.{device_states};
 ghost use Rattle.play_server.specs.Statuses.{HasItsCause};
 
 use crate::served::{ServeEnd, Served};
 use crate::serving::serve;
 use crate::site::Site;
 use crate::words::{ServerWords, WordsFault};
-use server_setup::laws::first_fault_decides;
-use server_setup::{RunFault, ServerSetup, set_up};
+use server_setup::{RunFault, ServerSetup, laws, set_up};
 use std::alloc::Global;
 use std::sync::Wait;
 use std::thread::Threads;
@@ -30,25 +30,25 @@ use std::thread::Threads;
 /// | 5 | memory ran out before a call was made on a device | `E memory` |
 ///
 /// The devices are finished whatever the end of the run was. A line with a
-/// name or a number is not said where memory runs out for it, and a line that could not be said changes no status.
+/// name or a number is not said if memory runs out for it, and a line that could not be said changes no status.
 pub fn serve_main<R: Threads + Wait + Sync, E: Site>(
     rt: &R,
     alloc: Global,
     words: &[String],
     site: &mut E,
 ) -> u8
-    ensures runs { RunsServer (record { clock = E.Clock.state; door = E.Door.state; out = E.Out.state }) E.Door.Line.state
+    ensures runs { RunsServer (device_states E.Clock.state E.Door.state E.Out.state) E.Door.Line.state
         (codes "playd" ∷ map string_bytes words.now) result (
           record { folder = E.Media.state (E.folder site.old); site = E.state site.old },
           record { folder = E.Media.state (E.folder site.new); site = E.state site.new },
         ) }
-    ensures causes { HasItsCause (record { clock = E.Clock.state; door = E.Door.state; out = E.Out.state }) E.Door.Line.state
+    ensures causes { HasItsCause (device_states E.Clock.state E.Door.state E.Out.state) E.Door.Line.state
         (codes "playd" ∷ map string_bytes words.now) result (
           record { folder = E.Media.state (E.folder site.old); site = E.state site.old },
           record { folder = E.Media.state (E.folder site.new); site = E.state site.new },
         ) }
 {
-    first_fault_decides();
+    laws::first_fault_decides();
     serve_and_say(rt, alloc, words, site)
 }
 
@@ -59,7 +59,7 @@ fn serve_and_say<R: Threads + Wait + Sync, E: Site>(
     words: &[String],
     site: &mut E,
 ) -> u8
-    ensures { RunsServer (record { clock = E.Clock.state; door = E.Door.state; out = E.Out.state }) E.Door.Line.state
+    ensures { RunsServer (device_states E.Clock.state E.Door.state E.Out.state) E.Door.Line.state
         (codes "playd" ∷ map string_bytes words.now) result (
           record { folder = E.Media.state (E.folder site.old); site = E.state site.old },
           record { folder = E.Media.state (E.folder site.new); site = E.state site.new },
@@ -81,7 +81,7 @@ fn serve_words<R: Threads + Wait + Sync, E: Site>(
     words: &[String],
     site: &mut E,
 ) -> Result<(), RunFault>
-    ensures { RunsLine (record { clock = E.Clock.state; door = E.Door.state; out = E.Out.state }) E.Door.Line.state
+    ensures { RunsLine (device_states E.Clock.state E.Door.state E.Out.state) E.Door.Line.state
         (codes "playd" ∷ map string_bytes words.now) result (
           record { folder = E.Media.state (E.folder site.old); site = E.state site.old },
           record { folder = E.Media.state (E.folder site.new); site = E.state site.new },
@@ -102,7 +102,7 @@ fn serve_setup<R: Threads + Wait + Sync, E: Site>(
 ) -> Result<(), RunFault>
     requires workers { 1 ≤ words.now.workers }
     requires few { words.now.workers ≤ 64 }
-    ensures run { RunsOn (record { clock = E.Clock.state; door = E.Door.state; out = E.Out.state }) E.Door.Line.state
+    ensures run { RunsOn (device_states E.Clock.state E.Door.state E.Out.state) E.Door.Line.state
         (asked_of setup.now (option_map string_bytes words.now.journal)) result (E.state site.old, E.state site.new) }
     ensures folder { E.folder site.new ≡ E.folder site.old }
 {
@@ -124,14 +124,14 @@ fn serve_setup<R: Threads + Wait + Sync, E: Site>(
     }
 }
 
-/// Returns the path of the history's file, where there is one.
+/// Returns the path of the history's file, if there is one.
 fn journal_path(words: &ServerWords) -> Option<&str>
     ensures { option_map (λ path. path.now) result ≡ option_map string_bytes words.now.journal }
 {
     words.journal.as_ref().map(|path| path.as_str())
 }
 
-/// Says the line of a fault, where it takes no memory or there is memory for it.
+/// Says the line of a fault, if it takes no memory or there is memory for it.
 fn say_fault<E: Site>(alloc: Global, fault: &RunFault, site: &mut E)
     ensures said { SaysLine fault.now (E.state site.old) (E.state site.new) }
     ensures folder { E.folder site.new ≡ E.folder site.old }

@@ -1,27 +1,26 @@
 //! A run of the server.
-ghost use Rattle.std.specs.Prelude.{◌≡◌, ◌<◌, ◌≤◌, ◌∷◌, ◌||◌, All, length, vec_len};
-ghost use Rattle.std.specs.List.{list_any};
+ghost use Rattle.std.specs.Prelude.{◌≡◌, ◌<◌, ◌≤◌, ◌||◌, All, length, vec_len};
+ghost use Rattle.std.specs.List.{AllZip, list_any};
 ghost use Rattle.std.specs.Thread.{IsSync};
 ghost use Rattle.play_outside.specs.declared.listener.TheConstants.{MOST_AWAY};
+ghost use Rattle.conn_worker.specs.Server.{HasStageOfConfig};
 ghost use Rattle.play_ticker.specs.Frames.{setup_for};
 ghost use Rattle.play_server.specs.Doors.{is_door_fault};
 ghost use Rattle.play_server.specs.Run.{Serves, ends_so, is_cut, is_tick_fault};
-ghost use Rattle.play_server.specs.inner.Beside.{HasTicked, IsNewTicker, IsRoom, IsTickRoom, RanBeside, RanWith, ticker_pass, worker_passes};
-ghost use Rattle.play_server.specs.inner.Places.{AreManned, EachPlace, IsFloor};
+ghost use Rattle.play_server.specs.Site.{device_states};
+ghost use Rattle.play_server.specs.inner.Threads.{HasTicked, IsNewTicker, IsRunMemory, RanBeside, ticker_states};
+ghost use Rattle.play_server.specs.inner.Workers.{HasWorkedAt, MayWork, door_states};
 
-use crate::desk::Desk;
-use crate::floor::Floor;
+use crate::connection_workers::{ConnectionWorker, engage, release, work_all};
 use crate::history::write_history;
-use crate::room::Room;
+use crate::run_memory::RunMemory;
 use crate::served::{ServeEnd, Served};
-use crate::workers::work_all;
-use band_render::Renderer;
+use crate::ticker_thread::TickerThread;
 use clip_format::MediaTable;
-use conn_worker::WorkEnd;
+use conn_worker::{Server, WorkEnd};
 use play_outside::{Clock, Devices, Listener, MOST_AWAY, Sent, Sink};
-use play_ticker::{TickEnd, tick_all};
-use play_types::{Config, Scenes};
-use stage_lock::Pass;
+use play_ticker::TickEnd;
+use play_types::Config;
 use std::alloc::Global;
 use std::sync::Wait;
 use std::thread::{Threads, join_mut};
@@ -31,11 +30,11 @@ use std::thread::{Threads, join_mut};
 ///
 /// There are as many doors as the configuration has connections, and as many outputs as it has channels. `workers`, 1 to 64, is
 /// the number of threads that make the frames of a tick. The memory of the run is taken first: `OutOfMemory` comes before any call on
-/// a device, and the devices are as they were given. A command's memory is taken when the command is asked for, and where it
+/// a device, and the devices are as they were given. A command's memory is taken when the command is asked for, and if it
 /// runs out the client is told.
 ///
 /// The run has one history. Each link that a door was given back is explained by it, each output has the frames of its ticks,
-/// and its text is written to the output for the history. `DeviceFault` comes only where a device failed.
+/// and its text is written to the output for the history. `DeviceFault` comes only if a device failed.
 pub fn serve<R: Threads + Wait + Sync, C: Clock, D: Listener, O: Sink + Send>(
     rt: &R,
     alloc: Global,
@@ -49,11 +48,11 @@ pub fn serve<R: Threads + Wait + Sync, C: Clock, D: Listener, O: Sink + Send>(
     requires doors { vec_len devices.doors ≡ config.now.connections }
     requires outs { vec_len devices.outs ≡ length config.now.channels }
     requires may_come { All (λ door. (D.state door).away < MOST_AWAY) devices.doors.items }
-    ensures { Serves (record { clock = C.state; door = D.state; out = O.state }) D.Line.state
+    ensures { Serves (device_states C.state D.state O.state) D.Line.state
         (record { config = config.now; media = media.now }) result.end (devices, result.devices) }
 {
-    match Room::take(alloc, config, media, workers) {
-        Ok(room) => run(rt, alloc, config, media, room, devices),
+    match RunMemory::take(alloc, config, media, workers) {
+        Ok(memory) => run(rt, alloc, config, media, memory, devices),
         Err(_) => Served {
             devices,
             end: ServeEnd::OutOfMemory,
@@ -67,48 +66,61 @@ fn run<R: Threads + Wait + Sync, C: Clock, D: Listener, O: Sink + Send>(
     alloc: Global,
     config: &Config,
     media: &MediaTable,
-    room: Room,
+    memory: RunMemory<D>,
     devices: Devices<C, D, O>,
 ) -> Served<C, D, O>
-    requires room { IsRoom config.now media.now room }
+    requires memory { IsRunMemory config.now media.now memory }
     requires doors { vec_len devices.doors ≡ config.now.connections }
     requires outs { vec_len devices.outs ≡ length config.now.channels }
     requires may_come { All (λ door. (D.state door).away < MOST_AWAY) devices.doors.items }
-    ensures { Serves (record { clock = C.state; door = D.state; out = O.state }) D.Line.state
+    ensures { Serves (device_states C.state D.state O.state) D.Line.state
         (record { config = config.now; media = media.now }) result.end (devices, result.devices) }
 {
-    let Room {
+    let RunMemory {
         names,
-        mut renderer,
-        mut scenes,
+        renderer,
+        scenes,
         stage,
         mut passes,
-        mut desks,
-    } = room;
+        sessions,
+        mut connection_workers,
+    } = memory;
     let Devices {
-        mut clock,
+        clock,
         mut doors,
-        mut outs,
+        outs,
         mut history,
     } = devices;
-    let floor = Floor {
+    engage(&mut connection_workers, &mut passes, sessions, &mut doors);
+    let mut ticker = TickerThread {
+        pass: passes.pop().unwrap(),
+        renderer,
+        scenes,
+        clock,
+        outs,
+    };
+    let server = Server {
         alloc,
         stage: &stage,
         config,
-        names: &names,
+        media: &names,
     };
-    let ticker = run_all(
+    let tick_end = run_threads(
         rt,
-        &floor,
+        &server,
         media,
-        &mut renderer,
-        &mut scenes,
-        passes.as_mut_slice(),
-        desks.as_mut_slice(),
-        &mut clock,
-        doors.as_mut_slice(),
-        &mut outs,
+        &mut ticker,
+        connection_workers.as_mut_slice(),
     );
+    let TickerThread {
+        pass,
+        clock,
+        outs,
+        ..
+    } = ticker;
+    let door_failed = door_failed(connection_workers.as_slice());
+    passes.push_reserved(pass);
+    release(connection_workers, &mut passes, &mut doors);
     let stage = stage.close(rt, passes);
     let _held = stage.journal().held();
     let written = write_history(stage.journal(), &names, &mut history);
@@ -119,90 +131,43 @@ fn run<R: Threads + Wait + Sync, C: Clock, D: Listener, O: Sink + Send>(
             outs,
             history,
         },
-        end: end_of(ticker, desks.as_slice(), written),
+        end: end_of(tick_end, door_failed, written),
     }
 }
 
-/// Runs all threads with the passes of the stage, of which the first is the ticker's, and returns how the ticks ended.
-fn run_all<R: Threads + Wait + Sync, C: Clock, D: Listener, O: Sink + Send>(
+/// Runs the ticker beside the connection workers, each in a thread of its own, and returns how the ticks ended.
+fn run_threads<R: Threads + Wait + Sync, C: Clock, D: Listener, O: Sink + Send>(
     rt: &R,
-    floor: &Floor<'_>,
+    server: &Server<'_>,
     media: &MediaTable,
-    renderer: &mut Renderer,
-    scenes: &mut Scenes,
-    passes: &mut [Pass],
-    desks: &mut [Desk],
-    clock: &mut C,
-    doors: &mut [D],
-    outs: &mut Vec<O>,
+    ticker: &mut TickerThread<C, O>,
+    connection_workers: &mut [ConnectionWorker<D>],
 ) -> TickEnd
-    requires floor { IsFloor floor.now }
-    requires room { IsTickRoom floor.now.stage.now.sizes.channels renderer.old scenes.old }
-    requires passes { passes.old ≡ ticker_pass floor.now.stage.now ∷ worker_passes floor.now.stage.now (length doors.old) }
-    requires desks { length desks.old ≡ length doors.old }
-    requires may_come { All (λ door. (D.state door).away < MOST_AWAY) doors.old }
-    requires outs { vec_len outs.old ≡ floor.now.stage.now.sizes.channels }
-    ensures { RanWith (record { clock = C.state; door = D.state; out = O.state }) (record { door = D.state; line = D.Line.state })
-        (setup_for renderer.old media.now) floor.now (
-          result,
-          record { passes = passes.old; desks = desks.old; clock = clock.old; doors = doors.old; outs = outs.old.items },
-          record { passes = passes.new; desks = desks.new; clock = clock.new; doors = doors.new; outs = outs.new.items },
-        ) }
+    requires stage { HasStageOfConfig server.now }
+    requires ticker { IsNewTicker server.now.stage.now ticker.old }
+    requires workers { All (MayWork (door_states D.state D.Line.state) server.now.stage.now) connection_workers.old }
+    ensures { RanBeside (ticker_states C.state O.state) (door_states D.state D.Line.state) (setup_for ticker.old.renderer media.now) server.now
+        (result, record { ticker = ticker.old; workers = connection_workers.old }, record { ticker = ticker.new; workers = connection_workers.new }) }
 {
-    let (first, others) = passes.split_first_mut().unwrap();
-    run_beside(
-        rt, floor, media, renderer, scenes, first, others, desks, clock, doors, outs,
-    )
-}
-
-/// Runs the ticker beside the connection workers, and returns how the ticks ended.
-fn run_beside<R: Threads + Wait + Sync, C: Clock, D: Listener, O: Sink + Send>(
-    rt: &R,
-    floor: &Floor<'_>,
-    media: &MediaTable,
-    renderer: &mut Renderer,
-    scenes: &mut Scenes,
-    first: &mut Pass,
-    others: &mut [Pass],
-    desks: &mut [Desk],
-    clock: &mut C,
-    doors: &mut [D],
-    outs: &mut Vec<O>,
-) -> TickEnd
-    requires floor { IsFloor floor.now }
-    requires room { IsTickRoom floor.now.stage.now.sizes.channels renderer.old scenes.old }
-    requires first { IsNewTicker floor.now.stage.now first.old }
-    requires manned { AreManned (record { door = D.state; line = D.Line.state }) floor.now.stage.now others.old desks.old doors.old }
-    requires outs { vec_len outs.old ≡ floor.now.stage.now.sizes.channels }
-    ensures { RanBeside (record { clock = C.state; door = D.state; out = O.state }) (record { door = D.state; line = D.Line.state })
-        (setup_for renderer.old media.now) floor.now (
-          result,
-          record { first = first.old; others = others.old; desks = desks.old; clock = clock.old; doors = doors.old; outs = outs.old.items },
-          record { first = first.new; others = others.new; desks = desks.new; clock = clock.new; doors = doors.new; outs = outs.new.items },
-        ) }
-{
-    let (ticker, ()) = join_mut(
+    let (tick_end, ()) = join_mut(
         rt,
         &mut || -> TickEnd
-            requires { IsSync R.row × IsNewTicker floor.now.stage.now first.now × IsTickRoom floor.now.stage.now.sizes.channels renderer.now scenes.now × (vec_len outs.now ≡ floor.now.stage.now.sizes.channels) }
-            ensures { HasTicked (record { clock = C.state; out = O.state }) (setup_for renderer.entry.now media.entry.now) floor.entry.now.stage.now result (
-              record { pass = first.entry.now; clock = clock.entry.now; outs = outs.entry.now.items },
-              record { pass = first.exit.now; clock = clock.exit.now; outs = outs.exit.now.items },
-            ) }
-        { tick_all(rt, floor.stage, first, renderer, scenes, media, clock, outs) },
+            requires { IsSync R.row × IsNewTicker server.now.stage.now ticker.now }
+            ensures { HasTicked (ticker_states C.state O.state) (setup_for ticker.entry.now.renderer media.entry.now) server.entry.now.stage.now result (ticker.entry.now, ticker.exit.now) }
+        { ticker.run(rt, server.stage, media) },
         &mut ||
-            requires { IsSync R.row × IsFloor floor.now × AreManned (record { door = D.state; line = D.Line.state }) floor.now.stage.now others.now desks.now doors.now }
-            ensures { EachPlace (record { door = D.state; line = D.Line.state }) floor.entry.now others.entry.now doors.entry.now others.exit.now desks.exit.now doors.exit.now }
-        { work_all(rt, floor, others, desks, doors) },
+            requires { IsSync R.row × HasStageOfConfig server.now × All (MayWork (door_states D.state D.Line.state) server.now.stage.now) connection_workers.now }
+            ensures { AllZip (HasWorkedAt (door_states D.state D.Line.state) server.entry.now) connection_workers.entry.now connection_workers.exit.now }
+        { work_all(rt, server, connection_workers) },
     );
-    ticker
+    tick_end
 }
 
 /// Returns how a run ended: whether a device failed.
-fn end_of(ticker: TickEnd, desks: &[Desk], written: Sent) -> ServeEnd
-    ensures { result ≡ ends_so (is_tick_fault ticker || (list_any (λ desk. is_door_fault desk.end) desks.now || is_cut written)) }
+fn end_of(tick_end: TickEnd, door_failed: bool, written: Sent) -> ServeEnd
+    ensures { result ≡ ends_so (is_tick_fault tick_end || (door_failed || is_cut written)) }
 {
-    if ticker_failed(ticker) || door_failed(desks) || matches!(written, Sent::Failed) {
+    if ticker_failed(tick_end) || door_failed || matches!(written, Sent::Failed) {
         ServeEnd::DeviceFault
     } else {
         ServeEnd::Ended
@@ -210,17 +175,17 @@ fn end_of(ticker: TickEnd, desks: &[Desk], written: Sent) -> ServeEnd
 }
 
 /// Returns whether the clock or an output failed.
-fn ticker_failed(ticker: TickEnd) -> bool
-    ensures { result ≡ is_tick_fault ticker }
+fn ticker_failed(tick_end: TickEnd) -> bool
+    ensures { result ≡ is_tick_fault tick_end }
 {
-    matches!(ticker, TickEnd::ClockFault | TickEnd::OutFault { .. })
+    matches!(tick_end, TickEnd::ClockFault | TickEnd::OutFault { .. })
 }
 
 /// Returns whether a door failed.
-fn door_failed(desks: &[Desk]) -> bool
-    ensures { result ≡ list_any (λ desk. is_door_fault desk.end) desks.now }
+fn door_failed<D>(workers: &[ConnectionWorker<D>]) -> bool
+    ensures { result ≡ list_any (λ worker. is_door_fault worker.end) workers.now }
 {
-    desks
+    workers
         .iter()
-        .any(|desk| matches!(desk.end, WorkEnd::DoorFault))
+        .any(|worker| matches!(worker.end, WorkEnd::DoorFault))
 }

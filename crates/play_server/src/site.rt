@@ -2,7 +2,7 @@
 ghost use Rattle.std.specs.Prelude.{◌≡◌, Option, true, false, IfOk, MatchResult, option_map};
 ghost use Rattle.std.specs.Borrow.{sem, Lends};
 ghost use Rattle.play_server.specs.SiteState.{SiteState, after_call, after_finish};
-ghost use Rattle.play_server.specs.Site.{AreReady, IsNotReady, Says, ready_call};
+ghost use Rattle.play_server.specs.Site.{AreReady, IsNotReady, Says, device_states, ready_call};
 
 use play_outside::{Clock, Devices, FileFault, Listener, MediaDir, Sink, WriteStep};
 use play_types::{ByteList, Config};
@@ -13,7 +13,7 @@ use std::alloc::Global;
 pub struct ReadyCall {
     /// The configuration that it was given.
     pub config: Config,
-    /// The bytes of the path of the history's file that it was given, where there was one.
+    /// The bytes of the path of the history's file that it was given, if there was one.
     pub history: Option<ByteList>,
     /// Whether it gave devices.
     pub ok: bool,
@@ -33,7 +33,7 @@ pub trait Site {
     /// The output of a channel, and the one of the history's text.
     type Out: Sink + Send;
 
-    /// The calls, where the site tells them, and how many faults of `ready` and `say` there were.
+    /// The calls, if the site tells them, and how many faults of `ready` and `say` there were.
     ghost state: { Self → SiteState Self.Clock Self.Door Self.Out };
 
     /// The folder as it is now.
@@ -47,19 +47,19 @@ pub trait Site {
         ensures* writes_back { sem 𝓛 (Lends Self.row Self.Media.row self.entry result (with_folder self.old)) }
         ensures value { result.now ≡ folder self.old };
 
-    /// Gives the devices for a run with this configuration, whose history is written to the file of that path where there
+    /// Gives the devices for a run with this configuration, whose history is written to the file of that path if there
     /// is one: as many doors as it has connections and as many outputs as it has channels. They are fresh and without
     /// faults, the doors and the outputs have their places, from 1 on, as marks, and the output for the history has the
     /// mark 0.
     ///
-    /// A failed call raises the count of faults by one. Where memory runs out all stays as it was.
+    /// A failed call raises the count of faults by one. If memory runs out all stays as it was.
     fn ready(
         &mut self,
         alloc: Global,
         config: &Config,
         history: Option<&str>,
     ) -> Result<Devices<Self::Clock, Self::Door, Self::Out>, FileFault>
-        ensures ready { IfOk result (AreReady (record { clock = Self.Clock.state; door = Self.Door.state; out = Self.Out.state }) config.now) }
+        ensures ready { IfOk result (AreReady (device_states Self.Clock.state Self.Door.state Self.Out.state) config.now) }
         ensures told { MatchResult result
             (λ _. state self.new ≡ after_call (ready_call config.now (option_map (λ path. path.now) history.entry) true) (state self.old))
             (λ fault. IsNotReady fault (ready_call config.now (option_map (λ path. path.now) history.entry) false) (state self.old) (state self.new)) }

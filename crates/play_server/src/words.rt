@@ -58,7 +58,7 @@ impl ServerWords {
     /// Reads the words that follow the program's name: `--config FILE` once, and `--workers N`, a number from 1 to 64,
     /// and `--journal FILE` at most once each, in any order. Without `--workers` there is one worker.
     ///
-    /// `Usage` comes exactly where `clap` refuses the words for another cause than memory.
+    /// `Usage` comes exactly if `clap` refuses the words for another cause than memory.
     pub fn read(alloc: Global, words: &[String]) -> Result<ServerWords, WordsFault>
         ensures { ReadsWords (codes "playd" ∷ map string_bytes words.now) result }
     {

@@ -106,7 +106,7 @@ no_pulses (Some told) =
 pub pulses-none : (state : ClockState) → state ≡ after_pulses 0 state
 pulses-none state = ap (λ (told : Option ClockTold). record state { told = told }) (no_pulses state.told)
 
--- what frames represent, where other events than ticks are added
+-- what frames represent, if other events than ticks are added
 abbrev pub StaysShown : Type 0
 StaysShown = (setup : Setup) (history : List Event) (event : Event) (entries : List Entry) (frames : List FrameView) → event ≢ Tick →
     Represents setup history entries frames → Represents setup (history ++ event ∷ []) entries frames
@@ -220,7 +220,7 @@ finished TicksOver old new first at h = finished_stop TicksOver old new refl (st
 finished ClockFault old new first at h = finished_stop ClockFault old new refl (stopped old new first h)
 finished (OutFault channel) old new first at h = finished_stop (OutFault channel) old new refl (stopped old new first h)
 
--- what is told of pass 0 at the end, where `base` is the pass before all pulses
+-- what is told of pass 0 at the end, if `base` is the pass before all pulses
 pub ends_pass : (end : TickEnd) (base old new : PassView) → old.number ≡ 0 → old.ends ≡ base.ends → new.stage ≡ old.stage → (IsKnown old → MadeTicks old) → IsAtEnd end old → StopsAt end old new
     → EndsPass end base new
 ends_pass ClockClosed base old new first same of ticked at h = (stopped old new first h).stops base same

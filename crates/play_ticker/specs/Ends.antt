@@ -17,7 +17,7 @@ abbrev pub end_of : TickFault → TickEnd
 end_of (fault.Ended at) = Ended at
 end_of fault.TicksOver = TicksOver
 
--- the pulses that were taken where this number of ticks was made: one more where a tick was refused
+-- the pulses that were taken if this number of ticks was made: one more if a tick was refused
 abbrev pub pulses_taken : TickEnd → ℕ → ℕ
 pulses_taken ClockClosed made = made
 pulses_taken (Ended at) made = made + 1
@@ -33,7 +33,7 @@ more_pulses count told = record told { pulses = told.pulses + count }
 abbrev pub after_pulses : ℕ → ClockState → ClockState
 after_pulses count state = record state { told = option_map (more_pulses count) state.told }
 
--- the clock after its last answer, where that was no pulse
+-- the clock after its last answer, if that was no pulse
 abbrev pub after_end : TickEnd → ClockState → ClockState
 after_end ClockClosed state = after_clock_closed state
 after_end (Ended at) state = state
@@ -41,7 +41,7 @@ after_end TicksOver state = state
 after_end ClockFault state = after_clock_fault state
 after_end (OutFault channel) state = state
 
--- the clock at an end, where this number of ticks was made
+-- the clock at an end, if this number of ticks was made
 abbrev pub clock_at_end : TickEnd → ℕ → ClockState → ClockState
 clock_at_end end made state = after_end end (after_pulses (pulses_taken end made) state)
 

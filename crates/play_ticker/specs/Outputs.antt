@@ -1,4 +1,4 @@
--- What the outputs took where the ticks have ended.
+-- What the outputs took if the ticks have ended.
 use Rattle.std.specs.Prelude.{◌≡◌, ℕ, suc, ◌<◌, List, [], ◌∷◌}
 use Rattle.play_types.specs.declared.event.Event.{Event}
 use Rattle.play_outside.specs.SinkState.{SinkState, after_taking}

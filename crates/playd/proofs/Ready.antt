@@ -8,7 +8,7 @@ use Rattle.play_outside.specs.ListenerState.{ListenerState}
 use Rattle.play_outside.specs.SinkState.{SinkState}
 use Rattle.play_outside.specs.Fresh.{IsNewSink}
 use Rattle.play_outside.specs.declared.devices.Devices.{Devices}
-use Rattle.play_server.specs.Site.{DeviceWords, AreReady, IsNewClock, IsNewDoor}
+use Rattle.play_server.specs.Site.{DeviceStates, AreReady, IsNewClock, IsNewDoor}
 use Rattle.real_devices.specs.Fresh.{quiet_clock, quiet_door, quiet_sink}
 
 -- how many elements there are
@@ -24,7 +24,7 @@ state_at state quiet items n at other same within =
     ∙ get_or-map-range_with_len quiet 1 n at (at + 1) (state other) (omega (arith, within, count_of state quiet items n same)) (omega arith)
 
 -- devices of which no call was made, as many as the configuration names, are ready
-pub ready_devices : {C D O L : Type 0} (words : DeviceWords C D O L) (config : ConfigView) (devices : Devices C D O)
+pub ready_devices : {C D O L : Type 0} (words : DeviceStates C D O L) (config : ConfigView) (devices : Devices C D O)
     → words.clock devices.clock ≡ quiet_clock
     → map words.door devices.doors.items ≡ map quiet_door (range_with_len 1 config.connections)
     → map words.out devices.outs.items ≡ map quiet_sink (range_with_len 1 (length config.channels))

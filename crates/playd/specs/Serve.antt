@@ -1,4 +1,4 @@
--- How the program ends where its words are not known.
+-- How the program ends if its words are not known.
 use Rattle.std.specs.Prelude.{◌≡◌, ℕ, List, [], ◌∷◌, ◌++◌}
 use Rattle.play_outside.specs.declared.sink.WriteStep.{WriteStep}
 use Rattle.server_setup.specs.Fault.{fault_line, status_of}

@@ -1,4 +1,4 @@
-//! What is said on standard error, for a person. Where that cannot be written, nothing is said.
+//! What is said on standard error, for a person. If that cannot be written, nothing is said.
 
 use play_types::Config;
 use std::io::Eprint;

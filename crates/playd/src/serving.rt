@@ -1,6 +1,7 @@
 //! The whole program, over its words and its site.
 ghost use Rattle.std.specs.Prelude.{◌≡◌, ◌∷◌, IfOk, IfErr, codes, map, string_bytes};
 ghost use Rattle.play_server.specs.Program.{RunsServer};
+ghost use Rattle.play_server.specs.Site.{device_states};
 ghost use Rattle.host_system.specs.Words.{run_fault_of};
 ghost use Rattle.playd.specs.Serve.{EndsAtOnce};
 
@@ -11,7 +12,7 @@ use std::alloc::Global;
 use std::sync::Wait;
 use std::thread::Threads;
 
-/// Serves as `serve_main` does with these words. Words that cannot be read are no command line, with status 1, and where
+/// Serves as `serve_main` does with these words. Words that cannot be read are no command line, with status 1, and if
 /// memory ran out for them the status is 5; the site says so, and nothing else is asked of it then.
 pub fn serve<R: Threads + Wait + Sync, E: Site>(
     rt: &R,
@@ -19,7 +20,7 @@ pub fn serve<R: Threads + Wait + Sync, E: Site>(
     words: Result<Vec<String>, WordsFault>,
     site: &mut E,
 ) -> u8
-    ensures known { IfOk words (λ list. RunsServer (record { clock = E.Clock.state; door = E.Door.state; out = E.Out.state }) E.Door.Line.state
+    ensures known { IfOk words (λ list. RunsServer (device_states E.Clock.state E.Door.state E.Out.state) E.Door.Line.state
         (codes "playd" ∷ map string_bytes list.items) result (
           record { folder = E.Media.state (E.folder site.old); site = E.state site.old },
           record { folder = E.Media.state (E.folder site.new); site = E.state site.new },

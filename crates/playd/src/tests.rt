@@ -22,7 +22,7 @@ fn config_of(alloc: Global, address: &str) -> Result<Config, Fail> {
     Ok(Config::new(address, media, 25, 3, 9, channels).ok_or("no configuration")?)
 }
 
-/// No clause says that devices are made, that the socket is closed where they are finished, nor what a file holds.
+/// No clause says that devices are made, that the socket is closed if they are finished, nor what a file holds.
 #[test]
 fn gives_devices_again(rt: HostRuntime) -> Result<(), Fail> {
     let alloc = rt.alloc();

@@ -13,7 +13,7 @@ use Rattle.real_devices.specs.declared.tcp_link.TcpLink.{TcpLink}
 abbrev pub file_state : {W E : Type 0} → FileSink W E → SinkState
 file_state sink = record { taken = None; faults = sink.faults; mark = sink.mark; at_fault = None; reading = None; idle = 0 }
 
--- the file that a sink writes to, where it has one
+-- the file that a sink writes to, if it has one
 abbrev pub file_of : {W E : Type 0} → FileSink W E → Option W
 file_of sink = sink.file
 

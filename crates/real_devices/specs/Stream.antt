@@ -1,4 +1,4 @@
--- What the devices do to a stream, where the stream tells its bytes.
+-- What the devices do to a stream, if the stream tells its bytes.
 use Rattle.std.specs.Prelude.{ℕ, List, Option, Some, None, take}
 use Rattle.std.specs.Io.KnownBytes.{Appends, Consumes, IsAtEnd, Keeps}
 use Rattle.play_outside.specs.declared.link.LinkStep.{LinkStep}
@@ -18,7 +18,7 @@ abbrev pub AddsTo : WriteStep → List ℕ → Option (List ℕ) → Option (Lis
 AddsTo (write.Took count) piece before after = Appends before after (take count piece)
 AddsTo write.Failed piece before after = Keeps before after
 
--- what a file holds, where it tells this, and nothing known where there is no file
+-- what a file holds, if it tells this, and nothing known if there is no file
 abbrev pub contents_of : {W : Type 0} → (W → Option (List ℕ)) → Option W → Option (List ℕ)
 contents_of contents None = None
 contents_of contents (Some file) = contents file

@@ -25,7 +25,7 @@ pub type RealDevices<R> = Devices<RateClock<R>, TcpDoor<R>, FileSink<File, R>>;
 /// the marks 1, 2 and so on, and the output of the history has the mark 0. No call of a device was made yet.
 ///
 /// Each file is made, or emptied. Without a path for the history its output takes every byte and keeps none. `Failed`
-/// comes where two outputs have one path, the address cannot be read or listened on, or a file cannot be written, and
+/// comes if two outputs have one path, the address cannot be read or listened on, or a file cannot be written, and
 /// standard error says which.
 pub fn ready<
     R: Net<Listener = TcpListener, Stream = TcpStream>

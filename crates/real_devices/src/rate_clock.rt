@@ -38,7 +38,7 @@ impl<R: time::Clock + Eprint + Drop> RateClock<R> {
         }
     }
 
-    /// Waits until the next pulse is due. One that is late comes at once. Where it is late by more than a second, the
+    /// Waits until the next pulse is due. One that is late comes at once. If it is late by more than a second, the
     /// pulses begin anew from now, and it is said how many were passed over.
     fn wait(&mut self) -> io::Result<()>
         ensures { self.new.faults ≡ self.old.faults }

@@ -15,7 +15,7 @@ const SECOND: u128 = 1_000_000_000;
 /// What a clock does for its next pulse.
 #[derive(Clone, Copy, Debug, PartialEq, Eq)]
 pub(crate) enum Step {
-    /// It waits for so long. No time is left to wait where the pulse is late.
+    /// It waits for so long. No time is left to wait if the pulse is late.
     Wait(Duration),
     /// It gives the pulse, and passes over this many more that were due by then.
     PassOver(u128),
@@ -39,8 +39,8 @@ impl Schedule {
         }
     }
 
-    /// Takes the next pulse, at `rate` pulses in a second. Where it is late by more than a second, a new schedule begins
-    /// now. It returns `None` where the pulse is due at a time that no clock reads, and changes nothing then.
+    /// Takes the next pulse, at `rate` pulses in a second. If it is late by more than a second, a new schedule begins
+    /// now. It returns `None` if the pulse is due at a time that no clock reads, and changes nothing then.
     pub(crate) fn next(&mut self, now: Instant, rate: u32) -> Option<Step>
         requires { 0 < rate }
         ensures { Advances result rate now self.old self.new }

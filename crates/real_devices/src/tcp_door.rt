@@ -11,7 +11,7 @@ use std::net::{TcpListener, TcpStream};
 use std::thread;
 use std::time::{Clock, Duration};
 
-/// For how many milliseconds a door sleeps where no connection has come.
+/// For how many milliseconds a door sleeps if no connection has come.
 const PAUSE_MILLIS: u64 = 5;
 
 /// A listening socket, which doors may share. It says on standard error why a call failed. It does not tell what was
@@ -49,7 +49,7 @@ impl<R: Clock + Eprint + Copy + Drop + Send> Listener for TcpDoor<R> {
 
     ghost state = { door_state };
 
-    /// Takes a connection that waits. Where none does, it sleeps for a few milliseconds. A connection that its client has
+    /// Takes a connection that waits. If none does, it sleeps for a few milliseconds. A connection that its client has
     /// ended before it was taken is no failure.
     fn next(&mut self) -> Arrival<TcpLink<TcpStream, R>> {
         match self.listener.accept() {

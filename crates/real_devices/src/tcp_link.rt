@@ -54,8 +54,8 @@ impl<S: Read + Write + OpenStream + Drop, E: Eprint + Drop> TcpLink<S, E> {
         })
     }
 
-    /// Ends the connection. Where no call has failed, the client is told the end, and what it still sends is read and
-    /// dropped for a moment, since the system takes back what the client has not read yet where bytes are left unread.
+    /// Ends the connection. If no call has failed, the client is told the end, and what it still sends is read and
+    /// dropped for a moment, since the system takes back what the client has not read yet if bytes are left unread.
     pub(crate) fn close<T: Clock>(self, time: &T) {
         let mut stream = self.stream;
         if self.faults == 0 && stream.shutdown(Shutdown::Write).is_ok() {
@@ -114,7 +114,7 @@ impl<S: Read + Write + OpenStream + Drop, E: Eprint + Drop> Sink for TcpLink<S, 
 }
 
 impl<S: Read + Write + OpenStream + Drop + Send, E: Eprint + Drop + Send> Link for TcpLink<S, E> {
-    /// Reads what has come, and waits a tenth of a second where nothing has. A wait that ends and an interruption are no
+    /// Reads what has come, and waits a tenth of a second if nothing has. A wait that ends and an interruption are no
     /// failure.
     fn read(&mut self, buf: &mut [u8]) -> LinkStep
         requires { 0 < length buf.old }

@@ -1,20 +1,13 @@
 -- One turn of the work at a door.
-use Rattle.std.specs.Prelude.{◌≡◌, ℕ, ◌+◌, None, Result, Ok, Err, length}
+use Rattle.std.specs.Prelude.{◌≡◌, ℕ, ◌+◌, None, Result, Ok, Err}
 use Rattle.play_types.specs.History.{stop_at}
 use Rattle.play_outside.specs.SinkState.{SinkState}
 use Rattle.play_outside.specs.ListenerState.{after_give_back}
 use Rattle.stage_lock.specs.Views.{PassView}
 use Rattle.conn_worker.specs.Explained.{IsExplained}
-use Rattle.conn_worker.specs.Work.{AtDoor, EndsWork, FindsEnd, GoesOnAfter, LooksOn, Setting, StopsAfter, Takes, Turn, Visit, links_come, service_of}
-use Rattle.conn_worker.specs.declared.door.Worker.{Worker}
+use Rattle.conn_worker.specs.Work.{AtDoor, EndsWork, FindsEnd, GoesOnAfter, LooksOn, Setting, StopsAfter, Takes, Turn, LinkRun, links_come, service_of}
 use Rattle.conn_worker.specs.declared.work_end.WorkEnd.{WorkEnd}
 use Rattle.conn_worker.specs.declared.work_end.WorkEnd.TheVariants.{Closed, Ended, DoorFault, SessionsOver}
-
--- the pass is of the stage, and the stage is one of the configuration
-pub record IsStageOf (worker : Worker) (pass : PassView) : Type 0 where
-  pub of : pass.stage ≡ worker.stage.now
-  pub channels : worker.stage.now.sizes.channels ≡ length worker.config.now.channels
-  pub limit : worker.stage.now.sizes.limit ≡ worker.config.now.journal_limit
 
 -- a look at the history found no stop, or one
 abbrev pub LooksAtStage : Result (Unit {0}) WorkEnd → PassView → PassView → Type 0
@@ -25,26 +18,22 @@ LooksAtStage (Err DoorFault) before after = ⊥
 LooksAtStage (Err SessionsOver) before after = ⊥
 
 module _ {L : Type 0} where
-  -- what the links are served with by a worker whose pass has this number
-  abbrev pub setting_in : Worker → ℕ → (L → SinkState) → Setting L
-  setting_in worker number tells = record { config = worker.config.now; names = worker.media.now; worker = number; tells = tells }
-
   -- the pass after a link was served, by the result: the work goes on, or the history holds a stop
-  abbrev pub PassesOn : Result (Unit {0}) WorkEnd → Visit L → PassView → Type 0
-  PassesOn (Ok done) visit after = GoesOnAfter visit.end visit.pass after
-  PassesOn (Err Closed) visit after = ⊥
-  PassesOn (Err (Ended at)) visit after = StopsAfter at visit.end visit.pass after
-  PassesOn (Err DoorFault) visit after = ⊥
-  PassesOn (Err SessionsOver) visit after = ⊥
+  abbrev pub PassesOn : Result (Unit {0}) WorkEnd → LinkRun L → PassView → Type 0
+  PassesOn (Ok done) link_run after = GoesOnAfter link_run.end link_run.pass after
+  PassesOn (Err Closed) link_run after = ⊥
+  PassesOn (Err (Ended at)) link_run after = StopsAfter at link_run.end link_run.pass after
+  PassesOn (Err DoorFault) link_run after = ⊥
+  PassesOn (Err SessionsOver) link_run after = ⊥
 
   -- a link that had come was served as the session of this number, and given back
   pub record GivesBack (setting : Setting L) (number : ℕ) (came : SinkState) (result : Result (Unit {0}) WorkEnd) (moments : AtDoor L × AtDoor L) : Type 0 where
-    pub visit : Visit L
-    pub came_is : visit.came ≡ came
-    pub explained : IsExplained (service_of setting number) visit.end
-        (record { pass = moments.0.pass; link = visit.came }) (record { pass = visit.pass; link = setting.tells visit.line })
-    pub door : moments.1.door ≡ after_give_back moments.0.door visit.line
-    pub pass : PassesOn result visit moments.1.pass
+    pub link_run : LinkRun L
+    pub came_is : link_run.came ≡ came
+    pub explained : IsExplained (service_of setting number) link_run.end
+        (record { pass = moments.0.pass; link = link_run.came }) (record { pass = link_run.pass; link = setting.tells link_run.line })
+    pub door : moments.1.door ≡ after_give_back moments.0.door link_run.line
+    pub pass : PassesOn result link_run moments.1.pass
 
   -- the door was asked once, after `served` links were served: the work goes on, and so many were served then, or it ends
   abbrev pub TakesTurn : Setting L → ℕ → Result ℕ WorkEnd → AtDoor L → AtDoor L → Type 0

@@ -1,5 +1,5 @@
 -- What following one step does.
-use Rattle.std.specs.Prelude.{◌≡◌, ℕ, ◌+◌, ◌≤◌, Some, None, Result, Ok, Err, List, ◌++◌, length}
+use Rattle.std.specs.Prelude.{◌≡◌, ℕ, ◌+◌, ◌≤◌, Some, None, Result, Ok, Err, List, ◌++◌}
 use mathlib.Core.List.{IsPrefix}
 use Rattle.play_types.specs.Commands.{answer_reply}
 use Rattle.play_types.specs.History.{stop_at}
@@ -20,6 +20,7 @@ use Rattle.stage_lock.specs.Views.{PassView}
 use Rattle.stage_lock.specs.Calls.{IsFound, looked, tag_of}
 use Rattle.conn_worker.specs.Followed.{Service, Followed, events_of, positions_of, reply_of, sent_bytes, times_asked}
 use Rattle.conn_worker.specs.Explained.{Standing}
+use Rattle.conn_worker.specs.Server.{HasStageOfConfig}
 use Rattle.conn_worker.specs.declared.connection.Connection.{Connection}
 use Rattle.conn_worker.specs.declared.link_end.LinkEnd.{LinkEnd}
 use Rattle.conn_worker.specs.declared.link_end.LinkEnd.TheVariants.{Over, Killed, LinkFault, Ended}
@@ -27,12 +28,11 @@ use Rattle.conn_worker.specs.declared.link_end.LinkEnd.TheVariants.{Over, Killed
 -- what a connection is served with whose pass has the number `worker`
 abbrev pub service_in : Connection → ℕ → Service
 service_in connection worker =
-    record { config = connection.config.now; names = connection.media.now; tag = tag_of worker connection.number }
+    record { config = connection.server.config.now; names = connection.server.media.now; tag = tag_of worker connection.number }
 
 -- the stage is one of the configuration, and the connection has a number
 pub record IsReady (connection : Connection) : Type 0 where
-  pub channels : connection.stage.now.sizes.channels ≡ length connection.config.now.channels
-  pub limit : connection.stage.now.sizes.limit ≡ connection.config.now.journal_limit
+  pub stage : HasStageOfConfig connection.server
   pub number : 1 ≤ connection.number
 
 -- a pass followed one step, and made its event alone
@@ -68,7 +68,7 @@ pub record Follows (service : Service) (step : Step) (sent : Sent) (before after
   pub makes : MakesStep service one before.pass after.pass
   pub sends : Sends sent (sent_bytes service (reply_of service one)) before.link after.link
 
--- the reply to a command or a batch of this name, or the end of the call where the stage was stopped
+-- the reply to a command or a batch of this name, or the end of the call if the stage was stopped
 abbrev pub replied : Name → Result Answer ApplyFault → Result Reply LinkEnd
 replied name (Ok answer) = Ok (answer_reply name answer)
 replied name (Err fault.OutOfMemory) = Ok (Refused 501 name)

@@ -1,18 +1,19 @@
 //! Devices in memory, made by a plan.
 ghost use Rattle.std.specs.Prelude.{◌≡◌, All, IfOk};
 ghost use Rattle.play_outside.specs.Fresh.{IsNewSink};
-ghost use Rattle.play_server.specs.Site.{AreNew, AreNumbered, IsNewClock, IsNewDoor};
+ghost use Rattle.play_server.specs.Site.{AreNew, AreNumbered, IsNewClock, IsNewDoor, device_states};
 
 use super::plan::{Calls, Client, Moment, Plan};
 use play_outside::{
     Clock, Devices, DoorAnswer, Flag, FlaggedCall, HeldClock, HeldLink, HeldSink, LinkPlan,
     Listener, MemClock, MemConfig, MemDoor, MemFile, MemLink, MemMedia, MemSink, Sink,
 };
-use play_server::MemSite;
+use play_server::{MemSite, Site, serve_main};
 use std::alloc::Global;
-use std::sync::Arc;
 use std::sync::atomic::AtomicBool;
+use std::sync::{Arc, Wait};
 use std::test::Fail;
+use std::thread::Threads;
 
 /// A site whose doors give links of which a call may wait.
 pub type HeldSite = MemSite<HeldClock, MemDoor<HeldLink>, HeldSink>;
@@ -68,6 +69,17 @@ pub fn words_of(alloc: Global, words: &[&str]) -> Result<Vec<String>, Fail> {
     Ok(copies)
 }
 
+/// Serves over a site as these words say, and returns the exit status.
+pub fn run<R: Threads + Wait + Sync, S: Site>(
+    rt: &R,
+    alloc: Global,
+    words: &[&str],
+    site: &mut S,
+) -> Result<u8, Fail> {
+    let words = words_of(alloc, words)?;
+    Ok(serve_main(rt, alloc, words.as_slice(), site))
+}
+
 /// Returns a site with the planned devices and with clip files of these names. The calls of `ready` and `say` of these
 /// numbers fail.
 pub fn site_of(
@@ -117,7 +129,7 @@ impl Flags {
 
 /// Returns the planned devices.
 fn devices_of(alloc: Global, plan: &Plan) -> Result<HeldDevices, Fail>
-    ensures { IfOk result (AreNew (record { clock = ⟦<HeldClock as Clock>⟧.state; door = ⟦<MemDoor<HeldLink> as Listener>⟧.state; out = ⟦<HeldSink as Sink>⟧.state })) }
+    ensures { IfOk result (AreNew (device_states ⟦<HeldClock as Clock>⟧.state ⟦<MemDoor<HeldLink> as Listener>⟧.state ⟦<HeldSink as Sink>⟧.state)) }
 {
     let flags = Flags::new(alloc)?;
     let clock = clock_of(alloc, &flags, plan.pulses, &plan.clock)?;

@@ -1,8 +1,8 @@
 //! How the server ends.
 
-use super::devices::{HeldSite, folder_of, site_of, words_of};
+use super::devices::{HeldSite, folder_of, run, site_of};
 use super::plan::{Calls, Client, Plan};
-use play_server::{MemSite, PlainSite, ServeEnd, Site, serve, serve_main};
+use play_server::{MemSite, PlainSite, ServeEnd, Site, serve};
 use server_setup::set_up;
 use std::process::Abort;
 use std::str;
@@ -19,7 +19,7 @@ struct End {
     status: u8,
     /// What is said.
     said: &'static str,
-    /// The text of the history and the number of bytes of the frames, where devices were finished.
+    /// The text of the history and the number of bytes of the frames, if devices were finished.
     run: Option<(&'static str, usize)>,
 }
 
@@ -128,9 +128,8 @@ fn plan_of(end: &End) -> Plan {
 fn the_server_ends_with_its_status(rt: HostRuntime) -> Result<(), Fail> {
     let alloc = rt.alloc();
     for end in &ENDS {
-        let words = words_of(alloc, end.words)?;
         let mut site = site_of(alloc, &plan_of(end), end.clips, end.fails[0])?;
-        let status = serve_main(&rt, alloc, words.as_slice(), &mut site);
+        let status = run(&rt, alloc, end.words, &mut site)?;
         assert_eq!(rt; status, end.status, "{}", end.name);
         check_site(&rt, end, &site)?;
     }
@@ -160,15 +159,15 @@ fn check_site(rt: &impl Abort, end: &End, site: &HeldSite) -> Result<(), Fail> {
 #[test]
 fn plain_devices_serve(rt: HostRuntime) -> Result<(), Fail> {
     let alloc = rt.alloc();
-    let words = words_of(alloc, &["--config", "two"])?;
+    let words = ["--config", "two"];
     let mut plain = PlainSite::new(3, 2);
-    let status = serve_main(&rt, alloc, words.as_slice(), &mut plain);
+    let status = run(&rt, alloc, &words, &mut plain)?;
     assert_eq!(rt; status, 2);
     let mut folder = folder_of(alloc, &[])?;
     let setup = set_up(&rt, alloc, "two", &mut folder)?;
     let devices = plain.ready(alloc, &setup.config, None)?;
     let mut site = MemSite::new(alloc, folder, devices, 0, Vec::new(alloc))?;
-    let status = serve_main(&rt, alloc, words.as_slice(), &mut site);
+    let status = run(&rt, alloc, &words, &mut site)?;
     assert_eq!(rt; (status, site.finishes()), (0, 1));
     Ok(())
 }

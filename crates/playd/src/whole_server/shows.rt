@@ -1,10 +1,9 @@
 //! Runs in which clients are served beside the ticker.
 
-use super::devices::{HeldDevices, HeldSite, site_of, words_of};
+use super::devices::{HeldDevices, HeldSite, run, site_of};
 use super::plan::Moment::{Answered, Released, Written};
 use super::plan::{Calls, Client, Plan};
 use super::replay::{frames_in, replay, replies_in};
-use play_server::serve_main;
 use std::alloc::Global;
 use std::process::Abort;
 use std::str;
@@ -221,9 +220,8 @@ const BATCH: Show = Show {
 fn clients_are_served_beside_the_ticker(rt: HostRuntime) -> Result<(), Fail> {
     let alloc = rt.alloc();
     for show in &SHOWS {
-        let words = words_of(alloc, &["--config", show.config])?;
         let mut site = site_of(alloc, &show.plan, &[], &[])?;
-        let status = serve_main(&rt, alloc, words.as_slice(), &mut site);
+        let status = run(&rt, alloc, &["--config", show.config], &mut site)?;
         assert_eq!(&rt; status, 0, "{}", show.name);
         check_site(&rt, alloc, show, &site)?;
     }

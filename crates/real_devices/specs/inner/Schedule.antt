@@ -15,7 +15,7 @@ due_nanos rate schedule = instant_nanos schedule.begun + (schedule.given + 1) * 
 abbrev pub pulses_in : ℕ → ℕ → ℕ
 pulses_in nanos rate = nanos * rate / 1_000_000_000
 
--- the pulse is given once it is due, where it is not late by more than a second; else a new schedule begins now, and
+-- the pulse is given once it is due, if it is not late by more than a second; else a new schedule begins now, and
 -- the pulses are passed over that were due since
 abbrev pub Advances : Option Step → ℕ → Instant → Schedule → Schedule → Type 0
 Advances None rate now before after = after ≡ before

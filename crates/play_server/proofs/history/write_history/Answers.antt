@@ -1,4 +1,4 @@
-use Rattle.play_server.proofs.Writing.{all_written, failed_in_run, first_of_left, next_is_run, none_written, one_written}
+use Rattle.play_server.proofs.WriteHistory.{all_written, failed_in_run, first_of_left, next_is_run, none_written, one_written}
 use Rattle.play_journal.specs.Runs.{run_of}
 use Rattle.play_server.proofs.history.write_history.Goals as goal
 

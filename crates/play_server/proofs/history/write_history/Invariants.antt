@@ -1,4 +1,4 @@
-use Rattle.play_server.proofs.Writing.{IsWrittenTo}
+use Rattle.play_server.proofs.WriteHistory.{IsWrittenTo}
 use Rattle.play_server.proofs.history.write_history.Given as goal
 
 -- the runs before the next one were written

@@ -1,5 +1,5 @@
 use Rattle.play_server.specs.Replay.{playout_of}
-use Rattle.play_server.proofs.Shown.{shown_again}
+use Rattle.play_server.proofs.IsShownAgain.{shown_again}
 use Rattle.play_server.proofs.laws.frames_are_written_again.Goals as goal
 
 pub returns : goal.returns

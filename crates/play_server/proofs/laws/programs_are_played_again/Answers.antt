@@ -1,7 +1,7 @@
 use Rattle.history_replay.proofs.Marked.{replay_events, replay_output}
 use Rattle.play_server.specs.Program.{program_of}
 use Rattle.play_server.specs.Replay.{playout_of}
-use Rattle.play_server.proofs.EndedRuns.{program_replayable, text_taken}
+use Rattle.play_server.proofs.HasServedClients.{program_replayable, text_taken}
 use Rattle.play_server.proofs.laws.programs_are_played_again.Goals as goal
 
 pub returns-clause-text : goal.returns-clause-text

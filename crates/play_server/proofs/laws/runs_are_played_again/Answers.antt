@@ -2,7 +2,7 @@ use Rattle.clip_format.specs.Table.{media_names}
 use Rattle.history_model.specs.text.History.{history_text}
 use Rattle.history_replay.proofs.Marked.{replay_events, replay_output}
 use Rattle.play_server.specs.Replay.{playout_of}
-use Rattle.play_server.proofs.Replayed.{run_replayable, taken_by_new}
+use Rattle.play_server.proofs.IsReplayable.{run_replayable, taken_by_new}
 use Rattle.play_server.proofs.laws.runs_are_played_again.Goals as goal
 
 pub returns-clause-replayable : goal.returns-clause-replayable

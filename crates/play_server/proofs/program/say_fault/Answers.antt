@@ -1,4 +1,4 @@
-use Rattle.play_server.proofs.Programs.{unsaid}
+use Rattle.play_server.proofs.RunsServer.{unsaid}
 use Rattle.play_server.proofs.program.say_fault.Goals as goal
 
 pub returns-in_default-clause-said : goal.returns-in_default-clause-said

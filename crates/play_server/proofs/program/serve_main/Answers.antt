@@ -1,4 +1,4 @@
-use Rattle.play_server.proofs.Statuses.{clips_status, config_status, device_status, faultless_status, faulty_status, memory_status, most_status, refused_status, success_status, usage_status}
+use Rattle.play_server.proofs.HasItsCause.{clips_status, config_status, device_status, faultless_status, faulty_status, memory_status, most_status, refused_status, success_status, usage_status}
 use Rattle.play_server.proofs.program.serve_main.Goals as goal
 
 pub returns-clause-causes : goal.returns-clause-causes

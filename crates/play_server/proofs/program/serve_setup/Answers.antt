@@ -1,5 +1,5 @@
 use Rattle.std.proofs.Common.{inl}
-use Rattle.play_server.proofs.Programs.{served_on}
+use Rattle.play_server.proofs.RunsServer.{served_on}
 use Rattle.play_server.proofs.program.serve_setup.Goals as goal
 
 pub returns-in-Ended-clause-run : goal.returns-in-Ended-clause-run

@@ -1,5 +1,5 @@
 use Rattle.std.proofs.Common.{◌∙◌, ap}
-use Rattle.play_server.proofs.Programs.{ran_line}
+use Rattle.play_server.proofs.RunsServer.{ran_line}
 use Rattle.play_server.proofs.program.serve_words.Goals as goal
 
 pub returns : goal.returns

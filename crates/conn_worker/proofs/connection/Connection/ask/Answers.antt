@@ -11,8 +11,8 @@ returns-clause-fits g c =
     let self = c.args.self.now in
     let worker = c.args.pass.now.number in
     let same : c.reply_to.result ≡ replied (command_name c.args.cmd) c.ask-answered.result = c.reply_to.ensures ∙ ap (λ n. replied n c.ask-answered.result) c.name.ensures in
-    subst (λ r. IfOk r (IsReplyTo self.config.now)) (sym same)
-    (fits_asked_command (service_in self worker) self.stage.now.sizes worker self.number (is_service self worker c.requires.ready) c.args.cmd c.ask-answered.result
+    subst (λ r. IfOk r (IsReplyTo self.server.config.now)) (sym same)
+    (fits_asked_command (service_in self worker) self.server.stage.now.sizes worker self.number (is_service self worker c.requires.ready) c.args.cmd c.ask-answered.result
     c.args.pass.now c.ask-answered.new.pass c.ask-answered.ensures.call)
 
 pub returns-clause-asks : goal.returns-clause-asks
@@ -21,5 +21,5 @@ returns-clause-asks g c =
     let worker = c.args.pass.now.number in
     let same : c.reply_to.result ≡ replied (command_name c.args.cmd) c.ask-answered.result = c.reply_to.ensures ∙ ap (λ n. replied n c.ask-answered.result) c.name.ensures in
     subst (λ r. AsksFor (service_in self worker) (model.Ask c.args.cmd) r c.args.pass.now c.ask-answered.new.pass) (sym same)
-    (asks_command (service_in self worker) self.stage.now.sizes worker self.number (is_service self worker c.requires.ready) c.args.cmd c.ask-answered.result
+    (asks_command (service_in self worker) self.server.stage.now.sizes worker self.number (is_service self worker c.requires.ready) c.args.cmd c.ask-answered.result
     c.args.pass.now c.ask-answered.new.pass refl c.ask-answered.ensures.call)

@@ -8,6 +8,6 @@ pub returns-in-Ok-clause-kills : goal.returns-in-Ok-clause-kills
 returns-in-Ok-clause-kills g c =
     let self = c.args.self.now in
     let worker = c.args.pass.now.number in
-    kills_stage (service_in self worker) self.stage.now.sizes worker self.number c.in-Ok.field-0 c.args.pass.now c.stop.new.pass
+    kills_stage (service_in self worker) self.server.stage.now.sizes worker self.number c.in-Ok.field-0 c.args.pass.now c.stop.new.pass
     (g.L.Sink.state c.args.link.now) (g.L.Sink.state c.send.new.link) c.send.result
     (is_service self worker c.requires.ready) refl c.in-Ok.ensures.call c.send.ensures

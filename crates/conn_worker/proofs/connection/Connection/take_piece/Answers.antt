@@ -33,8 +33,8 @@ returns-then-matches-clause-takes g c = λ past same way.
 
 pub follow-requires-clause-filled : goal.follow-requires-clause-filled
 follow-requires-clause-filled g c = λ κs within is.
-    let config = c.args.self.now.config.now in
-    let names = c.args.self.now.media.now in
+    let config = c.args.self.now.server.config.now in
+    let names = c.args.self.now.server.media.now in
     let rest = take (length c.args.piece.now - c.loop.at) (drop c.loop.at c.args.piece.now) in
     let has = fed_progress config names c.loop.session c.feed-at.new.self (take c.feed-at.result rest) (c.feed-at.ensures.represents config names) c.loop.invariant.known in
     subst (λ (b : List Cmd). 0 < length b) (sym c.batch.ensures)
@@ -44,8 +44,8 @@ pub loop-preserved : goal.loop-preserved
 loop-preserved g c =
     let self = c.args.self.now in
     let piece = c.args.piece.now in
-    let config = self.config.now in
-    let names = self.media.now in
+    let config = self.server.config.now in
+    let names = self.server.media.now in
     let service = service_in self c.args.pass.now.number in
     let mine = service_in self c.loop.pass.number in
     let before : Standing = record { pass = c.loop.pass; link = g.L.Sink.state c.loop.link } in

@@ -11,11 +11,11 @@ use Rattle.conn_worker.proofs.connection.Connection.take_piece.Given as goal
 abbrev pub invariant-loop : goal.invariant-loop
 invariant-loop g l = record {
   within : l.at ≤ length l.piece;
-  of : l.pass.stage ≡ l.self.stage.now;
+  of : l.pass.stage ≡ l.self.server.stage.now;
   number : l.pass.number ≡ l.fn.pass.number;
-  known : HasProgress l.self.config.now l.self.media.now l.session;
+  known : HasProgress l.self.server.config.now l.self.server.media.now l.session;
   going : l.session.ended ≡ false;
-  aimed : AreAimed l.self.config.now l.session.batch;
+  aimed : AreAimed l.self.server.config.now l.session.batch;
   running : stop_at l.pass.seen ≡ None;
   takes : (past : Past) → past.service ≡ service_in l.self l.fn.pass.number
       → IsUnderWay (with_piece past l.piece []) (bytes_in past.rounds)

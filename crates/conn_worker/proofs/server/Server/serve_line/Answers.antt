@@ -1,0 +1,42 @@
+use Rattle.std.proofs.Common.{inl, inr, refl, sym, subst}
+use Rattle.conn_worker.specs.Work.{GoesOnAfter, StopsAfter, LinkRun}
+use Rattle.conn_worker.proofs.Doors.{looked_after_kill}
+use Rattle.conn_worker.proofs.server.Server.serve_line.Goals as goal
+
+pub returns-in-Over-clause-gives_back : goal.returns-in-Over-clause-gives_back
+returns-in-Over-clause-gives_back g c =
+    let after = c.serve-end.new.pass in
+    let link_run : LinkRun g.row.D-Line.Denot = record { came = g.D.Line.Sink.state c.args.line; line = c.serve-end.new.link; end = c.serve-end.result; pass = after } in
+    record {
+      link_run = link_run;
+      came_is = refl;
+      explained = c.serve-end.ensures.explained;
+      door = c.give_back.ensures;
+      pass = elim c.in-Over.is [
+        | inl over ↦ subst (λ e. GoesOnAfter e after after) (sym over) refl
+        | inr fault ↦ subst (λ e. GoesOnAfter e after after) (sym fault) refl
+      ];
+    }
+
+pub returns-in-Killed-clause-gives_back : goal.returns-in-Killed-clause-gives_back
+returns-in-Killed-clause-gives_back g c =
+    let link_run : LinkRun g.row.D-Line.Denot = record { came = g.D.Line.Sink.state c.args.line; line = c.serve-end.new.link; end = c.serve-end.result; pass = c.serve-end.new.pass } in
+    record {
+      link_run = link_run;
+      came_is = refl;
+      explained = c.serve-end.ensures.explained;
+      door = c.give_back.ensures;
+      pass = looked_after_kill c.look.result link_run c.look.new.pass c.in-Killed.is c.look.ensures.looks;
+    }
+
+pub returns-in-Ended-clause-gives_back : goal.returns-in-Ended-clause-gives_back
+returns-in-Ended-clause-gives_back g c =
+    let after = c.serve-end.new.pass in
+    let link_run : LinkRun g.row.D-Line.Denot = record { came = g.D.Line.Sink.state c.args.line; line = c.serve-end.new.link; end = c.serve-end.result; pass = after } in
+    record {
+      link_run = link_run;
+      came_is = refl;
+      explained = c.serve-end.ensures.explained;
+      door = c.give_back.ensures;
+      pass = subst (λ e. StopsAfter c.in-Ended.at e after after) (sym c.in-Ended.is) (refl, refl);
+    }

@@ -1,0 +1,378 @@
+-- What the exit status of the program tells.
+use Rattle.std.proofs.Common.{◌≡◌, ◌≢◌, ◌⊎◌, ℕ, ◌≤◌, List, [], refl, sym, ap, ◌∙◌, subst, arith, inl, inr}
+use Rattle.std.specs.Prelude.{Option, Some, None, Result, Ok, Err, option_map, string_bytes}
+use Rattle.std.proofs.lemmas.Option.{none-some}
+use Rattle.clap.specs.Words.{fault_of}
+use Rattle.play_outside.specs.Faults.{Rose}
+use Rattle.play_outside.specs.FolderState.{Files, FolderState}
+use Rattle.play_outside.specs.SinkState.{SinkState}
+use Rattle.play_outside.specs.declared.sink.WriteStep.{WriteStep}
+use Rattle.play_outside.specs.declared.sink.WriteStep.TheVariants as step
+use Rattle.server_setup.specs.Fault.{status_of}
+use Rattle.server_setup.specs.Setup.{SetsUp, TellsFirst, fault_of_files}
+use Rattle.server_setup.specs.declared.fault.RunFault.{RunFault}
+use Rattle.server_setup.specs.declared.fault.RunFault.TheVariants.{Usage, ConfigText, ConfigKey, BadLine, InputTooLong, MediaTwice, MediaTotal, Device, OutOfMemory}
+use Rattle.server_setup.specs.declared.setup.ServerSetup.{ServerSetup}
+use Rattle.play_server.specs.Program.{AtSite, RunsLine, RunsOn, RunsServer, RunsSetUp, RunsWords, SaysEnd, SaysLine, asked_in, asked_of, program_of, status_in}
+use Rattle.play_server.specs.ServerWords.{Accepts, ReadsWords, playd_app}
+use Rattle.play_server.specs.Site.{DeviceStates, Says}
+use Rattle.play_server.specs.SiteState.{SiteState}
+use Rattle.play_server.specs.Statuses.{EndsUncalled, EndsWell, HasFirstFault, HasServedClients, IsRefused, RefusesClips, RefusesConfig, SomethingFails}
+use Rattle.play_server.specs.declared.served.ServeEnd.TheVariants as serve
+use Rattle.play_server.specs.declared.words.ServerWords.{ServerWords}
+use Rattle.play_server.specs.declared.words.WordsFault.{WordsFault}
+use Rattle.play_server.specs.declared.words.WordsFault.TheVariants as words
+use Rattle.play_server.proofs.SaysLine.{moved_clips, moved_config, moved_failure, moved_run}
+use Rattle.play_server.proofs.DeviceFaults.{device_rose, devices_stay, rises, stopped_by}
+
+-- the law on what setting up gives, by the first fault of the files
+abbrev pub FirstFaultDecides : Type 0
+FirstFaultDecides = (path : List ℕ) (result : Result ServerSetup RunFault) (before after : FolderState) (files : Files) →
+    before.files ≡ Some files → SetsUp path result before after → TellsFirst result (fault_of_files path files)
+
+module _ {C D O : Type 0} where
+  -- a call of `say` takes no fault back
+  said_more : (step : WriteStep) (line : List ℕ) (before after : SiteState C D O) → Says step line before after → before.faults ≤ after.faults
+  said_more (step.Took count) line before after says = omega (arith, ap (λ (s : SiteState C D O). s.faults) says.1)
+  said_more step.Failed line before after says = omega (arith, ap (λ (s : SiteState C D O). s.faults) says)
+
+  -- what is said at the end takes no fault back
+  end_more : (result : Result (Unit {0}) RunFault) (before after : SiteState C D O) → SaysEnd result before after → before.faults ≤ after.faults
+  end_more (Ok done) before after says = omega (arith, ap (λ (s : SiteState C D O). s.faults) says)
+  end_more (Err fault) before after says =
+      elim says.said [
+        | inl told ↦ said_more told.0 says.line before after told.1
+        | inr unsaid ↦ omega (arith, ap (λ (s : SiteState C D O). s.faults) unsaid.1)
+      ]
+
+module _ {C D O L : Type 0} (device : DeviceStates C D O L) (tells : L → SinkState) (line : List (List ℕ)) where
+  -- a server was set up as the words say
+  record IsSetUp (moments : AtSite C D O × AtSite C D O) : Type 0 where
+    named : ServerWords
+    accepted : Accepts line named
+    setup : ServerSetup
+    set_up : SetsUp (string_bytes named.config) (Ok setup) moments.0.folder moments.1.folder
+
+  -- what came of a call, by its result, before anything was said
+  abbrev Came : Result (Unit {0}) RunFault → AtSite C D O × AtSite C D O → Type 0
+  Came (Ok done) moments = (run : HasServedClients device tells line serve.Ended moments) × (run.site ≡ moments.1.site)
+  Came (Err Usage) moments = fault_of playd_app line ≢ []
+  Came (Err ConfigText) moments = IsRefused line ConfigText moments
+  Came (Err (ConfigKey key)) moments = IsRefused line (ConfigKey key) moments
+  Came (Err (BadLine number)) moments = ⊥
+  Came (Err InputTooLong) moments = ⊥
+  Came (Err (MediaTwice name)) moments = IsRefused line (MediaTwice name) moments
+  Came (Err (MediaTotal total)) moments = IsRefused line (MediaTotal total) moments
+  Came (Err Device) moments =
+      (fault_of playd_app line ≡ [])
+      × (Rose moments.0.folder.faults moments.1.folder.faults
+      ⊎ (IsSetUp moments × (Rose moments.0.site.faults moments.1.site.faults ⊎ HasServedClients device tells line serve.DeviceFault moments)))
+  Came (Err OutOfMemory) moments =
+      (moments.1.site ≡ moments.0.site) ⊎ ((run : HasServedClients device tells line serve.OutOfMemory moments) × (run.site ≡ moments.1.site))
+
+  -- what came of setting up that met a fault
+  came_of_fault : (named : ServerWords) (fault : RunFault) (moments : AtSite C D O × AtSite C D O) → Accepts line named
+      → SetsUp (string_bytes named.config) (Err fault) moments.0.folder moments.1.folder → moments.1.site ≡ moments.0.site → Came (Err fault) moments
+  came_of_fault named Usage moments accepted sets same = absurd sets
+  came_of_fault named ConfigText moments accepted sets same = record { named = named; accepted = accepted; refused = sets }
+  came_of_fault named (ConfigKey key) moments accepted sets same = record { named = named; accepted = accepted; refused = sets }
+  came_of_fault named (BadLine number) moments accepted sets same = absurd sets
+  came_of_fault named InputTooLong moments accepted sets same = absurd sets
+  came_of_fault named (MediaTwice name) moments accepted sets same = record { named = named; accepted = accepted; refused = sets }
+  came_of_fault named (MediaTotal total) moments accepted sets same = record { named = named; accepted = accepted; refused = sets }
+  came_of_fault named Device moments accepted sets same = (accepted.accepted, inl sets.1)
+  came_of_fault named OutOfMemory moments accepted sets same = inl same
+
+  -- what came of a run on what was set up
+  came_of_run : (named : ServerWords) (setup : ServerSetup) (result : Result (Unit {0}) RunFault) (moments : AtSite C D O × AtSite C D O) → Accepts line named
+      → SetsUp (string_bytes named.config) (Ok setup) moments.0.folder moments.1.folder
+      → RunsOn device tells (asked_of setup (option_map string_bytes named.journal)) result (moments.0.site, moments.1.site) → Came result moments
+  came_of_run named setup (Ok done) moments accepted sets runs =
+      (record { named = named; accepted = accepted; setup = setup; set_up = sets; site = moments.1.site; served = runs }, refl)
+  came_of_run named setup (Err Device) moments accepted sets runs =
+      let set_up : IsSetUp moments = record { named = named; accepted = accepted; setup = setup; set_up = sets } in
+      elim runs [
+        | inl served ↦
+            (accepted.accepted, inr (set_up, inr (record { named = named; accepted = accepted; setup = setup; set_up = sets; site = moments.1.site; served = served })))
+        | inr unready ↦
+            (accepted.accepted, inr (set_up, inl (rises moments.0.site.faults moments.1.site.faults (ap (λ (s : SiteState C D O). s.faults) unready))))
+      ]
+  came_of_run named setup (Err OutOfMemory) moments accepted sets runs =
+      elim runs [
+        | inl served ↦
+            inr (record { named = named; accepted = accepted; setup = setup; set_up = sets; site = moments.1.site; served = served }, refl)
+        | inr unready ↦ inl unready
+      ]
+  came_of_run named setup (Err Usage) moments accepted sets runs = absurd runs
+  came_of_run named setup (Err ConfigText) moments accepted sets runs = absurd runs
+  came_of_run named setup (Err (ConfigKey key)) moments accepted sets runs = absurd runs
+  came_of_run named setup (Err (BadLine number)) moments accepted sets runs = absurd runs
+  came_of_run named setup (Err InputTooLong) moments accepted sets runs = absurd runs
+  came_of_run named setup (Err (MediaTwice name)) moments accepted sets runs = absurd runs
+  came_of_run named setup (Err (MediaTotal total)) moments accepted sets runs = absurd runs
+
+  came_of_setup : (named : ServerWords) (setup : Result ServerSetup RunFault) (result : Result (Unit {0}) RunFault) (moments : AtSite C D O × AtSite C D O) → Accepts line named
+      → SetsUp (string_bytes named.config) setup moments.0.folder moments.1.folder
+      → RunsSetUp device tells (asked_in setup (option_map string_bytes named.journal)) result (moments.0.site, moments.1.site) → Came result moments
+  came_of_setup named (Ok setup) result moments accepted sets runs = came_of_run named setup result moments accepted sets runs
+  came_of_setup named (Err fault) result moments accepted sets runs =
+      subst (λ (r : Result (Unit {0}) RunFault). Came r moments) (sym runs.0) (came_of_fault named fault moments accepted sets runs.1)
+
+  came_of_words : (read : Result ServerWords WordsFault) (result : Result (Unit {0}) RunFault) (moments : AtSite C D O × AtSite C D O) → ReadsWords line read
+      → RunsWords device tells read result moments → Came result moments
+  came_of_words (Ok named) result moments reads runs = came_of_setup named runs.setup result moments reads runs.sets_up runs.runs
+  came_of_words (Err words.Usage) result moments reads runs = subst (λ (r : Result (Unit {0}) RunFault). Came r moments) (sym runs.0) reads
+  came_of_words (Err words.OutOfMemory) result moments reads runs = subst (λ (r : Result (Unit {0}) RunFault). Came r moments) (sym runs.0) (inl (ap (λ (at : AtSite C D O). at.site) runs.1))
+
+  came_of_line : (result : Result (Unit {0}) RunFault) (moments : AtSite C D O × AtSite C D O) → RunsLine device tells line result moments → Came result moments
+  came_of_line result moments runs = came_of_words runs.read result moments runs.reads runs.runs
+
+  -- status 1 comes only if the words are refused
+  only_usage : (result : Result (Unit {0}) RunFault) (moments : AtSite C D O × AtSite C D O) → Came result moments → status_in result ≡ 1
+      → fault_of playd_app line ≢ []
+  only_usage (Ok done) moments came is = absurd (omega (arith, is))
+  only_usage (Err Usage) moments came is = came
+  only_usage (Err ConfigText) moments came is = absurd (omega (arith, is))
+  only_usage (Err (ConfigKey key)) moments came is = absurd (omega (arith, is))
+  only_usage (Err (BadLine number)) moments came is = absurd came
+  only_usage (Err InputTooLong) moments came is = absurd came
+  only_usage (Err (MediaTwice name)) moments came is = absurd (omega (arith, is))
+  only_usage (Err (MediaTotal total)) moments came is = absurd (omega (arith, is))
+  only_usage (Err Device) moments came is = absurd (omega (arith, is))
+  only_usage (Err OutOfMemory) moments came is = absurd (omega (arith, is))
+
+  -- words that are refused give status 1, or 5
+  refused_words : (result : Result (Unit {0}) RunFault) (moments : AtSite C D O × AtSite C D O) → Came result moments → fault_of playd_app line ≢ []
+      → (status_in result ≡ 1) ⊎ (status_in result ≡ 5)
+  refused_words (Ok done) moments came refused = absurd (refused came.0.accepted.accepted)
+  refused_words (Err Usage) moments came refused = inl refl
+  refused_words (Err ConfigText) moments came refused = absurd (refused came.accepted.accepted)
+  refused_words (Err (ConfigKey key)) moments came refused = absurd (refused came.accepted.accepted)
+  refused_words (Err (BadLine number)) moments came refused = absurd came
+  refused_words (Err InputTooLong) moments came refused = absurd came
+  refused_words (Err (MediaTwice name)) moments came refused = absurd (refused came.accepted.accepted)
+  refused_words (Err (MediaTotal total)) moments came refused = absurd (refused came.accepted.accepted)
+  refused_words (Err Device) moments came refused = absurd (refused came.0)
+  refused_words (Err OutOfMemory) moments came refused = inr refl
+
+  -- status 2 comes only if the configuration is refused
+  only_config : (result : Result (Unit {0}) RunFault) (moments : AtSite C D O × AtSite C D O) → Came result moments → status_in result ≡ 2 → RefusesConfig line moments
+  only_config (Ok done) moments came is = absurd (omega (arith, is))
+  only_config (Err Usage) moments came is = absurd (omega (arith, is))
+  only_config (Err ConfigText) moments came is = inl came
+  only_config (Err (ConfigKey key)) moments came is = inr (key, came)
+  only_config (Err (BadLine number)) moments came is = absurd came
+  only_config (Err InputTooLong) moments came is = absurd came
+  only_config (Err (MediaTwice name)) moments came is = absurd (omega (arith, is))
+  only_config (Err (MediaTotal total)) moments came is = absurd (omega (arith, is))
+  only_config (Err Device) moments came is = absurd (omega (arith, is))
+  only_config (Err OutOfMemory) moments came is = absurd (omega (arith, is))
+
+  -- status 3 comes only if the clips are refused
+  only_clips : (result : Result (Unit {0}) RunFault) (moments : AtSite C D O × AtSite C D O) → Came result moments → status_in result ≡ 3 → RefusesClips line moments
+  only_clips (Ok done) moments came is = absurd (omega (arith, is))
+  only_clips (Err Usage) moments came is = absurd (omega (arith, is))
+  only_clips (Err ConfigText) moments came is = absurd (omega (arith, is))
+  only_clips (Err (ConfigKey key)) moments came is = absurd (omega (arith, is))
+  only_clips (Err (BadLine number)) moments came is = absurd came
+  only_clips (Err InputTooLong) moments came is = absurd came
+  only_clips (Err (MediaTwice name)) moments came is = inl (name, came)
+  only_clips (Err (MediaTotal total)) moments came is = inr (total, came)
+  only_clips (Err Device) moments came is = absurd (omega (arith, is))
+  only_clips (Err OutOfMemory) moments came is = absurd (omega (arith, is))
+
+  -- something failed if the result is that of a device
+  failed : (moments : AtSite C D O × AtSite C D O) → Came (Err Device) moments → SomethingFails device tells line moments
+  failed moments came =
+      elim came.1 [
+        | inl folder ↦ inl folder
+        | inr other ↦ elim other.1 [
+          | inl site ↦ inr (inl site)
+          | inr run ↦ inr (inr (run, device_rose device tells (program_of run.setup) (run.served.given, run.served.finished) run.served.ready.outs run.served.serves))
+        ]
+      ]
+
+  only_device : (result : Result (Unit {0}) RunFault) (moments : AtSite C D O × AtSite C D O) → Came result moments → status_in result ≡ 4 → SomethingFails device tells line moments
+  only_device (Ok done) moments came is = absurd (omega (arith, is))
+  only_device (Err Usage) moments came is = absurd (omega (arith, is))
+  only_device (Err ConfigText) moments came is = absurd (omega (arith, is))
+  only_device (Err (ConfigKey key)) moments came is = absurd (omega (arith, is))
+  only_device (Err (BadLine number)) moments came is = absurd came
+  only_device (Err InputTooLong) moments came is = absurd came
+  only_device (Err (MediaTwice name)) moments came is = absurd (omega (arith, is))
+  only_device (Err (MediaTotal total)) moments came is = absurd (omega (arith, is))
+  only_device (Err Device) moments came is = failed moments came
+  only_device (Err OutOfMemory) moments came is = absurd (omega (arith, is))
+
+  -- no status is above 5
+  at_most : (result : Result (Unit {0}) RunFault) → status_in result ≤ 5
+  at_most (Ok done) = omega arith
+  at_most (Err Usage) = omega arith
+  at_most (Err ConfigText) = omega arith
+  at_most (Err (ConfigKey key)) = omega arith
+  at_most (Err (BadLine number)) = omega arith
+  at_most (Err InputTooLong) = omega arith
+  at_most (Err (MediaTwice name)) = omega arith
+  at_most (Err (MediaTotal total)) = omega arith
+  at_most (Err Device) = omega arith
+  at_most (Err OutOfMemory) = omega arith
+
+  -- what setting up gave tells the first fault
+  first_of_setting_up : FirstFaultDecides → (named : ServerWords) (setup : Result ServerSetup RunFault) (first : Option RunFault) (moments : AtSite C D O × AtSite C D O)
+      → HasFirstFault line first moments.0.folder → Accepts line named → SetsUp (string_bytes named.config) setup moments.0.folder moments.1.folder → TellsFirst setup first
+  first_of_setting_up decides named setup first moments has accepted sets =
+      let both : Some (string_bytes named.config) ≡ Some has.path = sym accepted.names.config ∙ has.config in
+      let path : string_bytes named.config ≡ has.path = cc in
+      subst (TellsFirst setup) has.first_is
+      (subst (λ (p : List ℕ). TellsFirst setup (fault_of_files p has.files)) path
+      (decides (string_bytes named.config) setup moments.0.folder moments.1.folder has.files has.told sets))
+
+  first_of_refused : FirstFaultDecides → (fault : RunFault) (first : Option RunFault) (moments : AtSite C D O × AtSite C D O) → HasFirstFault line first moments.0.folder
+      → IsRefused line fault moments → TellsFirst (Err fault) first
+  first_of_refused decides fault first moments has refused = first_of_setting_up decides refused.named (Err fault) first moments has refused.accepted refused.refused
+
+  -- files without a fault give status 0, or 5, or something failed
+  completes : FirstFaultDecides → (result : Result (Unit {0}) RunFault) (moments : AtSite C D O × AtSite C D O) → HasFirstFault line None moments.0.folder → Came result moments
+      → (status_in result ≡ 0) ⊎ ((status_in result ≡ 5) ⊎ ((status_in result ≡ 4) × SomethingFails device tells line moments))
+  completes decides (Ok done) moments has came = inl refl
+  completes decides (Err Usage) moments has came = absurd (came has.accepted)
+  completes decides (Err ConfigText) moments has came = absurd (none-some _ (first_of_refused decides ConfigText None moments has came))
+  completes decides (Err (ConfigKey key)) moments has came = absurd (none-some _ (first_of_refused decides (ConfigKey key) None moments has came))
+  completes decides (Err (BadLine number)) moments has came = absurd came
+  completes decides (Err InputTooLong) moments has came = absurd came
+  completes decides (Err (MediaTwice name)) moments has came = absurd (none-some _ (first_of_refused decides (MediaTwice name) None moments has came))
+  completes decides (Err (MediaTotal total)) moments has came = absurd (none-some _ (first_of_refused decides (MediaTotal total) None moments has came))
+  completes decides (Err Device) moments has came = inr (inr (refl, failed moments came))
+  completes decides (Err OutOfMemory) moments has came = inr (inl refl)
+
+  -- the status of this fault, or that of memory, or that of the folder
+  abbrev Meets : RunFault → ℕ → FolderState → FolderState → Type 0
+  Meets fault status before after = (status ≡ status_of fault) ⊎ ((status ≡ 5) ⊎ ((status ≡ 4) × Rose before.faults after.faults))
+
+  -- the fault that was told is the first one
+  same_fault : (told fault : RunFault) (before after : FolderState) → Some fault ≡ Some told → Meets fault (status_of told) before after
+  same_fault told fault before after both =
+      let same : told ≡ fault = cc in
+      inl (ap status_of same)
+
+  -- the first fault gives its status
+  meets : FirstFaultDecides → (fault : RunFault) (result : Result (Unit {0}) RunFault) (moments : AtSite C D O × AtSite C D O)
+      → HasFirstFault line (Some fault) moments.0.folder → Came result moments → Meets fault (status_in result) moments.0.folder moments.1.folder
+  meets decides fault (Ok done) moments has came =
+      absurd (none-some _ (sym (first_of_setting_up decides came.0.named (Ok came.0.setup) (Some fault) moments has came.0.accepted came.0.set_up)))
+  meets decides fault (Err Usage) moments has came = absurd (came has.accepted)
+  meets decides fault (Err ConfigText) moments has came = same_fault ConfigText fault moments.0.folder moments.1.folder (first_of_refused decides ConfigText (Some fault) moments has came)
+  meets decides fault (Err (ConfigKey key)) moments has came = same_fault (ConfigKey key) fault moments.0.folder moments.1.folder (first_of_refused decides (ConfigKey key) (Some fault) moments has came)
+  meets decides fault (Err (BadLine number)) moments has came = absurd came
+  meets decides fault (Err InputTooLong) moments has came = absurd came
+  meets decides fault (Err (MediaTwice name)) moments has came = same_fault (MediaTwice name) fault moments.0.folder moments.1.folder (first_of_refused decides (MediaTwice name) (Some fault) moments has came)
+  meets decides fault (Err (MediaTotal total)) moments has came = same_fault (MediaTotal total) fault moments.0.folder moments.1.folder (first_of_refused decides (MediaTotal total) (Some fault) moments has came)
+  meets decides fault (Err Device) moments has came =
+      elim came.1 [
+        | inl folder ↦ inr (inr (refl, folder))
+        | inr other ↦ absurd (none-some _ (sym (first_of_setting_up decides other.0.named (Ok other.0.setup) (Some fault) moments has other.0.accepted other.0.set_up)))
+      ]
+  meets decides fault (Err OutOfMemory) moments has came = inr (inl refl)
+
+  -- nothing failed if the result is Ok
+  ended_well : (first between last : AtSite C D O) → last.folder ≡ between.folder → last.site ≡ between.site → Came (Ok tt) (first, between) → EndsWell device tells line (first, last)
+  ended_well first between last folder silent came =
+      let run = came.0 in
+      record {
+        run = moved_run device tells line first between last folder serve.Ended run;
+        stopped = stopped_by device tells (program_of run.setup) (run.served.given, run.served.finished) run.served.serves;
+        devices = devices_stay device tells (program_of run.setup) (run.served.given, run.served.finished) run.served.serves;
+        folder = folder ∙ run.set_up.1.1;
+        site = ap (λ (s : SiteState C D O). s.faults) (silent ∙ (sym came.1 ∙ run.served.after_is));
+      }
+
+  only_success : (result : Result (Unit {0}) RunFault) (first between last : AtSite C D O) → last.folder ≡ between.folder → SaysEnd result between.site last.site
+      → Came result (first, between) → status_in result ≡ 0 → EndsWell device tells line (first, last)
+  only_success (Ok done) first between last folder says came is = ended_well first between last folder says came
+  only_success (Err Usage) first between last folder says came is = absurd (omega (arith, is))
+  only_success (Err ConfigText) first between last folder says came is = absurd (omega (arith, is))
+  only_success (Err (ConfigKey key)) first between last folder says came is = absurd (omega (arith, is))
+  only_success (Err (BadLine number)) first between last folder says came is = absurd came
+  only_success (Err InputTooLong) first between last folder says came is = absurd came
+  only_success (Err (MediaTwice name)) first between last folder says came is = absurd (omega (arith, is))
+  only_success (Err (MediaTotal total)) first between last folder says came is = absurd (omega (arith, is))
+  only_success (Err Device) first between last folder says came is = absurd (omega (arith, is))
+  only_success (Err OutOfMemory) first between last folder says came is = absurd (omega (arith, is))
+
+  -- no device was called if memory ran out
+  uncalled : (first between last : AtSite C D O) → last.folder ≡ between.folder → SaysLine OutOfMemory between.site last.site
+      → Came (Err OutOfMemory) (first, between) → EndsUncalled device tells line (first, last)
+  uncalled first between last folder says came =
+      elim came [
+        | inl same ↦ inl (subst (λ (s : SiteState C D O). SaysLine OutOfMemory s last.site) same says)
+        | inr run ↦
+            inr (
+              moved_run device tells line first between last folder serve.OutOfMemory run.0,
+              run.0.served.serves,
+              subst (λ (s : SiteState C D O). SaysLine OutOfMemory s last.site) (sym run.1) says,
+            )
+      ]
+
+  only_memory : (result : Result (Unit {0}) RunFault) (first between last : AtSite C D O) → last.folder ≡ between.folder → SaysEnd result between.site last.site
+      → Came result (first, between) → status_in result ≡ 5 → EndsUncalled device tells line (first, last)
+  only_memory (Ok done) first between last folder says came is = absurd (omega (arith, is))
+  only_memory (Err Usage) first between last folder says came is = absurd (omega (arith, is))
+  only_memory (Err ConfigText) first between last folder says came is = absurd (omega (arith, is))
+  only_memory (Err (ConfigKey key)) first between last folder says came is = absurd (omega (arith, is))
+  only_memory (Err (BadLine number)) first between last folder says came is = absurd came
+  only_memory (Err InputTooLong) first between last folder says came is = absurd came
+  only_memory (Err (MediaTwice name)) first between last folder says came is = absurd (omega (arith, is))
+  only_memory (Err (MediaTotal total)) first between last folder says came is = absurd (omega (arith, is))
+  only_memory (Err Device) first between last folder says came is = absurd (omega (arith, is))
+  only_memory (Err OutOfMemory) first between last folder says came is = uncalled first between last folder says came
+
+  module _ (status : ℕ) (moments : AtSite C D O × AtSite C D O) (ran : RunsServer device tells line status moments) where
+    came_here : Came ran.result (moments.0, ran.between)
+    came_here = came_of_line ran.result (moments.0, ran.between) ran.runs
+
+    pub most_status : status ≤ 5
+    most_status = rw ran.status_is (at_most ran.result)
+
+    pub usage_status : status ≡ 1 → fault_of playd_app line ≢ []
+    usage_status is = only_usage ran.result (moments.0, ran.between) came_here (sym ran.status_is ∙ is)
+
+    pub refused_status : fault_of playd_app line ≢ [] → (status ≡ 1) ⊎ (status ≡ 5)
+    refused_status refused = rw ran.status_is (refused_words ran.result (moments.0, ran.between) came_here refused)
+
+    pub config_status : status ≡ 2 → RefusesConfig line moments
+    config_status is =
+        moved_config line moments.0 ran.between moments.1 ran.folder (only_config ran.result (moments.0, ran.between) came_here (sym ran.status_is ∙ is))
+
+    pub clips_status : status ≡ 3 → RefusesClips line moments
+    clips_status is =
+        moved_clips line moments.0 ran.between moments.1 ran.folder (only_clips ran.result (moments.0, ran.between) came_here (sym ran.status_is ∙ is))
+
+    fails_here : SomethingFails device tells line (moments.0, ran.between) → SomethingFails device tells line moments
+    fails_here = moved_failure device tells line moments.0 ran.between moments.1 ran.folder (end_more ran.result ran.between.site moments.1.site ran.says)
+
+    pub device_status : status ≡ 4 → SomethingFails device tells line moments
+    device_status is = fails_here (only_device ran.result (moments.0, ran.between) came_here (sym ran.status_is ∙ is))
+
+    pub success_status : status ≡ 0 → EndsWell device tells line moments
+    success_status is = only_success ran.result moments.0 ran.between moments.1 ran.folder ran.says came_here (sym ran.status_is ∙ is)
+
+    pub memory_status : status ≡ 5 → EndsUncalled device tells line moments
+    memory_status is = only_memory ran.result moments.0 ran.between moments.1 ran.folder ran.says came_here (sym ran.status_is ∙ is)
+
+    pub faultless_status : FirstFaultDecides → HasFirstFault line None moments.0.folder
+        → (status ≡ 0) ⊎ ((status ≡ 5) ⊎ ((status ≡ 4) × SomethingFails device tells line moments))
+    faultless_status decides has =
+        elim (completes decides ran.result (moments.0, ran.between) has came_here) [
+          | inl good ↦ inl (ran.status_is ∙ good)
+          | inr other ↦ elim other [
+            | inl memory ↦ inr (inl (ran.status_is ∙ memory))
+            | inr fails ↦ inr (inr (ran.status_is ∙ fails.0, fails_here fails.1))
+          ]
+        ]
+
+    pub faulty_status : FirstFaultDecides → (fault : RunFault) → HasFirstFault line (Some fault) moments.0.folder
+        → (status ≡ status_of fault) ⊎ ((status ≡ 5) ⊎ ((status ≡ 4) × Rose moments.0.folder.faults moments.1.folder.faults))
+    faulty_status decides fault has =
+        subst (λ (n : ℕ). Meets fault n moments.0.folder moments.1.folder) (sym ran.status_is)
+        (subst (λ (f : FolderState). Meets fault (status_in ran.result) moments.0.folder f) (sym ran.folder)
+        (meets decides fault ran.result (moments.0, ran.between) has came_here))

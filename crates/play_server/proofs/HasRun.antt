@@ -1,0 +1,376 @@
+-- A run by its one history, from what its threads did.
+use Rattle.std.proofs.Common.{◌≡◌, ◌⊎◌, ℕ, zero, suc, ◌+◌, ◌<◌, ◌≤◌, ◌||◌, Bool, true, false, true≢false, List, [], ◌∷◌, ◌++◌, length, map, reverse, refl, sym, ap, subst, ◌∙◌, arith, inl, inr}
+use Rattle.std.specs.Prelude.{All, Some, slice_index_or}
+use Rattle.std.specs.List.{list_any, range_with_len}
+use mathlib.Core.Option.{some, some-injective, some-ne-none}
+use mathlib.Core.List.{IsPrefix}
+use lib.ListN.{get_elem?}
+use Rattle.play_types.specs.Config.{ChannelView}
+use Rattle.play_types.specs.History.{held, stop_at, ticks}
+use Rattle.play_types.specs.declared.event.Event.{Event}
+use Rattle.play_types.specs.declared.event.Event.TheVariants.{Do, Batch, Tick, Stop}
+use Rattle.play_types.specs.declared.event.Tag.{Tag}
+use Rattle.play_outside.specs.SinkState.{SinkState}
+use Rattle.play_outside.specs.Sink.{Sends}
+use Rattle.play_outside.specs.declared.devices.Devices.{Devices}
+use Rattle.play_outside.specs.declared.sink.Sent.{Sent}
+use Rattle.clip_format.specs.Table.{media_names}
+use Rattle.history_model.specs.pictures.Media.{Setup}
+use Rattle.history_model.specs.scripts.History.{channel_size}
+use Rattle.band_render.specs.Rendered.{sizes}
+use Rattle.play_scene.specs.Frames.{FrameView, zero_frame}
+use Rattle.history_model.specs.text.History.{history_text}
+use Rattle.play_journal.specs.Journal.{IsJournal, JournalView}
+use Rattle.stage_lock.specs.Own.{has_final, is_final, is_own, made_by}
+use Rattle.stage_lock.specs.Views.{PassView, SharedView}
+use Rattle.stage_lock.specs.Calls.{new_pass}
+use Rattle.stage_lock.specs.Closing.{Closes, IsOf}
+use Rattle.stage_lock.proofs.Positions.{positions-are}
+use Rattle.conn_worker.specs.Server.{setting_in}
+use Rattle.conn_worker.specs.Work.{Setting}
+use Rattle.conn_worker.specs.declared.server.Server.{Server}
+use Rattle.conn_worker.specs.declared.work_end.WorkEnd.{WorkEnd}
+use Rattle.play_ticker.specs.Ends.{EndsPass, clock_at_end}
+use Rattle.play_ticker.specs.Frames.{AreBlank, is_tick, tick_positions}
+use Rattle.play_ticker.specs.Outputs.{EachOutput, IsWritten}
+use Rattle.play_ticker.specs.declared.ending.TickEnd.{TickEnd}
+use Rattle.play_ticker.specs.declared.ending.TickEnd.TheVariants.{ClockClosed, Ended, TicksOver, ClockFault, OutFault}
+use Rattle.play_ticker.proofs.Frames.{GoesOn, goes_on_by_ticks, ticks-quiet}
+use Rattle.play_server.specs.Site.{DeviceStates}
+use Rattle.play_server.specs.Doors.{DoorRun, EachDoor, HasServed, is_door_fault}
+use Rattle.play_server.specs.Links.{EachFrom}
+use Rattle.play_server.specs.Run.{EndsWithStop, HasRun, IsMadeBy, IsStoppedBy, Program, Serves, ends_so, is_cut, is_found, is_tick_fault, setting_of, setup_of}
+use Rattle.play_server.specs.inner.Threads.{Moment, RanBeside, ticker_pass, ticker_states, worker_passes}
+use Rattle.play_server.specs.inner.Workers.{HasWorkedAt, door_states}
+use Rattle.play_server.specs.declared.connection_workers.ConnectionWorker.{ConnectionWorker}
+use Rattle.play_server.specs.declared.served.ServeEnd.{ServeEnd}
+use Rattle.play_server.proofs.RunPasses.{HasNewPasses}
+use Rattle.play_server.proofs.DoorOrder.{EachPlace, doors_of, each_place, ends_of, passes_of}
+use Rattle.play_server.proofs.Reversed.{all_zip_reverse, any_reversed}
+use Rattle.play_server.proofs.EndsWithStop.{ends_with_stop, has_final_last, same_server, seen_stop, ticks_end, written_later}
+use Rattle.play_server.proofs.IsExplainedLink.{IsNewPass, stop_stays}
+use Rattle.play_server.proofs.HasServed.{DoorsServed, IsOfLinks, doors_served, is_faulty}
+
+each_output : {O : Type 0} (P Q : ℕ → O → O → Type 0) (channel : ℕ) (olds news : List O) → ((channel : ℕ) (old new : O) → P channel old new → Q channel old new)
+    → EachOutput P channel olds news → EachOutput Q channel olds news
+each_output P Q channel [] [] f each = tt
+each_output P Q channel [] (new ∷ news) f each = absurd each
+each_output P Q channel (old ∷ olds) [] f each = absurd each
+each_output P Q channel (old ∷ olds) (new ∷ news) f each = (f channel old new each.0, each_output P Q (suc channel) olds news f each.1)
+
+each_door : {L D : Type 0} (P Q : ℕ → DoorRun L → D → D → Type 0) (worker : ℕ) (runs : List (DoorRun L)) (olds news : List D)
+    → ((worker : ℕ) (run : DoorRun L) (old new : D) → P worker run old new → Q worker run old new)
+    → EachDoor P worker runs olds news → EachDoor Q worker runs olds news
+each_door P Q worker [] [] [] f each = tt
+each_door P Q worker (run ∷ runs) (old ∷ olds) (new ∷ news) f each = (f worker run old new each.0, each_door P Q (suc worker) runs olds news f each.1)
+each_door P Q worker runs olds news f each = absurd each
+
+-- the passes of the workers are new and are numbered
+new_workers : (stage : SharedView) (number count : ℕ) → EachFrom IsNewPass number (map (new_pass stage) (range_with_len number count))
+new_workers stage number zero = tt
+new_workers stage number (suc count) =
+    let next : number + 1 ≡ suc number = omega arith in (
+      record { number_is = refl; seen = refl; made = refl; ends = refl },
+      subst (λ (n : ℕ). EachFrom (IsNewPass) n (map (new_pass stage) (range_with_len (number + 1) count))) next (new_workers stage (number + 1) count),
+    )
+
+at_index : {X : Type 0} (xs : List X) (k : ℕ) (d : X) → k < length xs → get_elem? xs k ≡ some (slice_index_or xs k d)
+at_index [] k d less = absurd (omega (arith, less))
+at_index (x ∷ xs) zero d less = refl
+at_index (x ∷ xs) (suc k) d less = at_index xs k d (omega (arith, less))
+
+at_index_of : (xs ys : List Event) (k : ℕ) (event : Event) → IsPrefix xs ys → get_elem? xs k ≡ some event → get_elem? ys k ≡ some event
+at_index_of [] ys k event p h = absurd (some-ne-none event (sym h))
+at_index_of (x ∷ xs) [] k event p h = absurd (cc (p.1))
+at_index_of (x ∷ xs) (y ∷ ys) zero event p h = cc (p.1, h)
+at_index_of (x ∷ xs) (y ∷ ys) (suc k) event p h = at_index_of xs ys k event (p.0, cc (p.1)) h
+
+-- what is known when all threads have ended, the stage was closed and the text was written
+pub record Closed {C D O L : Type 0} (states : DeviceStates C D O L) (tells : L → SinkState) (program : Program) (server : Server) (run : TickEnd × Sent × Devices C D O × Devices C D O) : Type 0 where
+  pub after : List PassView
+  pub first : PassView
+  pub others : List PassView
+  pub passes : after ≡ first ∷ others
+  pub ended : List WorkEnd
+  pub journal : JournalView
+  pub config : server.config.now ≡ program.config
+  pub names : server.media.now ≡ media_names program.media
+  pub channels : server.stage.now.sizes.channels ≡ length program.config.channels
+  pub setup : Setup
+  pub setup_is : setup ≡ setup_of program
+  pub of : first.stage ≡ server.stage.now
+  pub number : first.number ≡ 0
+  pub made : first.made ≡ tick_positions first.seen
+  pub outs : EachOutput
+      (λ channel before after. IsWritten run.0 (record { setup = setup; history = first.seen }) channel (states.out before) (states.out after))
+      1 run.2.outs.items run.3.outs.items
+  pub clock : states.clock run.3.clock ≡ clock_at_end run.0 (ticks first.seen) (states.clock run.2.clock)
+  pub tick_end : EndsPass run.0 (ticker_pass server.stage.now) first
+  pub worked : EachPlace (door_states states.door tells) server (worker_passes server.stage.now (length run.2.doors.items)) run.2.doors.items others ended run.3.doors.items
+  pub closes : Closes after journal.events
+  pub is_journal : IsJournal journal
+  pub limit : journal.limit ≡ program.config.journal_limit
+  pub text : Sends run.1 (history_text server.media.now journal.events) (states.out run.2.history) (states.out run.3.history)
+
+module _ {C D O L : Type 0} (states : DeviceStates C D O L) (tells : L → SinkState) (program : Program) (server : Server)
+    (ticker : TickEnd) (written : Sent) (given finished : Devices C D O)
+    (c : Closed states tells program server (ticker, written, given, finished)) where
+  abbrev history : List Event
+  history = c.journal.events
+
+  abbrev first : PassView
+  first = c.first
+
+  abbrev others : List PassView
+  others = c.others
+
+  first_at : get_elem? c.after 0 ≡ some first
+  first_at = ap (λ (ps : List PassView). get_elem? ps 0) c.passes
+
+  other_at : (j : ℕ) (pass : PassView) → get_elem? others j ≡ some pass → get_elem? c.after (suc j) ≡ some pass
+  other_at j pass at = ap (λ (ps : List PassView). get_elem? ps (suc j)) c.passes ∙ at
+
+  first_is : IsOf history (length c.after) first
+  first_is = c.closes.each 0 first first_at
+
+  made_ticks : made_by 0 history ≡ tick_positions first.seen
+  made_ticks = sym (ap (λ (n : ℕ). made_by n history) c.number) ∙ sym first_is.made ∙ c.made
+
+  on : GoesOn first.seen history
+  on = goes_on_by_ticks first.seen history first_is.seen made_ticks
+
+  same_ticks : ticks history ≡ ticks first.seen
+  same_ticks = ticks-quiet first.seen history on
+
+  abbrev served : DoorsServed (door_states states.door tells) server history 1 (given.doors.items, others, c.ended, finished.doors.items)
+  served =
+      doors_served (door_states states.door tells) server history (length c.after) 1 (worker_passes server.stage.now (length given.doors.items)) given.doors.items others c.ended finished.doors.items
+      (new_workers server.stage.now 1 (length given.doors.items)) c.worked
+      (λ j pass at. c.closes.each (suc j) pass (other_at j pass at))
+
+  a_stop : (at : ℕ) × (stop_at history ≡ Some at)
+  a_stop =
+      let seen = seen_stop ticker (new_pass server.stage.now 0) first c.tick_end in
+      (seen.0, stop_stays first.seen history seen.0 first_is.seen seen.1)
+
+  abbrev stopped : EndsWithStop history
+  stopped = ends_with_stop history a_stop.0 c.is_journal.history a_stop.1
+
+  -- an event that is not the server's own stop stands in what one pass made
+  made_pass : (k : ℕ) (event : Event) → get_elem? history k ≡ some event → (j : ℕ) (pass : PassView) → get_elem? c.after j ≡ some pass
+      → (place : ℕ) → get_elem? pass.made place ≡ some k → is_own pass.number event ≡ true
+  made_pass k event at j pass is place made =
+      let of = c.closes.each j pass is in
+      let found = positions-are (is_own pass.number) 0 history place k (ap (λ (ks : List ℕ). get_elem? ks place) (sym of.made) ∙ made) in
+      let same : k ≡ found.0 = omega (arith, found.2) in
+      let event_is : found.1 ≡ event = some-injective found.1 event (sym found.3 ∙ ap (get_elem? history) (sym same) ∙ at) in
+      ap (is_own pass.number) (sym event_is) ∙ found.4
+
+  tick_of_first : (k : ℕ) (event : Event) → get_elem? history k ≡ some event → (place : ℕ) → get_elem? first.made place ≡ some k → is_tick event ≡ true
+  tick_of_first k event at place made =
+      let found = positions-are is_tick 0 first.seen place k (ap (λ (ks : List ℕ). get_elem? ks place) (sym c.made) ∙ made) in
+      let same : k ≡ found.0 = omega (arith, found.2) in
+      let there : get_elem? history found.0 ≡ some found.1 = at_index_of first.seen history found.0 found.1 first_is.seen found.3 in
+      let event_is : found.1 ≡ event = some-injective found.1 event (sym there ∙ ap (get_elem? history) (sym same) ∙ at) in
+      ap is_tick (sym event_is) ∙ found.4
+
+  made_by_tick : (event : Event) → is_tick event ≡ true → IsMadeBy served.runs event
+  made_by_tick (Do tag cmd) is = absurd cc
+  made_by_tick (Batch tag cmds) is = absurd cc
+  made_by_tick Tick is = tt
+  made_by_tick (Stop tag) is = absurd cc
+
+  made_by_link : (event : Event) → IsOfLinks 1 served.runs event → IsMadeBy served.runs event
+  made_by_link (Do tag cmd) is = is
+  made_by_link (Batch tag cmds) is = is
+  made_by_link Tick is = absurd is
+  made_by_link (Stop tag) is = inr is
+
+  made_final : (event : Event) → is_final event ≡ true → IsMadeBy served.runs event
+  made_final (Do tag cmd) is = absurd cc
+  made_final (Batch tag cmds) is = absurd cc
+  made_final Tick is = absurd cc
+  made_final (Stop tag) is = inl (same_server tag is)
+
+  made_here : (k : ℕ) (event : Event) → get_elem? history k ≡ some event → IsMadeBy served.runs event
+  made_here k event at = go (is_final event) refl
+    where
+      by_pass : (j : ℕ) (pass : PassView) → get_elem? c.after j ≡ some pass → (place : ℕ) → get_elem? pass.made place ≡ some k → IsMadeBy served.runs event
+      by_pass zero pass is place made =
+          let pass_is : first ≡ pass = some-injective first pass (sym first_at ∙ is) in
+          made_by_tick event (tick_of_first k event at place (ap (λ (p : PassView). get_elem? p.made place) pass_is ∙ made))
+      by_pass (suc j) pass is place made =
+          let there : get_elem? others j ≡ some pass = sym (ap (λ (ps : List PassView). get_elem? ps (suc j)) c.passes) ∙ is in
+          made_by_link event (served.own j pass there k event at (made_pass k event at (suc j) pass is place made))
+
+      go : (b : Bool) → is_final event ≡ b → IsMadeBy served.runs event
+      go true is = made_final event is
+      go false is =
+          let once = c.closes.once k event at is in
+          by_pass once.k once.stands.pass once.stands.at once.stands.place once.stands.made
+
+  all_made : All (IsMadeBy served.runs) history
+  all_made k d less = made_here k (slice_index_or history k d) (at_index history k d less)
+
+  stopped_by : IsStoppedBy ticker served.runs stopped.tag
+  stopped_by is = go ticker refl
+    where
+      final : has_final history ≡ true
+      final = ap has_final stopped.whole ∙ ap (λ (t : Tag). has_final (stopped.events ++ Stop t ∷ [])) is ∙ has_final_last stopped.events
+
+      not_first : (t : TickEnd) → ticker ≡ t → is_found t ≡ true → first.ends ≡ false
+      not_first ClockClosed same found = absurd cc
+      not_first (Ended at) same found = (subst (λ (t : TickEnd). EndsPass t (new_pass server.stage.now 0) first) same c.tick_end).1
+      not_first TicksOver same found = absurd cc
+      not_first ClockFault same found = absurd cc
+      not_first (OutFault channel) same found = absurd cc
+
+      by_pass : (t : TickEnd) → ticker ≡ t → is_found t ≡ true → (j : ℕ) (pass : PassView) → get_elem? c.after j ≡ some pass → pass.ends ≡ true → list_any is_faulty served.runs ≡ true
+      by_pass t same found zero pass is ends =
+          let pass_is : first ≡ pass = some-injective first pass (sym first_at ∙ is) in
+          absurd (true≢false (sym ends ∙ ap (λ (p : PassView). p.ends) (sym pass_is) ∙ not_first t same found))
+      by_pass t same found (suc j) pass is ends =
+          let there : get_elem? others j ≡ some pass = sym (ap (λ (ps : List PassView). get_elem? ps (suc j)) c.passes) ∙ is in
+          served.ends j pass there ends
+
+      go : (t : TickEnd) → ticker ≡ t → (is_found ticker ≡ false) ⊎ (list_any is_faulty served.runs ≡ true)
+      go t same = by_case (is_found t) refl
+        where
+          by_case : (b : Bool) → is_found t ≡ b → (is_found ticker ≡ false) ⊎ (list_any is_faulty served.runs ≡ true)
+          by_case true found =
+              let some_ends = c.closes.ends final in
+              inr (by_pass t same found some_ends.k some_ends.pass some_ends.at some_ends.ends)
+          by_case false found = inl (ap is_found same ∙ found)
+
+  setting_is : (worker : ℕ) → setting_in server worker tells ≡ setting_of program tells worker
+  setting_is worker = λ i. record { config = c.config i; names = c.names i; worker = worker; tells = tells }
+
+  pub has_run : HasRun states tells program (ends_so (is_tick_fault ticker || (list_any is_door_fault c.ended || is_cut written))) (given, finished)
+  has_run = record {
+    history = history;
+    ticker = ticker;
+    runs = served.runs;
+    written = written;
+    whole = c.is_journal.history;
+    within = subst (λ (n : ℕ). held history ≤ n) c.limit c.is_journal.commands;
+    stopped = stopped;
+    stopped_by = stopped_by;
+    made = all_made;
+    doors = each_door
+        (λ worker run before after. HasServed (setting_in server worker tells) history run (states.door before) (states.door after))
+        (λ worker run before after. HasServed (setting_of program tells worker) history run (states.door before) (states.door after))
+        1 served.runs given.doors.items finished.doors.items
+        (λ worker run before after h. subst (λ (s : Setting L). HasServed s history run (states.door before) (states.door after)) (setting_is worker) h)
+        served.each;
+    outs = each_output
+        (λ channel before after. IsWritten ticker (record { setup = c.setup; history = first.seen }) channel (states.out before) (states.out after))
+        (λ channel before after. IsWritten ticker (record { setup = setup_of program; history = history }) channel (states.out before) (states.out after))
+        1 given.outs.items finished.outs.items
+        (λ channel before after h. subst (λ (s : Setup). IsWritten ticker (record { setup = s; history = history }) channel (states.out before) (states.out after)) c.setup_is
+        (written_later c.setup first.seen history on ticker channel (states.out before) (states.out after) h))
+        c.outs;
+    clock = c.clock ∙ ap (λ (n : ℕ). clock_at_end ticker n (states.clock given.clock)) (sym same_ticks);
+    pulses = ticks_end (length program.config.channels) ticker (new_pass server.stage.now 0) first history c.tick_end first_is.seen same_ticks
+        (ap (λ (s : SharedView). s.sizes.channels) c.of ∙ c.channels);
+    text = subst (λ names. Sends written (history_text names history) (states.out given.history) (states.out finished.history)) c.names c.text;
+    ending = ap (λ (b : Bool). ends_so (is_tick_fault ticker || (b || is_cut written))) (sym served.faults);
+  }
+
+-- a run that ended so
+pub serves : {C D O L : Type 0} (states : DeviceStates C D O L) (tells : L → SinkState) (program : Program) (failed : Bool) (devices : Devices C D O × Devices C D O)
+    → HasRun states tells program (ends_so failed) devices → Serves states tells program (ends_so failed) devices
+serves states tells program true devices run = run
+serves states tells program false devices run = run
+
+-- the formats of frames that were just made are those of the channels
+pub sizes_of_zero : (channels : List ChannelView) → sizes (map zero_frame channels) ≡ map channel_size channels
+sizes_of_zero [] = refl
+sizes_of_zero (channel ∷ channels) = ap (λ l. channel_size channel ∷ l) (sizes_of_zero channels)
+
+pub blank : (frames : List FrameView) (channels : List ChannelView) → frames ≡ map zero_frame channels → AreBlank frames
+blank frames channels same = record { channels = channels; blank = same }
+
+-- what is known of the stage that was closed and of the text that was written
+pub record Ending {C D O L : Type 0} (states : DeviceStates C D O L) (program : Program) (server : Server) (new : Moment C D O) (end : TickEnd × Sent × ServeEnd × Devices C D O × Devices C D O) : Type 0 where
+  pub after : List PassView
+  pub passes : after ≡ new.ticker.pass ∷ passes_of (reverse new.workers)
+  pub journal : JournalView
+  pub closes : Closes after journal.events
+  pub is_journal : IsJournal journal
+  pub limit : journal.limit ≡ program.config.journal_limit
+  pub text : Sends end.1 (history_text server.media.now journal.events) (states.out end.3.history) (states.out end.4.history)
+  pub end_is : end.2 ≡ ends_so (is_tick_fault end.0 || (list_any (λ (worker : ConnectionWorker D). is_door_fault worker.end) new.workers || is_cut end.1))
+
+-- the devices of a run at a moment are these
+pub record HoldsDevices {C D O : Type 0} (moment : Moment C D O) (devices : Devices C D O) : Type 0 where
+  pub clock : moment.ticker.clock ≡ devices.clock
+  pub doors : doors_of (reverse moment.workers) ≡ devices.doors.items
+  pub outs : moment.ticker.outs.items ≡ devices.outs.items
+
+-- what a run is played on is what its threads share
+pub record IsPlayedOn (program : Program) (server : Server) (setup : Setup) : Type 0 where
+  pub config : server.config.now ≡ program.config
+  pub names : server.media.now ≡ media_names program.media
+  pub channels : server.stage.now.sizes.channels ≡ length program.config.channels
+  pub setup_is : setup ≡ setup_of program
+
+module _ {C D O L : Type 0} (states : DeviceStates C D O L) (tells : L → SinkState) (program : Program) (server : Server) (setup : Setup)
+    (ticker : TickEnd) (given finished : Devices C D O) (old new : Moment C D O) (holds : HoldsDevices old given) (held : HoldsDevices new finished)
+    (passes : HasNewPasses server.stage.now (length given.doors.items) old)
+    (ran : RanBeside (ticker_states states.clock states.out) (door_states states.door tells) setup server (ticker, old, new)) where
+  -- the work at each door, from the door that was given
+  pub worked_at : EachPlace (door_states states.door tells) server (worker_passes server.stage.now (length given.doors.items)) given.doors.items
+      (passes_of (reverse new.workers)) (ends_of (reverse new.workers)) finished.doors.items
+  worked_at =
+      let all = all_zip_reverse (HasWorkedAt (door_states states.door tells) server) old.workers new.workers ran.worked in
+      let each = each_place (door_states states.door tells) server (reverse old.workers) (reverse new.workers) all in
+      subst (λ (ds : List D). EachPlace (door_states states.door tells) server (worker_passes server.stage.now (length given.doors.items)) given.doors.items
+      (passes_of (reverse new.workers)) (ends_of (reverse new.workers)) ds) held.doors
+      (subst (λ (ds : List D). EachPlace (door_states states.door tells) server (worker_passes server.stage.now (length given.doors.items)) ds
+      (passes_of (reverse new.workers)) (ends_of (reverse new.workers)) (doors_of (reverse new.workers))) holds.doors
+      (subst (λ (ps : List PassView). EachPlace (door_states states.door tells) server ps (doors_of (reverse old.workers))
+      (passes_of (reverse new.workers)) (ends_of (reverse new.workers)) (doors_of (reverse new.workers))) passes.workers each))
+
+  outs_at : EachOutput
+      (λ channel before after. IsWritten ticker (record { setup = setup; history = new.ticker.pass.seen }) channel (states.out before) (states.out after))
+      1 given.outs.items finished.outs.items
+  outs_at =
+      let Took : List O → List O → Type 0 = λ olds news. EachOutput
+      (λ channel before after. IsWritten ticker (record { setup = setup; history = new.ticker.pass.seen }) channel (states.out before) (states.out after)) 1 olds news in
+      subst (λ (os : List O). Took given.outs.items os) held.outs (subst (λ (os : List O). Took os new.ticker.outs.items) holds.outs ran.ticked.outs)
+
+  pub finish : (written : Sent) (end : ServeEnd) → IsPlayedOn program server setup
+      → Ending states program server new (ticker, written, end, given, finished)
+      → Serves states tells program end (given, finished)
+  finish written end on ending =
+      let closed : Closed states tells program server (ticker, written, given, finished) = record {
+        after = ending.after;
+        first = new.ticker.pass;
+        others = passes_of (reverse new.workers);
+        passes = ending.passes;
+        ended = ends_of (reverse new.workers);
+        journal = ending.journal;
+        config = on.config;
+        names = on.names;
+        channels = on.channels;
+        setup = setup;
+        setup_is = on.setup_is;
+        of = ran.ticked.of;
+        number = ran.ticked.number;
+        made = ran.ticked.made;
+        outs = outs_at;
+        clock = ap states.clock (sym held.clock) ∙ ran.ticked.clock ∙ ap (λ (c : C). clock_at_end ticker (ticks new.ticker.pass.seen) (states.clock c)) holds.clock;
+        tick_end = subst (λ (pass : PassView). EndsPass ticker pass new.ticker.pass) passes.ticker ran.ticked.end;
+        worked = worked_at;
+        closes = ending.closes;
+        is_journal = ending.is_journal;
+        limit = ending.limit;
+        text = ending.text;
+      } in
+      let failed : Bool = is_tick_fault ticker || (list_any is_door_fault (ends_of (reverse new.workers)) || is_cut written) in
+      let end_is : end ≡ ends_so failed =
+      ending.end_is
+      ∙ ap (λ (b : Bool). ends_so (is_tick_fault ticker || (b || is_cut written)))
+      (sym (any_reversed is_door_fault (λ (worker : ConnectionWorker D). worker.end) new.workers)) in
+      subst (λ (e : ServeEnd). Serves states tells program e (given, finished)) (sym end_is)
+      (serves states tells program failed (given, finished) (has_run states tells program server ticker written given finished closed))

@@ -1,0 +1,36 @@
+-- The pass after a link was served.
+use Rattle.std.proofs.Common.{◌≡◌, ℕ, false, List, [], refl, sym, ap, ◌∙◌}
+use Rattle.std.specs.Prelude.{Some}
+use Rattle.play_types.specs.History.{stop_at}
+use Rattle.play_types.specs.declared.event.Event.{Event}
+use Rattle.stage_lock.specs.Views.{PassView}
+use Rattle.stage_lock.specs.Calls.{Looks}
+use Rattle.conn_worker.specs.Work.{FindsEnd, GoesOnAfter}
+use Rattle.conn_worker.specs.declared.link_end.LinkEnd as link
+use Rattle.conn_worker.specs.declared.link_end.LinkEnd.TheVariants as ends
+use Rattle.play_server.specs.Doors.{is_stopped}
+use Rattle.play_server.proofs.PassOn.{PassOn, pass_looked, pass_same}
+
+-- after a link was served the work goes on, or a stop was found
+pub record GoesOn (end : link.LinkEnd) (before after : PassView) : Type 0 where
+  pub pass : PassOn [] before after
+  pub ends : after.ends ≡ before.ends
+  pub other : is_stopped end ≡ false
+
+pub looks_ends : (IsTold : List Event → Type 0) (before after : PassView) → Looks before IsTold after → after.ends ≡ before.ends
+looks_ends IsTold before after looks = ap (λ (p : PassView). p.ends) looks.after
+
+pub goes_on : (end : link.LinkEnd) (before after : PassView) → GoesOnAfter end before after → GoesOn end before after
+goes_on ends.Over before after same = record { pass = pass_same before after same; ends = ap (λ (p : PassView). p.ends) same; other = refl }
+goes_on ends.Killed before after looks = record { pass = pass_looked _ before after looks; ends = looks_ends _ before after looks; other = refl }
+goes_on ends.LinkFault before after same = record { pass = pass_same before after same; ends = ap (λ (p : PassView). p.ends) same; other = refl }
+goes_on (ends.Ended at) before after none = absurd none
+
+pub looked_stop : (at : ℕ) (before after : PassView) → FindsEnd at before after → stop_at after.seen ≡ Some at
+looked_stop at before after looks = ap (λ (p : PassView). stop_at p.seen) looks.after ∙ sym looks.told
+
+-- a stop was found while a link was served, or after it
+pub record StopSeen (at : ℕ) (end : link.LinkEnd) (before after : PassView) : Type 0 where
+  pub pass : PassOn [] before after
+  pub ends : after.ends ≡ before.ends
+  pub stop : stop_at after.seen ≡ Some at

@@ -1,0 +1,40 @@
+-- The connection workers of a run.
+use Rattle.std.specs.Prelude.{◌≡◌, ◌<◌, None}
+use Rattle.play_types.specs.History.{stop_at}
+use Rattle.play_outside.specs.ListenerState.{ListenerState}
+use Rattle.play_outside.specs.SinkState.{SinkState}
+use Rattle.play_outside.specs.declared.listener.TheConstants.{MOST_AWAY}
+use Rattle.stage_lock.specs.Views.{PassView, SharedView}
+use Rattle.conn_worker.specs.Server.{setting_in}
+use Rattle.conn_worker.specs.Work.{HasWorked}
+use Rattle.conn_worker.specs.declared.server.Server.{Server}
+use Rattle.play_server.specs.declared.connection_workers.ConnectionWorker.{ConnectionWorker}
+
+-- how doors and links are read: what each of them tells
+pub record DoorStates (D L : Type 0) : Type 0 where
+  pub door : D → ListenerState L
+  pub line : L → SinkState
+
+-- how the doors of a run and their links are read
+abbrev pub door_states : {D L : Type 0} → (D → ListenerState L) → (L → SinkState) → DoorStates D L
+door_states door line = record { door = door; line = line }
+
+-- a pass of the stage that has seen no stop
+pub record IsRunning (stage : SharedView) (pass : PassView) : Type 0 where
+  pub of : pass.stage ≡ stage
+  pub running : stop_at pass.seen ≡ None
+
+-- one more link may be away from the door
+abbrev pub MayCome : {D L : Type 0} → (D → ListenerState L) → D → Type 0
+MayCome state door = (state door).away < MOST_AWAY
+
+-- a connection worker may begin: its pass has seen no stop, and one more link may be away from its door
+pub record MayWork {D L : Type 0} (states : DoorStates D L) (stage : SharedView) (worker : ConnectionWorker D) : Type 0 where
+  pub pass : IsRunning stage worker.pass
+  pub door : MayCome states.door worker.door
+
+-- a connection worker served the links of its door
+pub record HasWorkedAt {D L : Type 0} (states : DoorStates D L) (server : Server) (before after : ConnectionWorker D) : Type 0 where
+  pub of : after.pass.stage ≡ before.pass.stage
+  pub worked : HasWorked (setting_in server before.pass.number states.line) after.end
+      (record { pass = before.pass; door = states.door before.door }) (record { pass = after.pass; door = states.door after.door })

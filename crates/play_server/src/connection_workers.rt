@@ -1,0 +1,134 @@
+//! The connection workers, a thread for each.
+ghost use Rattle.std.specs.Prelude.{◌≡◌, ◌∷◌, ◌++◌, [], ◌+◌, ◌<◌, ◌≤◌, All, length, map, reverse, vec_len, vec_capacity};
+ghost use Rattle.std.specs.List.{AllZip};
+ghost use Rattle.std.specs.Thread.{IsSync};
+ghost use Rattle.stage_lock.specs.Views.{SharedView};
+ghost use Rattle.conn_worker.specs.Server.{HasStageOfConfig};
+ghost use Rattle.play_server.specs.inner.Workers.{HasWorkedAt, IsRunning, MayCome, MayWork, door_states};
+
+use conn_worker::{Server, WorkEnd};
+use play_outside::Listener;
+use play_session::Session;
+use stage_lock::Pass;
+use std::sync::Wait;
+use std::thread::{Threads, join_mut};
+
+/// A connection worker: its pass, the session and the door that it serves links with, and how its work ended.
+#[derive(Drop)]
+pub(crate) struct ConnectionWorker<D> {
+    pub(crate) pass: Pass,
+    pub(crate) session: Session,
+    pub(crate) door: D,
+    pub(crate) end: WorkEnd,
+}
+
+impl<D: Listener> ConnectionWorker<D> {
+    /// Serves the links of the door, one after another.
+    fn work<R: Wait>(&mut self, rt: &R, server: &Server<'_>)
+        requires stage { HasStageOfConfig server.now }
+        requires may_work { MayWork (door_states D.state D.Line.state) server.now.stage.now self.old }
+        ensures { HasWorkedAt (door_states D.state D.Line.state) server.now self.old self.new }
+    {
+        self.end = server.work(rt, &mut self.pass, &mut self.session, &mut self.door);
+    }
+}
+
+/// Moves each door with the last passes and the sessions into a connection worker, the last door first. There is room for them.
+pub(crate) fn engage<D: Listener>(
+    workers: &mut Vec<ConnectionWorker<D>>,
+    passes: &mut Vec<Pass>,
+    mut sessions: Vec<Session>,
+    doors: &mut Vec<D>,
+)
+    requires none { workers.old.items ≡ [] }
+    requires room { vec_len doors.old ≤ vec_capacity workers.old }
+    requires passes { vec_len doors.old ≤ vec_len passes.old }
+    requires sessions { vec_len sessions ≡ vec_len doors.old }
+    ensures workers { vec_len workers.new ≡ vec_len doors.old }
+    ensures passes { passes.old.items ≡ passes.new.items ++ map (λ worker. worker.pass) (reverse workers.new.items) }
+    ensures doors { doors.old.items ≡ map (λ worker. worker.door) (reverse workers.new.items) }
+    ensures none_left { doors.new.items ≡ [] }
+    ensures passes_room { vec_capacity passes.new ≡ vec_capacity passes.old }
+    ensures doors_room { vec_capacity doors.new ≡ vec_capacity doors.old }
+    ensures may_work { (stage : SharedView) → All (IsRunning stage) passes.old.items → All (MayCome D.state) doors.old.items
+        → All (MayWork (door_states D.state D.Line.state) stage) workers.new.items }
+{
+    while let Some(door) = doors.pop() {
+        let pass = passes.pop().unwrap();
+        let session = sessions.pop().unwrap();
+        workers.push_reserved(ConnectionWorker {
+            pass,
+            session,
+            door,
+            end: WorkEnd::Closed,
+        });
+    }
+}
+
+/// Moves the passes and the doors of the connection workers back, the last worker first. There is room for them.
+pub(crate) fn release<D: Listener>(
+    mut workers: Vec<ConnectionWorker<D>>,
+    passes: &mut Vec<Pass>,
+    doors: &mut Vec<D>,
+)
+    requires passes { vec_len passes.old + vec_len workers ≤ vec_capacity passes.old }
+    requires doors { vec_len doors.old + vec_len workers ≤ vec_capacity doors.old }
+    ensures passes { passes.new.items ≡ passes.old.items ++ map (λ worker. worker.pass) (reverse workers.items) }
+    ensures doors { doors.new.items ≡ doors.old.items ++ map (λ worker. worker.door) (reverse workers.items) }
+{
+    while let Some(worker) = workers.pop() {
+        let ConnectionWorker { pass, door, .. } = worker;
+        passes.push_reserved(pass);
+        doors.push_reserved(door);
+    }
+}
+
+/// Serves the links of all doors, each beside the others.
+#[cycle(workers)]
+#[tactic(auto, using(crate::proofs::Halves::all_zip_halves))]
+pub(crate) fn work_all<R: Threads + Wait + Sync, D: Listener>(
+    rt: &R,
+    server: &Server<'_>,
+    workers: &mut [ConnectionWorker<D>],
+)
+    requires stage { HasStageOfConfig server.now }
+    requires may_work { All (MayWork (door_states D.state D.Line.state) server.now.stage.now) workers.old }
+    ensures { AllZip (HasWorkedAt (door_states D.state D.Line.state) server.now) workers.old workers.new }
+{
+    match workers {
+        [] => {}
+        [worker] => worker.work(rt, server),
+        _ => {
+            let (first, last) = workers.split_at_mut(workers.len() / 2);
+            work_both(rt, server, first, last);
+        }
+    }
+}
+
+/// Serves the links of the doors of two parts, each beside the others.
+#[cycle(workers)]
+fn work_both<R: Threads + Wait + Sync, D: Listener>(
+    rt: &R,
+    server: &Server<'_>,
+    first: &mut [ConnectionWorker<D>],
+    last: &mut [ConnectionWorker<D>],
+)
+    requires stage { HasStageOfConfig server.now }
+    requires some { (0 < length first.old) × (0 < length last.old) }
+    requires first { All (MayWork (door_states D.state D.Line.state) server.now.stage.now) first.old }
+    requires last { All (MayWork (door_states D.state D.Line.state) server.now.stage.now) last.old }
+    ensures first { AllZip (HasWorkedAt (door_states D.state D.Line.state) server.now) first.old first.new }
+    ensures last { AllZip (HasWorkedAt (door_states D.state D.Line.state) server.now) last.old last.new }
+{
+    join_mut(
+        rt,
+        &mut ||
+            requires { IsSync R.row × HasStageOfConfig server.now × All (MayWork (door_states D.state D.Line.state) server.now.stage.now) first.now }
+            ensures { AllZip (HasWorkedAt (door_states D.state D.Line.state) server.entry.now) first.entry.now first.exit.now }
+        { work_all(rt, server, first) },
+        &mut ||
+            requires { IsSync R.row × HasStageOfConfig server.now × All (MayWork (door_states D.state D.Line.state) server.now.stage.now) last.now }
+            ensures { AllZip (HasWorkedAt (door_states D.state D.Line.state) server.entry.now) last.entry.now last.exit.now }
+        { work_all(rt, server, last) },
+    );
+}

@@ -1,0 +1,173 @@
+//! A site in memory.
+ghost use Rattle.std.specs.Prelude.{◌≡◌, Some, None, true, false, [], refl, option_map, IfOk, MatchResult, ◌-◌, vec_len, vec_capacity};
+ghost use Rattle.play_server.specs.Site.{AreNew, AreReady, IsNotReady, Says, device_states, ready_call};
+ghost use Rattle.play_server.specs.SiteState.{after_call, after_finish};
+ghost use Rattle.play_server.specs.MemSite.{fails_next, is_ready};
+
+use super::copies::{copy_call, push_line};
+use super::kept_devices::KeptDevices;
+use super::planned_faults::PlannedFaults;
+use crate::site::{ReadyCall, Site};
+use play_outside::{Clock, Devices, FileFault, Listener, MemMedia, Sink, WriteStep};
+use play_types::Config;
+use std::alloc::{AllocError, Global};
+
+/// A site that hands out the devices that it was made with, once. It keeps its calls, the devices that came back and the
+/// lines that were said, and tells them.
+#[derive(Drop)]
+pub struct MemSite<C: Clock, D: Listener, O: Sink> {
+    media: MemMedia,
+    held: Option<KeptDevices<C, D, O>>,
+    calls: Vec<ReadyCall>,
+    finished: Option<Devices<C, D, O>>,
+    finishes: u64,
+    said: Vec<u8>,
+    planned: PlannedFaults,
+}
+
+impl<C: Clock, D: Listener, O: Sink + Send> MemSite<C, D, O> {
+    /// Creates a site with this folder and these devices, and with room for `room` bytes of lines that are said. The calls
+    /// of `ready` and `say` whose numbers, counted from 1 over both, are in `fails` return `Failed`.
+    ///
+    /// So does each call of `ready` for another number of doors or outputs or after the devices were handed out, and each
+    /// call of `say` that finds no room for the line and its line feed.
+    pub fn new(
+        alloc: Global,
+        media: MemMedia,
+        devices: Devices<C, D, O>,
+        room: usize,
+        fails: Vec<u64>,
+    ) -> Result<MemSite<C, D, O>, AllocError>
+        requires { AreNew (device_states C.state D.state O.state) devices }
+        ensures fresh { IfOk result (λ site. ⟦<MemSite<C, D, O> as Site>⟧.state site ≡ record { told = Some (record { calls = []; finished = None; finishes = 0; said = [] }); faults = 0 }) }
+        ensures folder { IfOk result (λ site. ⟦<MemSite<C, D, O> as Site>⟧.folder site ≡ media) }
+        ensures devices { IfOk result (λ site. option_map (λ kept. kept.devices) site.held ≡ Some devices) }
+        ensures room { IfOk result (λ site. vec_capacity site.said - vec_len site.said ≡ room) }
+    {
+        let said = Vec::with_capacity(alloc, room)?;
+        Ok(MemSite {
+            media,
+            held: Some(KeptDevices::new(devices)),
+            calls: Vec::new(alloc),
+            finished: None,
+            finishes: 0,
+            said,
+            planned: PlannedFaults::new(fails),
+        })
+    }
+
+    /// Returns the calls of `ready` that did not run out of memory, in order.
+    pub fn calls(&self) -> &[ReadyCall]
+        ensures { option_map (λ told. told.calls) (⟦<MemSite<C, D, O> as Site>⟧.state self.now).told ≡ Some result.now }
+    {
+        self.calls.as_slice()
+    }
+
+    /// Returns the devices that were finished last.
+    pub fn finished(&self) -> Option<&Devices<C, D, O>>
+        ensures { option_map (λ told. told.finished) (⟦<MemSite<C, D, O> as Site>⟧.state self.now).told ≡ Some (option_map (λ devices. devices.now) result) }
+    {
+        self.finished.as_ref()
+    }
+
+    /// Returns how often devices were finished.
+    pub fn finishes(&self) -> u64
+        ensures { option_map (λ told. told.finishes) (⟦<MemSite<C, D, O> as Site>⟧.state self.now).told ≡ Some result }
+    {
+        self.finishes
+    }
+
+    /// Returns the bytes of the lines that were said, each with a line feed at its end.
+    pub fn said(&self) -> &[u8]
+        ensures { option_map (λ told. told.said) (⟦<MemSite<C, D, O> as Site>⟧.state self.now).told ≡ Some result.now }
+    {
+        self.said.as_slice()
+    }
+
+    /// Returns how often a call of `ready` or `say` has failed.
+    pub fn faults(&self) -> u64
+        ensures { result ≡ (⟦<MemSite<C, D, O> as Site>⟧.state self.now).faults }
+    {
+        self.planned.faults
+    }
+}
+
+impl<C: Clock, D: Listener, O: Sink + Send> Site for MemSite<C, D, O> {
+    type Media = MemMedia;
+
+    type Clock = C;
+
+    type Door = D;
+
+    type Out = O;
+
+    ghost state = { λ s. record { told = Some (record { calls = s.calls.items; finished = s.finished; finishes = s.finishes; said = s.said.items }); faults = s.planned.faults } };
+
+    ghost folder = { λ s. s.media };
+
+    ghost with_folder = { λ s other. record s { media = other } };
+
+    fn media(&mut self) -> &mut MemMedia {
+        &mut self.media
+    }
+
+    fn ready(
+        &mut self,
+        alloc: Global,
+        config: &Config,
+        history: Option<&str>,
+    ) -> Result<Devices<C, D, O>, FileFault>
+        ensures ready { IfOk result (AreReady (device_states C.state D.state O.state) config.now) }
+        ensures told { MatchResult result
+            (λ _. ⟦<MemSite<C, D, O> as Site>⟧.state self.new ≡ after_call (ready_call config.now (option_map (λ path. path.now) history.entry) true) (⟦<MemSite<C, D, O> as Site>⟧.state self.old))
+            (λ fault. IsNotReady fault (ready_call config.now (option_map (λ path. path.now) history.entry) false) (⟦<MemSite<C, D, O> as Site>⟧.state self.old) (⟦<MemSite<C, D, O> as Site>⟧.state self.new)) }
+        ensures folder { self.new.media ≡ self.old.media }
+        ensures devices { MatchResult result
+            (λ devices. (option_map (λ kept. kept.devices) self.old.held ≡ Some devices) × (self.new.held ≡ None))
+            (λ _. self.new.held ≡ self.old.held) }
+        ensures exact { MatchResult result (λ _. is_ready config.now (fails_next self.old.planned) (option_map (λ kept. kept.devices) self.old.held) ≡ true) (λ fault. fault ≡ FileFault.Failed → is_ready config.now (fails_next self.old.planned) (option_map (λ kept. kept.devices) self.old.held) ≡ false) }
+    {
+        let mut call = copy_call(alloc, config, history)?;
+        self.calls.reserve(1)?;
+        let fails = self.planned.fails_now();
+        let (doors, outs) = (config.connections() as usize, config.channels().len());
+        match self.held.take() {
+            Some(kept)
+                if !fails && kept.devices.doors.len() == doors && kept.devices.outs.len() == outs =>
+                {
+                    call.ok = true;
+                    self.calls.push_reserved(call);
+                    let KeptDevices { devices } = kept;
+                    Ok(devices)
+                }
+            other => {
+                self.held = other;
+                self.calls.push_reserved(call);
+                self.planned.raise();
+                Err(FileFault::Failed)
+            }
+        }
+    }
+
+    fn finish(&mut self, devices: Devices<C, D, O>)
+        ensures told { ⟦<MemSite<C, D, O> as Site>⟧.state self.new ≡ after_finish devices (⟦<MemSite<C, D, O> as Site>⟧.state self.old) }
+        ensures folder { self.new.media ≡ self.old.media }
+    {
+        self.finished = Some(devices);
+        self.finishes = self.finishes.saturating_add(1);
+    }
+
+    fn say(&mut self, line: &str) -> WriteStep {
+        let fails = self.planned.fails_now();
+        if fails || self.said.capacity() - self.said.len() <= line.len() {
+            self.planned.raise();
+            return WriteStep::Failed;
+        }
+        push_line(&mut self.said, line.as_bytes());
+        WriteStep::Took(line.len())
+    }
+
+    ghost folder_is = { λ _ _. refl };
+
+    ghost state_stays = { λ _ _. refl };
+}

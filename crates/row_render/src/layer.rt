@@ -23,7 +23,12 @@ pub(crate) fn shows_nothing(view: &View, layer: &Drawn) -> bool
     ensures { result ≡ true → (pictures : Pictures) (x : ℕ) → layer_pixel pictures view.now.size x view.now.y layer.now ≡ transparent }
 {
     let (fill, clip) = (layer.fill, layer.clip);
-    let line = visible_column(view.size.height, (fill[1], fill[3]), (clip[1], clip[3]), view.y);
+    let line = visible_column(
+        view.size.height,
+        (fill[1], fill[3]),
+        (clip[1], clip[3]),
+        view.y,
+    );
     line.is_none()
 }
 
@@ -47,7 +52,12 @@ pub(crate) fn layer_row(
     ensures lowered { AreLowered row.new }
 {
     let (fill, clip) = (layer.fill, layer.clip);
-    let line = visible_column(view.size.height, (fill[1], fill[3]), (clip[1], clip[3]), view.y);
+    let line = visible_column(
+        view.size.height,
+        (fill[1], fill[3]),
+        (clip[1], clip[3]),
+        view.y,
+    );
     let Some(line) = line else {
         fill_row(Pixel::transparent(), row);
         return;
@@ -59,14 +69,7 @@ pub(crate) fn layer_row(
 }
 
 /// Writes row `y` of the raster of a layer, laid into the row of the frame by its fill and clip.
-fn placed_row(
-    view: &View,
-    layer: &Drawn,
-    y: u16,
-    row: &mut [u8],
-    spare: &mut [u8],
-    kept: &mut Kept,
-)
+fn placed_row(view: &View, layer: &Drawn, y: u16, row: &mut [u8], spare: &mut [u8], kept: &mut Kept)
     requires line { y < view.now.size.height }
     requires range { IsDrawn layer.now }
     requires names { NamesConfigured (length view.now.prev.now) layer.now }

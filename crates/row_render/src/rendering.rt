@@ -47,13 +47,7 @@ pub fn render_row(
 }
 
 /// Writes the row of a scene, with the first bytes of the spare rows for the time of the call.
-fn compose_with(
-    view: &View,
-    scene: &Scene,
-    row: &mut [u8],
-    rows: &mut SpareRows,
-    kept: &mut Kept,
-)
+fn compose_with(view: &View, scene: &Scene, row: &mut [u8], rows: &mut SpareRows, kept: &mut Kept)
     requires line { view.now.y < view.now.size.height }
     requires names { All (NamesConfigured (length view.now.prev.now)) scene.now }
     requires row { length row.old ≡ 4 * view.now.size.width }

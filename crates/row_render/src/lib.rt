@@ -14,6 +14,7 @@ mod raster;
 mod rendering;
 mod room;
 mod scaling;
+mod shown;
 mod source;
 mod view;
 

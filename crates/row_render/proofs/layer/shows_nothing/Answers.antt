@@ -1,4 +1,4 @@
-use Rattle.std.proofs.Common.{◌≡◌, ℕ, false, ap, refl, sym, ◌∙◌, not}
+use Rattle.std.proofs.Common.{◌≡◌, ℕ, false, ap, refl, ◌∙◌, not}
 use Rattle.std.specs.Prelude.{Option, Some, None, is_some}
 use Rattle.history_model.specs.pictures.Frame.{placement_of}
 use Rattle.history_model.specs.pictures.Placing.{visible_column}

@@ -8,7 +8,7 @@ use std::fs;
 use std::net::TcpListener;
 use std::test::Fail;
 
-/// If the frames and the history go.
+/// Where the frames and the history go.
 const FILES: [&str; 3] = ["playd_test/a", "playd_test/b", "playd_test/history"];
 
 /// Returns a configuration of two channels that listens on an address.

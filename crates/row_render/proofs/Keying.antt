@@ -30,7 +30,7 @@ keyed-pixel placed width (next ∷ below) keyed keys x s h lt =
     by false e = refl
 
 -- a layer over those below
-composed-more : (placed : Drawn → PixelView) (layer : Drawn) (below : List Drawn) → layer.keyer ≡ false →
+pub composed-more : (placed : Drawn → PixelView) (layer : Drawn) (below : List Drawn) → layer.keyer ≡ false →
     over (keyed_pixel placed below (placed layer)) (composed_pixel placed below) ≡ composed_pixel placed (layer ∷ below)
 composed-more placed layer below e =
     let under = composed_pixel placed below in

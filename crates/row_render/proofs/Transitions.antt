@@ -56,7 +56,7 @@ raster-running pictures size layer x y h =
     ap (λ (t : Bool). elim t as (λ _. PixelView) [ true ↦ one | false ↦ other ]) (lt-ltb layer.step layer.trans.duration h)
 
 -- and after it
-raster-ended : (pictures : Pictures) (size : Geometry) (layer : Drawn) (x y : ℕ) → layer.trans.duration ≤ layer.step →
+pub raster-ended : (pictures : Pictures) (size : Geometry) (layer : Drawn) (x y : ℕ) → layer.trans.duration ≤ layer.step →
     raster_pixel pictures size layer x y ≡ still_pixel pictures size layer.still x y
 raster-ended pictures size layer x y h =
     let one = moving_pixel pictures size layer y (pick layer.trans.kind layer.trans.leftward layer.step layer.trans.duration size.width x) in

@@ -9,6 +9,7 @@ ghost use Rattle.lane_blend.specs.Rows.{AreLowered, IsRow, pixel_at, width_of};
 ghost use Rattle.row_render.specs.inner.Keying.{IsLaid, Keys, keyed_pixel_by};
 ghost use Rattle.pixel_math.specs.Pixel.{PixelView};
 
+use crate::covering::hidden_layers;
 use crate::kept::Kept;
 use crate::layer::{layer_row, shows_nothing};
 use crate::scaling::fill_row;
@@ -34,12 +35,29 @@ pub(crate) fn compose_row(
         IsRow view.now.size.width (λ x. scene_pixel pictures view.now.size scene.now x view.now.y) row.new }
     ensures lowered { AreLowered row.new }
 {
+    let layers = scene.drawn();
+    let hidden = hidden_layers(view, layers);
+    lay_layers(view, &layers[hidden..], row, spare, kept);
+}
+
+/// Writes the row of layers over one another, each keyed by the keyer right below it. `spare` is four rows of the same length for
+/// the time of the call.
+fn lay_layers(view: &View, layers: &[Drawn], row: &mut [u8], spare: &mut [u8], kept: &mut Kept)
+    requires line { view.now.y < view.now.size.height }
+    requires range { All IsDrawn layers.now }
+    requires names { All (NamesConfigured (length view.now.prev.now)) layers.now }
+    requires row { length row.old ≡ 4 * view.now.size.width }
+    requires spare { length spare.old ≡ 4 * length row.old }
+    ensures row { (pictures : Pictures) → ArePictures pictures view.now.prev.now view.now.media.now →
+        IsRow view.now.size.width (λ x. scene_pixel pictures view.now.size layers.now x view.now.y) row.new }
+    ensures lowered { AreLowered row.new }
+{
     let (keys, spare) = spare.split_at_mut(row.len());
     let mut below = Below {
         blank: true,
         keyed: false,
     };
-    for layer in scene.drawn() {
+    for layer in layers {
         let blank = lay_layer(view, layer, below, row, keys, spare, kept);
         below = Below {
             blank,

@@ -7,6 +7,7 @@
 
 mod columns;
 mod composition;
+mod covering;
 mod kept;
 mod layer;
 mod placing;

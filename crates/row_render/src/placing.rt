@@ -21,6 +21,14 @@ pub(crate) fn keeps_columns(layer: &Drawn) -> bool
     (layer.fill[0], layer.fill[2]) == whole && (layer.clip[0], layer.clip[2]) == whole
 }
 
+/// Returns whether the fill and the clip of a layer leave every row in its place.
+pub(crate) fn keeps_rows(layer: &Drawn) -> bool
+    ensures { result ≡ true → (height y : ℕ) → y < height → visible_column height layer.now.fill layer.now.clip 1 y ≡ Some y }
+{
+    let whole = (0, MICROS_PER_UNIT);
+    (layer.fill[1], layer.fill[3]) == whole && (layer.clip[1], layer.clip[3]) == whole
+}
+
 /// Lays the row of a raster into the row of the frame by the columns of a layer's fill and clip. If they show no column the row
 /// is transparent.
 pub(crate) fn place_row(layer: &Drawn, raster: &[u8], width: u16, row: &mut [u8])

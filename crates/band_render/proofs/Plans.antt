@@ -5,11 +5,11 @@ use Rattle.std.proofs.Math.Seq.{take-add, take-suc}
 use Rattle.std.proofs.lemmas.Grind.{flat_map-append}
 use Rattle.std.proofs.lemmas.List.{length-map, map-append}
 use Rattle.std.proofs.lemmas.List.Elements.{All-map, All-take}
-use Rattle.std.proofs.lemmas.Nat.{mul-le}
 use Rattle.play_types.specs.Config.{ChannelView, IsChannel}
 use Rattle.play_types.specs.Scene.{IsConfigured}
 use Rattle.play_types.specs.declared.geometry.Geometry.{Geometry}
 use Rattle.play_scene.specs.Frames.{FrameView, zero_frame}
+use Rattle.play_scene.proofs.Rows.{picture_small}
 use Rattle.band_render.specs.Rendered.{sizes}
 use Rattle.band_render.specs.declared.band.Band.{Band}
 use Rattle.band_render.specs.declared.band.Group.{Group}
@@ -69,13 +69,6 @@ groups_more bands start n k groups group now is rows own count =
     ∙ ap rows_of_bands (sym (take-add start k bands))
     ∙ ap (λ (m : ℕ). rows_of_bands (take (start + m) bands)) count
 
--- a channel has at most 2 to the 26th bytes a picture
-channel_small : (channel : ChannelView) → IsChannel channel → 4 * channel.width * channel.height ≤ 67108864
-channel_small channel is =
-    let wide = is.size.columns in
-    let high = is.size.rows in
-    mul-le (4 * channel.width) channel.height 16384 4096 (omega (arith, wide)) high
-
 -- the pictures of the first channels are less than 2 to the 64th bytes
 pub plan_small : (channels : List ChannelView) (at : ℕ) (rows : List Row) → All IsChannel channels → length channels ≤ 16 → at ≤ length channels →
     rows ≡ rows_of_frames 1 (map size_of (take at channels)) → byte_count rows < 2 ^ 64
@@ -83,7 +76,7 @@ plan_small channels at rows each few le is =
     let first = take at channels in
     let all : All (λ (s : Geometry). 4 * s.width * s.height ≤ 67108864) (map size_of first) =
     All-map (λ (s : Geometry). 4 * s.width * s.height ≤ 67108864) size_of first
-    (λ k d lt. channel_small (get_or first k d) (All-take IsChannel at channels each k d lt)) in
+    (λ k d lt. picture_small (size_of (get_or first k d)) (All-take IsChannel at channels each k d lt).size) in
     let most = frames_small 67108864 1 (map size_of first) all in
     let long = length-map first size_of ∙ length-take-le at channels le in
     let same = ap byte_count is in

@@ -2,12 +2,10 @@
 use Rattle.std.proofs.Common.{◌≡◌, ℕ, zero, suc, ◌+◌, ◌-◌, ◌*◌, ◌%◌, ◌<◌, ◌≤◌, List, [], ◌∷◌, ◌++◌, length, map, take, drop, set, get_or, slice_index, replicate, refl, sym, subst, ap, ap₂, ◌∙◌, append_assoc, length-drop, length-take-le, take-append-drop, take_at, drop_at, drop-drop, ⊎_elim, arith}
 use Rattle.std.proofs.lemmas.Bool.{cases_lt}
 use Rattle.std.proofs.lemmas.List.{nil_from_length, drop-append-le, drop-replicate, get_or-replicate, get_or_past, length-replicate, take-append-le, take-replicate}
-use Rattle.std.proofs.lemmas.Nat.{mul-le}
 use Rattle.std.proofs.Math.Seq.{drop-append-add, take-append-add}
 use Rattle.play_scene.specs.Frames.{ArePixels, FrameView, IsFrame, no_frame, picture_length, pictures_length, pixels_of, with_piece, with_pixels}
 use Rattle.play_scene.specs.Parts.{ArePartsOf, BeginAt, frame_of, frames_of, parts_length, transparent}
 use Rattle.play_scene.specs.declared.part.Part.{Part}
-use Rattle.play_types.specs.Geometry.{IsSize}
 use Rattle.play_types.specs.declared.geometry.Geometry.{Geometry}
 use Rattle.play_scene.proofs.Pieces.{AreLowered-with_piece, length-with_piece}
 use Rattle.play_scene.proofs.Pixels.{ArePixels-drop, ArePixels-take}
@@ -21,13 +19,6 @@ picture_whole size =
 pub parts_whole : (parts : List Part) → parts_length parts % 4 ≡ 0
 parts_whole [] = refl
 parts_whole (part ∷ parts) = omega (arith, picture_whole part.size, parts_whole parts)
-
--- a picture has at most 2 to the 26th bytes
-pub picture_small : (size : Geometry) → IsSize size.width size.height size.pairs → picture_length size ≤ 67108864
-picture_small size is =
-    let wide = is.columns in
-    let high = is.rows in
-    mul-le (4 * size.width) size.height 16384 4096 (omega (arith, wide)) high
 
 -- there are as many frames as parts
 pub length-frames_of : (parts : List Part) (pixels : List ℕ) → length (frames_of parts pixels) ≡ length parts

@@ -5,7 +5,7 @@ use Rattle.std.specs.Vec.{with_items}
 use Rattle.std.proofs.lemmas.List.{with_items_is, get_or_append_left, get_or-append_right, get_or-take, get_or-drop, get_or_past, drop_all}
 use Rattle.pixel_math.specs.Pixel.{PixelView, IsPixel, pixel_bytes}
 use Rattle.play_scene.proofs.Pixels.{lowered_alike}
-use Rattle.play_scene.specs.Frames.{AreLowered, ArePixels, FrameView, IsFrame, with_piece}
+use Rattle.play_scene.specs.Frames.{AreLowered, ArePixels, with_piece}
 
 -- the piece has its own bytes, and the others stay
 before_piece : (at : ℕ) (piece bytes : List ℕ) (k : ℕ) → at + length piece ≤ length bytes → k < at →
@@ -75,16 +75,6 @@ copied_piece list at count copied piece bytes are same counted fits =
     ∙ ap (λ (xs : List ℕ). take at list.items ++ (piece ++ xs)) (drop-drop (length piece) at list.items) in
     let long = ap length inner ∙ length-with_piece at piece list.items fits ∙ sym list.ok.0 in
     with_items_is list (take at bytes ++ (copied ++ drop count (drop at bytes))) long ∙ inner
-
--- a frame in which pixels are put is a frame
-pub IsFrame-put : (frame : FrameView) (at : ℕ) (piece : List ℕ) → IsFrame frame → at % 4 ≡ 0 → at + length piece ≤ length frame.bytes → ArePixels piece →
-    IsFrame (record { size = frame.size; bytes = with_piece at piece frame.bytes; sound = frame.sound })
-IsFrame-put frame at piece is place fits pixels = record {
-  size = is.size;
-  bytes = length-with_piece at piece frame.bytes fits ∙ is.bytes;
-  sound = is.sound;
-  lowered = AreLowered-with_piece at piece frame.bytes place fits pixels is.lowered;
-}
 
 -- an empty piece replaces nothing
 pub with_piece-none : (at : ℕ) (bytes : List ℕ) → with_piece at [] bytes ≡ bytes

@@ -1,10 +1,14 @@
 -- Rows and columns that are added one after another.
-use Rattle.std.proofs.Common.{◌≡◌, ℕ, zero, suc, ◌+◌, ◌*◌, List, [], ◌∷◌, ◌++◌, length, length-append, refl, ap, ◌∙◌, add-one, append-nil, arith}
+use Rattle.std.proofs.Common.{◌≡◌, ℕ, zero, suc, ◌+◌, ◌*◌, ◌≤◌, List, [], ◌∷◌, ◌++◌, length, length-append, refl, ap, ◌∙◌, add-one, append-nil, arith}
 use Rattle.std.specs.Prelude.{flat_map}
 use Rattle.std.specs.List.{range_with_len}
+use Rattle.std.proofs.lemmas.Nat.{mul-le}
 use Rattle.std.proofs.lemmas.Grind.{flat_map-append}
 use Rattle.pixel_math.specs.Pixel.{PixelView, pixel_bytes}
+use Rattle.play_types.specs.Geometry.{IsSize}
+use Rattle.play_types.specs.declared.geometry.Geometry.{Geometry}
 use Rattle.history_model.specs.text.Frames.{frame_bytes}
+use Rattle.play_scene.specs.Frames.{picture_length}
 
 -- one more number at the end of a range
 range_with_len-suc : (a n : ℕ) → range_with_len a (suc n) ≡ range_with_len a n ++ (a + n) ∷ []
@@ -33,3 +37,10 @@ pub length-frame_bytes : (width height : ℕ) (pixel : ℕ → ℕ → PixelView
 length-frame_bytes width height pixel =
     length-pieces (λ y. flat_map (λ x. pixel_bytes (pixel x y)) (range_with_len 0 width)) (4 * width) 0 height
     (λ y. length-pieces (λ x. pixel_bytes (pixel x y)) 4 0 width (λ x. refl))
+
+-- a picture has at most 2 to the 26th bytes
+pub picture_small : (size : Geometry) → IsSize size.width size.height size.pairs → picture_length size ≤ 67108864
+picture_small size is =
+    let wide = is.columns in
+    let high = is.rows in
+    mul-le (4 * size.width) size.height 16384 4096 (omega (arith, wide)) high

@@ -111,35 +111,65 @@ fn two_ticks<R: Threads + Sync, G: Gate>(
     Ok(renderer)
 }
 
+/// Returns whether this number of workers makes the frame that another renderer has made.
+fn makes_the_same<R: Threads + Sync>(
+    rt: &R,
+    alloc: Global,
+    other: &Renderer,
+    workers: u32,
+) -> Result<bool, Fail>
+    requires workers { (1 ≤ workers) × (workers ≤ 64) }
+    requires other { length other.now ≡ 1 }
+{
+    let more = two_ticks(rt, alloc, workers, &OpenGate)?;
+    Ok(other.frame(1) == more.frame(1))
+}
+
 /// Any number of workers makes the same frame. It is half red in row 0. In row 4 the frame of the tick before lies over blue: at
 /// column 2 it is half red and at column 5 blue.
 #[test]
 fn workers_make_equal_frames(rt: HostRuntime) -> Result<(), Fail> {
     let alloc = rt.alloc();
     let one = two_ticks(&rt, alloc, 1, &OpenGate)?;
-    assert_eq!(rt; one.frame(1)[..4], [0, 0, 128, 128]);
-    assert_eq!(rt; one.frame(1)[4 * (4 * 16 + 2)..][..4], [127, 0, 128, 255]);
-    assert_eq!(rt; one.frame(1)[4 * (4 * 16 + 5)..][..4], [255, 0, 0, 255]);
-    for workers in [2, 7, 64] {
-        let more = two_ticks(&rt, alloc, workers, &OpenGate)?;
-        assert_eq!(rt; one.frame(1), more.frame(1), "by {workers} workers");
-    }
+    assert_eq!(rt; one.frame(1).get(0..4), Some([0, 0, 128, 128].as_slice()));
+    assert_eq!(rt;
+        one.frame(1).get(264..268),
+        Some([127, 0, 128, 255].as_slice())
+    );
+    assert_eq!(rt;
+        one.frame(1).get(276..280),
+        Some([255, 0, 0, 255].as_slice())
+    );
+    assert!(rt; makes_the_same(&rt, alloc, &one, 2)?);
+    assert!(rt; makes_the_same(&rt, alloc, &one, 7)?);
+    assert!(rt; makes_the_same(&rt, alloc, &one, 64)?);
     Ok(())
+}
+
+/// Renders two ticks by this number of workers, and returns how often bands entered the gate, and the numbers of those that did,
+/// a bit for each.
+fn entered<R: Threads + Sync>(rt: &R, alloc: Global, workers: u32) -> Result<(u32, u64), Fail>
+    requires { (1 ≤ workers) × (workers ≤ 64) }
+{
+    let gate = CountingGate {
+        count: AtomicU32::new(0),
+        numbers: AtomicU64::new(0),
+    };
+    two_ticks(rt, alloc, workers, &gate)?;
+    Ok((
+        gate.count.load(Ordering::SeqCst),
+        gate.numbers.load(Ordering::SeqCst),
+    ))
 }
 
 /// Each band enters the gate once a tick, with a number of its own from 0 on: as many as there are workers, but no more than rows.
 #[test]
 fn each_band_enters_once(rt: HostRuntime) -> Result<(), Fail> {
     let alloc = rt.alloc();
-    for (workers, bands) in [(1, 1), (2, 2), (7, 7), (64, 9)] {
-        let gate = CountingGate {
-            count: AtomicU32::new(0),
-            numbers: AtomicU64::new(0),
-        };
-        two_ticks(&rt, alloc, workers, &gate)?;
-        assert_eq!(rt; gate.count.load(Ordering::SeqCst), 2 * bands);
-        assert_eq!(rt; gate.numbers.load(Ordering::SeqCst), (1 << bands) - 1);
-    }
+    assert_eq!(rt; entered(&rt, alloc, 1)?, (2, 0b1));
+    assert_eq!(rt; entered(&rt, alloc, 2)?, (4, 0b11));
+    assert_eq!(rt; entered(&rt, alloc, 7)?, (14, 0b111_1111));
+    assert_eq!(rt; entered(&rt, alloc, 64)?, (18, 0b1_1111_1111));
     Ok(())
 }
 

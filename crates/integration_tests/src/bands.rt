@@ -1,6 +1,6 @@
 //! Frames that several workers make, with ample memory: one channel of 16 by 9 pixels, which shows half red, blue within it, and
 //! its own frame of the tick before within both.
-ghost use Rattle.std.specs.Prelude.{◌≡◌, IfOk, length};
+ghost use Rattle.std.specs.Prelude.{◌≡◌, ◌≤◌, IfOk, length};
 
 use crate::renderers::is_there;
 use band_render::{Gate, OpenGate, Renderer};

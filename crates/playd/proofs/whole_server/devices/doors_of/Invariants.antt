@@ -1,5 +1,5 @@
 use Rattle.std.proofs.Common.{◌≡◌, All, Some, vec_len}
-use Rattle.play_outside.specs.contracts.held.HeldLinkSink.TheImpl as link
+use Rattle.play_outside.specs.contracts.held.link.HeldLinkSink.TheImpl as link
 use Rattle.play_outside.specs.declared.held.link.HeldLink.{HeldLink}
 use Rattle.play_outside.specs.declared.memory.door.MemDoor.{MemDoor}
 use Rattle.play_server.specs.Site.{AreNumbered, IsNewDoor}

@@ -1,8 +1,9 @@
--- A history leaves each channel within its limits, and so a commit is never refused.
+-- A history leaves each channel within its limits, and so a commit and a mark of a recording are never refused.
 use Rattle.std.proofs.Common.{◌≡◌, ℕ, ◌+◌, Bool, true, false, ◌||◌, ◌==◌, List, [], ◌∷◌, ◌++◌, length, reverse, nat_lt, refl, sym, ap, ◌∙◌, if◌then◌else◌, unwrap_or, is_none}
 use Rattle.std.proofs.lemmas.Bool.{or_parts}
 use Rattle.std.specs.Prelude.{Option, Some, None, option_and_then}
 use Rattle.std.specs.List.{list_any}
+use Rattle.play_types.specs.Commands.{mark_of}
 use Rattle.play_types.specs.Setting.{SettingView}
 use Rattle.play_types.specs.History.{ticks}
 use Rattle.play_types.specs.declared.place.TheConstants.{MAX_LIVE_LAYERS}
@@ -10,6 +11,7 @@ use Rattle.play_types.specs.declared.setting.TheConstants.{MAX_WAITING_SETTINGS}
 use Rattle.play_types.specs.declared.command.Cmd.{Cmd}
 use Rattle.play_types.specs.declared.command.Cmd.TheVariants.{CommitMixer}
 use Rattle.play_types.specs.declared.event.Tag.{Tag}
+use Rattle.play_types.specs.declared.shape.Recording.{Recording}
 use Rattle.play_types.specs.declared.event.Event.{Event}
 use Rattle.play_types.specs.declared.event.Event.TheVariants.{Do, Batch, Tick, Stop}
 use Rattle.history_model.specs.stage.Act.{Act, act_after, acts_of}
@@ -19,6 +21,7 @@ use Rattle.history_model.specs.stage.Resolved.{waiting_settings}
 use Rattle.history_model.proofs.Listed.{waiting_settings-act}
 use Rattle.history_model.proofs.Events.{ticks-reverse}
 use Rattle.history_model.proofs.Liveness.{live_layers-ticks}
+use Rattle.history_model.proofs.Recordings.{acts_of-mark}
 
 -- whether some channel is over a limit after the acts and ticks
 abbrev some_over : List Act → ℕ → Bool
@@ -103,3 +106,11 @@ commit-accepted history tag committed =
     let more = act_after now (CommitMixer committed) ∷ past in
     accepted_by (some_over more now) more
     (commit_within past now committed (ap (some_over past) (sym (ticks-reverse history)) ∙ within_back (reverse history)))
+
+pub mark-accepted : (history : List Event) (tag : Tag) (cmd : Cmd) (mark : Recording) → mark_of cmd ≡ Some mark → is_refused history (Do tag cmd) ≡ false
+unfolding is_refused acts entered_by
+mark-accepted history tag cmd mark is =
+    let past = acts_back (reverse history) in
+    let now = ticks history in
+    ap (λ (own : List Act). is_none (entered_by (some_over (own ++ past) now) (own ++ past))) (acts_of-mark now cmd mark is)
+    ∙ accepted_by (some_over past now) past (ap (some_over past) (sym (ticks-reverse history)) ∙ within_back (reverse history))

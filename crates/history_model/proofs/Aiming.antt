@@ -29,6 +29,7 @@ use Rattle.history_model.specs.commands.Options.{Options, options_at}
 use Rattle.history_model.specs.commands.Line.{Line, ◌>>=◌, ended, word_at, legal, flag_at}
 use Rattle.play_types.specs.Words.{is_word, prop_of, name_of}
 use Rattle.history_model.specs.commands.Places.{Area, place_of, area_of, area_at, is_dash, layer_of}
+use Rattle.history_model.specs.commands.Recording.{add_file, channel_at, file_channel, fixed_at, rec_name_at, remove_file, whole_channel}
 use Rattle.history_model.specs.commands.Mixer.{mixer, mixer_command, property_command, reset, numbers_of, setting_for, timing_of}
 use Rattle.history_model.specs.commands.Producer.{Producer, plain, is_colour_word, colour_of_digits, is_route_word, route_to, named_colour, clip_named, clip_producer, named_producer, producer_of, played_length, take_for, take_with, take_at}
 use Rattle.history_model.specs.commands.Command.{parsed, enough, meaning, meaning_by_name, least_words, staged, play, load, load_bg, clear, cleared, swap, swapped, only_place, place_command}
@@ -293,6 +294,43 @@ mixer-aimed line =
         bound (IsAimed line.config) (legal line 2 (prop_of word)) (λ property. property_command line (place_of area) property)
         (λ property found. property_command-aimed line (place_of area) property aimed)
 
+-- a channel without a layer is the one of its area
+whole_channel-is : (channel : ℕ) (layer : Option ℕ) (whole : ℕ) → whole_channel channel layer ≡ Some whole → channel ≡ whole
+whole_channel-is channel None whole found = same_Some channel whole found
+whole_channel-is channel (Some layer) whole found = absurd (none-some whole found)
+
+channel_at-aimed : (line : Line) (at : ℕ) → IfOk (channel_at line at) (IsConfigured (length line.config.channels))
+channel_at-aimed line at =
+    bound (IsConfigured (length line.config.channels)) (area_at line at) (λ area. legal line at (whole_channel area.channel area.layer))
+    (λ area found. of_layer area (whole_channel area.channel area.layer) refl (known (IsAimedArea line) (area_at line at) area (area_at-aimed line at) found))
+  where
+    of_layer : (area : Area) (whole : Option ℕ) → whole_channel area.channel area.layer ≡ whole → IsAimedArea line area
+        → IfOk (legal line at whole) (IsConfigured (length line.config.channels))
+    of_layer area None is aimed = tt
+    of_layer area (Some channel) is aimed =
+        subst (IsConfigured (length line.config.channels)) (whole_channel-is area.channel area.layer channel is) aimed
+
+file_channel-aimed : (line : Line) → IfOk (file_channel line) (IsConfigured (length line.config.channels))
+file_channel-aimed line =
+    bound (IsConfigured (length line.config.channels)) (channel_at line 1) (λ channel. fixed_at line 2 (codes "FILE") >>= (λ file. Ok channel))
+    (λ channel found. bound (IsConfigured (length line.config.channels)) (fixed_at line 2 (codes "FILE")) (λ file. Ok channel)
+    (λ file stands. known (IsConfigured (length line.config.channels)) (channel_at line 1) channel (channel_at-aimed line 1) found))
+
+add_file-aimed : (line : Line) → IfOk (add_file line) (IsAimed line.config)
+unfolding add_file
+add_file-aimed line =
+    bound (IsAimed line.config) (file_channel line) (λ channel. rec_name_at line 3 >>= (λ name. ended line 4 (cmd.AddFile channel name)))
+    (λ channel found. bound (IsAimed line.config) (rec_name_at line 3) (λ name. ended line 4 (cmd.AddFile channel name))
+    (λ name has. ended-keeps (IsAimed line.config) line 4 (cmd.AddFile channel name)
+    (known (IsConfigured (length line.config.channels)) (file_channel line) channel (file_channel-aimed line) found)))
+
+remove_file-aimed : (line : Line) → IfOk (remove_file line) (IsAimed line.config)
+unfolding remove_file
+remove_file-aimed line =
+    bound (IsAimed line.config) (file_channel line) (λ channel. ended line 3 (cmd.RemoveFile channel))
+    (λ channel found. ended-keeps (IsAimed line.config) line 3 (cmd.RemoveFile channel)
+    (known (IsConfigured (length line.config.channels)) (file_channel line) channel (file_channel-aimed line) found))
+
 staged-aimed : (config : ConfigView) (command : Result Cmd Refusal) → IfOk command (IsAimed config) → IfOk (staged command) (IsAimedParsed config)
 staged-aimed config (Ok command) aimed = aimed
 staged-aimed config (Err reason) aimed = tt
@@ -307,6 +345,8 @@ meaning_by_name-aimed line name.Stop = staged-aimed line.config (place_command l
 meaning_by_name-aimed line name.Clear = staged-aimed line.config (clear line) (clear-aimed line)
 meaning_by_name-aimed line name.Swap = staged-aimed line.config (swap line) (swap-aimed line)
 meaning_by_name-aimed line name.Mixer = staged-aimed line.config (mixer line) (mixer-aimed line)
+meaning_by_name-aimed line name.Add = staged-aimed line.config (add_file line) (add_file-aimed line)
+meaning_by_name-aimed line name.Remove = staged-aimed line.config (remove_file line) (remove_file-aimed line)
 meaning_by_name-aimed line name.Begin = ended-keeps (IsAimedParsed line.config) line 1 asked.Begin tt
 meaning_by_name-aimed line name.Commit = ended-keeps (IsAimedParsed line.config) line 1 asked.Commit tt
 meaning_by_name-aimed line name.Discard = ended-keeps (IsAimedParsed line.config) line 1 asked.Discard tt
@@ -316,6 +356,7 @@ meaning_by_name-aimed line name.Version =
     bound (IsAimedParsed line.config) (flag_at line 1 (codes "SERVER")) (λ named. Ok asked.Version) (λ named found. tt)
 meaning_by_name-aimed line name.Bye = ended-keeps (IsAimedParsed line.config) line 1 asked.Bye tt
 meaning_by_name-aimed line name.Kill = ended-keeps (IsAimedParsed line.config) line 1 asked.Kill tt
+meaning_by_name-aimed line name.Req = tt
 
 enough-aimed : (line : Line) → IfOk (enough line) (IsAimedParsed line.config)
 enough-aimed line = by_length (nat_lt (least_words line.name) (length line.words))

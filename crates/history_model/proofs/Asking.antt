@@ -13,9 +13,11 @@ use Rattle.play_types.specs.declared.parsed.Refusal.{Refusal}
 use Rattle.play_types.specs.declared.parsed.Refusal.TheVariants as refusal
 use Rattle.history_model.specs.text.Replies.{IsReplyTo, IsRefusalCode}
 use Rattle.history_model.specs.commands.Command.{parsed}
+use Rattle.history_model.specs.sessions.Request.{requested}
 use Rattle.history_model.specs.sessions.Line.{LineMeaning, Blank, Wrong, Asks, line_meaning, meaning_of_words, meaning_of_parsed, refusal_reply}
 use Rattle.history_model.specs.sessions.Session.{Step, Local, Ask, AskBatch, KillServer, EndConnection, Skip, step_outside, step_commit, step_inside}
 use Rattle.history_model.proofs.EachAsk.{asked-holds}
+use Rattle.history_model.proofs.Requests.{requested_by}
 
 -- a reply that fits, an ask of a command that words ask for, or another step
 abbrev pub IsGiven : ConfigView → List MediaNameView → Step → Type 0
@@ -64,10 +66,10 @@ words_meant : (config : ConfigView) (media : List MediaNameView) (line : List �
     → IsMeant config media (meaning_of_words config media line words)
 words_meant config media line (Err fault) = tt
 words_meant config media line (Ok []) = tt
-words_meant config media line (Ok (word ∷ words)) = by_parsed (parsed config media (word ∷ words)) refl
+words_meant config media line (Ok (word ∷ words)) = by_parsed (requested config media (word ∷ words)) refl
   where
-    by_parsed : (result : Result Parsed Refusal) → parsed config media (word ∷ words) ≡ result → IsMeant config media (meaning_of_parsed line result)
-    by_parsed (Ok asked) is = (word ∷ words, is)
+    by_parsed : (result : Result Parsed Refusal) → requested config media (word ∷ words) ≡ result → IsMeant config media (meaning_of_parsed line result)
+    by_parsed (Ok asked) is = requested_by config media (word ∷ words) asked is
     by_parsed (Err reason) is = refusal_fits config line reason
 
 -- what a line means

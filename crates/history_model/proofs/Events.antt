@@ -3,12 +3,14 @@ use Rattle.std.proofs.Common.{◌≡◌, ◌+◌, Bool, true, false, List, [], �
 use Rattle.std.proofs.lemmas.List.{reverse-append}
 use Rattle.std.specs.Prelude.{Option, Some, None}
 use Rattle.std.specs.List.{list_any}
+use Rattle.play_types.specs.Commands.{mark_of}
 use Rattle.play_types.specs.Place.{PlaceView}
 use Rattle.play_types.specs.History.{ticks}
 use Rattle.play_types.specs.declared.setting.Prop.{Prop}
 use Rattle.play_types.specs.declared.command.Cmd.{Cmd}
 use Rattle.play_types.specs.declared.command.Cmd.TheVariants.{Value, Info}
 use Rattle.play_types.specs.declared.event.Tag.{Tag}
+use Rattle.play_types.specs.declared.shape.Recording.{Recording}
 use Rattle.play_types.specs.declared.event.Event.{Event}
 use Rattle.play_types.specs.declared.event.Event.TheVariants.{Do, Batch, Tick, Stop}
 use Rattle.play_types.proofs.Histories.{ticks-append}
@@ -20,6 +22,7 @@ use Rattle.history_model.specs.pictures.Source.{last_foregrounds}
 use Rattle.history_model.specs.pictures.Scene.{scene_of}
 use Rattle.history_model.specs.pictures.Frame.{scene_pixel, frames_back}
 use Rattle.history_model.specs.pictures.Sound.{scene_sample, sounds_back}
+use Rattle.history_model.proofs.Recordings.{acts_of-mark}
 
 -- two histories that are read backward agree in all that later definitions look at
 pub record IsSame (setup : Setup) (a b : List Event) : Type 0 where
@@ -105,6 +108,15 @@ acts_back-value tag place prop back =
 pub acts_back-info : (tag : Tag) (back : List Event) → acts_back (Do tag Info ∷ back) ≡ acts_back back
 acts_back-info tag back =
     kept (list_any (is_over (acts_back back) (ticks back)) (channels (acts_back back))) (acts_back back)
+
+-- so does a mark of a recording
+pub acts_back-mark : (tag : Tag) (cmd : Cmd) (mark : Recording) (back : List Event) → mark_of cmd ≡ Some mark →
+    acts_back (Do tag cmd ∷ back) ≡ acts_back back
+acts_back-mark tag cmd mark back is =
+    let past = acts_back back in
+    let now = ticks back in
+    ap (λ (own : List Act). unwrap_or (if list_any (is_over (own ++ past) now) (channels (own ++ past)) then None else Some (own ++ past)) past) (acts_of-mark now cmd mark is)
+    ∙ kept (list_any (is_over past now) (channels past)) past
 
 -- what is refused leaves the acts
 none_kept : (entered : Option (List Act)) (acts : List Act) → is_none entered ≡ true → unwrap_or entered acts ≡ acts

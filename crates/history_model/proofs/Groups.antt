@@ -9,7 +9,7 @@ use Rattle.play_types.specs.Setting.{SettingView, number_at}
 use Rattle.play_types.specs.declared.setting.Prop.{Prop}
 use Rattle.play_types.specs.declared.setting.Prop.TheVariants.{Opacity, Fill, Clip, Volume, Keyer}
 use Rattle.play_types.specs.declared.command.Cmd.{Cmd}
-use Rattle.play_types.specs.declared.command.Cmd.TheVariants.{LoadBg, Play, PlayTake, Set, CommitMixer, Value, Info}
+use Rattle.play_types.specs.declared.command.Cmd.TheVariants.{LoadBg, Play, PlayTake, Set, CommitMixer, AddFile, RemoveFile, Value, Info}
 use Rattle.play_types.specs.declared.drawn.Drawn.{Drawn}
 use Rattle.history_model.specs.stage.Act.{Act, act_after, acts_of}
 use Rattle.history_model.specs.stage.Answer.{channel_numbers, status_of}
@@ -22,7 +22,8 @@ use Rattle.history_model.specs.stage.Timeline.{Entry, Did, Ticked, timeline_acts
 use Rattle.history_model.specs.stage.Trail.{acts_on_content, content_origin, trail, tuning}
 use Rattle.history_model.specs.stage.Value.{tuned_value}
 use Rattle.history_model.specs.pictures.Media.{Setup, size}
-use Rattle.history_model.specs.pictures.Scene.{is_one, outgoing_still, scene_of}
+use Rattle.history_model.specs.pictures.Easing.{eased}
+use Rattle.history_model.specs.pictures.Scene.{is_one, outgoing_still, scene_of, step_of}
 use Rattle.history_model.specs.pictures.Source.{source}
 use Rattle.history_model.specs.pictures.Frame.{scene_pixel}
 use Rattle.history_model.specs.pictures.Sound.{scene_sample}
@@ -106,6 +107,8 @@ IsWithout-did : (which : ℕ → Bool) (t u : ℕ) (cmd : Cmd) (a b : List Act) 
 IsWithout-did which t u (PlayTake place take) a b now kept h =
     IsWithout-act which t u (Play place) (act_after t (LoadBg place (played take)) ∷ a) (act_after u (LoadBg place (played take)) ∷ b) now refl
     (IsWithout-act which t u (LoadBg place (played take)) a b now refl h)
+IsWithout-did which t u (AddFile marked name) a b now kept h = h
+IsWithout-did which t u (RemoveFile marked) a b now kept h = h
 IsWithout-did which t u (Value place prop) a b now kept h = h
 IsWithout-did which t u Info a b now kept h = h
 IsWithout-did which t u cmd a b now kept h = IsWithout-act which t u cmd a b now kept h
@@ -167,8 +170,8 @@ drawn_by : List Act → ℕ → Option (PlaceView → Option Foreground) → Pla
 drawn_by resolved t foregrounds place foreground = record {
   still = source foregrounds foreground.take.spec (head foreground.take foreground.shown);
   old = outgoing_still foregrounds foreground.old foreground.shown;
-  trans = foreground.take.trans;
-  step = min (foreground.shown + 1) foreground.take.trans.duration;
+  trans = (eased foreground.take.trans (step_of foreground)).0;
+  step = (eased foreground.take.trans (step_of foreground)).1;
   opacity = number_at (tuned_value (tuning resolved place) Opacity (t + 1)) 0;
   fill = tuned_value (tuning resolved place) Fill (t + 1);
   clip = tuned_value (tuning resolved place) Clip (t + 1);

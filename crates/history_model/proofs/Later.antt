@@ -1,14 +1,16 @@
--- What a query or a refused event leaves of all later answers, and frames before the first act.
+-- What a query, a mark of a recording or a refused event leaves of all later answers, and frames before the first act.
 use Rattle.std.proofs.Common.{◌≡◌, ℕ, Bool, true, false, List, [], ◌∷◌, ◌++◌, reverse, length, map, pos, refl, sym, ap, ap₂, ◌∙◌, subst₂, is_none}
 use Rattle.std.proofs.lemmas.List.{reverse-append}
-use Rattle.std.specs.Prelude.{flat_map}
+use Rattle.std.specs.Prelude.{Some, flat_map}
 use Rattle.play_types.specs.Place.{PlaceView}
+use Rattle.play_types.specs.Commands.{mark_of}
 use Rattle.play_types.specs.Answer.{micros_of, status_list_of}
 use Rattle.play_types.specs.History.{ticks, is_stop}
 use Rattle.play_types.specs.declared.setting.Prop.{Prop}
 use Rattle.play_types.specs.declared.command.Cmd.{Cmd}
 use Rattle.play_types.specs.declared.command.Cmd.TheVariants.{Value as ValueOf, Info as InfoOf}
 use Rattle.play_types.specs.declared.event.Tag.{Tag}
+use Rattle.play_types.specs.declared.shape.Recording.{Recording}
 use Rattle.play_types.specs.declared.event.Event.{Event}
 use Rattle.play_types.specs.declared.event.Event.TheVariants.{Do, Batch, Tick, Stop}
 use Rattle.play_types.specs.declared.answer.Status.{Status}
@@ -23,7 +25,7 @@ use Rattle.history_model.specs.pictures.Scene.{scene_of}
 use Rattle.history_model.specs.pictures.Frame.{scene_pixel, frames_back, frame_pixel}
 use Rattle.history_model.specs.pictures.Sound.{scene_sample, sounds_back, frame_sample}
 use Rattle.history_model.specs.stage.Answer.{Answered, Frames, channel_frame, channel_numbers, numbers_below, number_count, statuses, status_of, channel_foregrounds, outcome_of, command_answer, answer}
-use Rattle.history_model.proofs.Events.{IsSame, IsSame-cons, IsSame-append, IsSame-do, IsSame-batch, acts_back-value, acts_back-info, acts_back-refused, ticks-reverse, reverse-middle}
+use Rattle.history_model.proofs.Events.{IsSame, IsSame-cons, IsSame-append, IsSame-do, IsSame-batch, acts_back-value, acts_back-info, acts_back-mark, acts_back-refused, ticks-reverse, reverse-middle}
 
 -- two histories agree in all that later definitions look at
 abbrev pub SameHistory : Setup → List Event → List Event → Type 0
@@ -124,6 +126,13 @@ pub SameHistory-info : (setup : Setup) (before : List Event) (tag : Tag) (later 
 SameHistory-info setup before tag later =
     SameHistory-without setup before (Do tag InfoOf) later
     (IsSame-do setup tag InfoOf (reverse before) (acts_back-info tag (reverse before)))
+
+-- so does a mark of a recording
+pub SameHistory-mark : (setup : Setup) (before : List Event) (tag : Tag) (cmd : Cmd) (mark : Recording) (later : List Event) → mark_of cmd ≡ Some mark →
+    SameHistory setup (before ++ Do tag cmd ∷ later) (before ++ later)
+SameHistory-mark setup before tag cmd mark later is =
+    SameHistory-without setup before (Do tag cmd) later
+    (IsSame-do setup tag cmd (reverse before) (acts_back-mark tag cmd mark (reverse before) is))
 
 -- so does a refused event
 refused_same : (setup : Setup) (event : Event) (back : List Event) →

@@ -1,7 +1,9 @@
 pub mod Lives
 pub mod Trails
+pub mod Recordings
 pub mod Events
 pub mod Later
+pub mod Films
 pub mod Liveness
 pub mod Placing
 pub mod Silent
@@ -15,6 +17,7 @@ pub mod Filled
 pub mod Scripts
 pub mod Streams
 pub mod EachAsk
+pub mod Requests
 pub mod Asking
 pub mod Aiming
 pub mod EachStep
@@ -33,6 +36,9 @@ pub mod Tags
 pub mod Marks
 pub mod Unmarked
 pub mod Runs
+pub mod Replied
+pub mod Cut
+pub mod Generated
 pub mod OpenBatch
 pub mod Sides
 pub mod Besides

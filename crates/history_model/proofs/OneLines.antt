@@ -93,7 +93,7 @@ short_one_line (c ∷ more) none = by_first (c == 35) (c == 84) (c == 88)
     by_first false false true = x_one_line more
     by_first false false false = addressed_one_line (c ∷ more) none
 
-meaning_one_line : (line : List ℕ) → HasNoLineEnd line → IsOneLine (meaning line)
+pub meaning_one_line : (line : List ℕ) → HasNoLineEnd line → IsOneLine (meaning line)
 meaning_one_line line none = by_length (nat_lt MAX_SCRIPT_LINE_BYTES (length line))
   where
     by_length : (b : Bool) → IsOneLine (if b then Rejected else short_meaning line)
@@ -104,7 +104,7 @@ pub text_one_line : (line : List ℕ) (tag : Tag) (text : List ℕ) → Said tag
 text_one_line line tag text is none = subst IsOneLine (sym is) (meaning_one_line line none)
 
 -- the parts of an input have none
-abbrev AreWithoutLineEnds : List (List ℕ) → Type 0
+abbrev pub AreWithoutLineEnds : List (List ℕ) → Type 0
 AreWithoutLineEnds [] = Unit {0}
 AreWithoutLineEnds (text ∷ texts) = HasNoLineEnd text × AreWithoutLineEnds texts
 
@@ -158,7 +158,7 @@ received_without bytes false =
     (overlong_without (last_part (parts bytes)) (last_without (parts bytes) (parts_without bytes)))
 
 -- and so what they say
-said_lines : (texts : List (List ℕ)) → AreWithoutLineEnds texts → AreLines (map meaning texts)
+pub said_lines : (texts : List (List ℕ)) → AreWithoutLineEnds texts → AreLines (map meaning texts)
 said_lines [] none = tt
 said_lines (text ∷ texts) none = (meaning_one_line text none.0, said_lines texts none.1)
 

@@ -7,7 +7,7 @@ use Rattle.history_model.specs.scripts.History.{Playout, PlayedLine, Past, event
 use Rattle.history_model.specs.scripts.Output.{tick_output, ticks_output, output_at, output_after, script_output}
 
 -- the run goes on after lines only if it goes on after the first of them
-first_goes_on : (b more : Bool) → cond b false more ≡ true → (b ≡ false) × (more ≡ true)
+pub first_goes_on : (b more : Bool) → cond b false more ≡ true → (b ≡ false) × (more ≡ true)
 first_goes_on true more on = absurd (false≢true on)
 first_goes_on false more on = (refl, on)
 

@@ -8,11 +8,12 @@ use Rattle.play_types.specs.declared.event.Event.TheVariants as event
 use Rattle.play_types.specs.declared.event.Tag.{Tag}
 use Rattle.play_types.specs.declared.parsed.Parsed.{Parsed}
 use Rattle.play_types.specs.declared.reply.Reply.TheVariants as reply
+use Rattle.history_model.specs.sessions.Request.{text_token}
 use Rattle.history_model.specs.sessions.Line.{LineMeaning, asked_by, line_meaning}
 use Rattle.history_model.specs.sessions.Session.{Step, Local, Ask, AskBatch, KillServer, EndConnection, Skip, asks, is_end, line_steps, step_of_meaning}
 use Rattle.history_model.specs.scripts.Line.{ScriptLine, Said, Ticks}
 use Rattle.history_model.specs.scripts.History.{PlayedLine, Playout, Turn, ends_at, events_at, given_up_of, goes_on, is_kill, said_step, script_events, step_events, stream_of, text_by, texts_of, turn_of}
-use Rattle.history_model.specs.scripts.Output.{output_at, reply_output, script_output, step_reply, ticks_output}
+use Rattle.history_model.specs.scripts.Output.{answer_output, output_at, script_output, step_reply, ticks_output}
 use Rattle.history_model.proofs.Outputs.{goes_on-none, goes_on-snoc, script_events-none, script_events-snoc, script_output-none, script_output-snoc}
 use Rattle.history_model.proofs.Besides.{same_asks, same_ended}
 use Rattle.history_model.proofs.Sides.{Side, Side-none, Side-other, Side-said, asked_of, asked_of-said, has_ended, has_ended-said, own_step, said_step-own}
@@ -55,11 +56,11 @@ step_then so_far meaning = step_of_meaning so_far.asked meaning
 abbrev pub turn_then : Playout → Tag → PlayedLine → Progress → Turn
 turn_then playout tag line so_far = turn_of playout so_far.events line tag
 
-abbrev pub progress_said : Turn → Progress → LineMeaning → Progress
-progress_said turn so_far meaning = record {
+abbrev pub progress_said : Turn → Progress → List ℕ → LineMeaning → Progress
+progress_said turn so_far text meaning = record {
   asked = so_far.asked ++ cons_option (asked_by meaning) [];
   events = so_far.events ++ step_events turn (Some (step_then so_far meaning));
-  output = so_far.output ++ reply_output turn.playout turn.tag (step_reply turn (Some (step_then so_far meaning)));
+  output = so_far.output ++ answer_output turn.playout turn.tag (text_token text) (step_reply turn (Some (step_then so_far meaning)));
 }
 
 -- a step that ends nothing is no KILL
@@ -75,7 +76,7 @@ module _ (playout : Playout) (tag : Tag) (lines : List PlayedLine) (so_far : Pro
   -- a line of the connection with this text, which was not given up
   pub run_said : (text : List ℕ) (meaning : LineMeaning) → line.line ≡ Said tag text → list_any is_line_end text ≡ false → line.given_up ≡ false →
       line_meaning playout.config playout.names (line_of_text text) ≡ meaning → is_end (step_then so_far meaning) ≡ false →
-      HasRun playout tag (lines ++ line ∷ []) (progress_said (turn_then playout tag line so_far) so_far meaning)
+      HasRun playout tag (lines ++ line ∷ []) (progress_said (turn_then playout tag line so_far) so_far text meaning)
   run_said text meaning says one kept means goes =
       let said = text_by-own tag line text says in
       let step : Step = step_then so_far meaning in
@@ -92,7 +93,7 @@ module _ (playout : Playout) (tag : Tag) (lines : List PlayedLine) (so_far : Pro
         output =
             script_output-snoc playout lines line h.goes
             ∙ ap (λ (l : ScriptLine). script_output playout lines ++ output_at playout lines line l) says
-            ∙ (λ i. h.output i ++ reply_output playout tag (step_reply (turn_of playout (h.events i) line tag) (found i)));
+            ∙ (λ i. h.output i ++ answer_output playout tag (text_token text) (step_reply (turn_of playout (h.events i) line tag) (found i)));
         side = Side-said tag lines line text said one h.side;
         asked =
             asked_of-said playout tag lines line text said one h.side

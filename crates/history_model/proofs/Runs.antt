@@ -7,13 +7,16 @@ use Rattle.play_types.specs.declared.event.Event.TheVariants as event
 use Rattle.play_types.specs.declared.event.Tag.{Tag}
 use Rattle.play_types.specs.declared.reply.Name.{Name}
 use Rattle.play_types.specs.declared.reply.Name.TheVariants as name
+use Rattle.play_types.specs.declared.reply.Reply.{Reply}
 use Rattle.play_types.specs.declared.reply.Reply.TheVariants as reply
 use Rattle.history_model.specs.stage.Acts.{is_refused}
 use Rattle.history_model.specs.stage.Answer.{command_answer, outcome_of}
 use Rattle.history_model.specs.sessions.Session.{Step, Local, Ask, AskBatch, KillServer, EndConnection, Skip}
 use Rattle.history_model.specs.scripts.Line.{ScriptLine, Comment, Ticks, Said, Stop, Rejected}
 use Rattle.history_model.specs.scripts.History.{Playout, PlayedLine, Past, Turn, Verdict, JournalFull, OutOfMemory, Taken, ends_at, events_after, events_at, goes_on, is_full, is_kill, said_step, same_tag, script_events, setup_of, step_events, text_by, turn_of, verdict, verdict_events}
-use Rattle.history_model.specs.scripts.Output.{output_after, output_at, reply_output, script_output, step_reply, ticks_output, verdict_reply}
+use Rattle.history_model.specs.scripts.Replies.{replies_after, reply_list, script_replies}
+use Rattle.history_model.specs.scripts.Output.{output_after, output_at, answer_output, script_output, step_reply, ticks_output, verdict_reply}
+use Rattle.history_model.specs.sessions.Request.{text_token}
 use Rattle.history_model.specs.scripts.Memory.{AreLines, HasMemory, HasMemoryAfter, IsNoneOrOfMemory, IsOfMemory, IsOneLine, UnlessEnded, lines_played, reply_at}
 use Rattle.history_model.proofs.Outputs.{goes_on-none, goes_on-snoc, script_events-snoc}
 use Rattle.history_model.proofs.Tags.{same_tag-equal, text_by-else, text_by-own}
@@ -84,6 +87,7 @@ past_of playout before = record { lines = before; events = script_events playout
 -- a line writes and does what it writes and does without marks
 record IsLike (playout : Playout) (before : List PlayedLine) (line : PlayedLine) (says : ScriptLine) : Type 0 where
   output : output_at playout before line says ≡ output_at playout (map unmarked before) (unmarked line) says
+  reply : reply_at playout before line says ≡ reply_at playout (map unmarked before) (unmarked line) says
   events : events_at playout (past_of playout before) line says ≡ events_at playout (past_of playout (map unmarked before)) (unmarked line) says
   ends : ends_at playout before line says ≡ ends_at playout (map unmarked before) (unmarked line) says
   keeps : (tag : Tag) → Keeps playout tag (before ++ line ∷ [])
@@ -105,9 +109,10 @@ said_like playout before line tag text says h without (inl lost) =
 said_like playout before line tag text says h without (inr (same, now)) =
     let turn = turn_of playout (script_events playout before) line tag in
     let like = step-with_memory turn (said_step playout before line tag) without in
+    let reply = like.reply ∙ λ i. step_reply (record { playout = playout; events = h.events i; tag = tag; no_memory = false }) (same i) in
     record {
-      output = ap (reply_output playout tag)
-          (like.reply ∙ λ i. step_reply (record { playout = playout; events = h.events i; tag = tag; no_memory = false }) (same i));
+      output = ap (answer_output playout tag (text_token text)) reply;
+      reply = reply;
       events = like.events ∙ λ i. step_events (record { playout = playout; events = h.events i; tag = tag; no_memory = false }) (same i);
       ends = ap is_kill same;
       keeps = λ other. keeps_by playout before line tag other text (same_tag other tag) says refl (h.keeps other) now;
@@ -117,12 +122,14 @@ line_like : (playout : Playout) (before : List PlayedLine) (line : PlayedLine) (
     IsOneLine says → IsNoneOrOfMemory (reply_at playout before line says) → IsLike playout before line says
 line_like playout before line Comment is h one without = record {
   output = refl;
+  reply = refl;
   events = refl;
   ends = refl;
   keeps = λ tag. Keeps-other playout tag before line (ap (text_by tag) is) (h.keeps tag);
 }
 line_like playout before line (Ticks count) is h one without = record {
   output = ap (λ events. ticks_output playout events count) h.events;
+  reply = refl;
   events = refl;
   ends = refl;
   keeps = λ tag. Keeps-other playout tag before line (ap (text_by tag) is) (h.keeps tag);
@@ -132,12 +139,14 @@ line_like playout before line (Said tag text) is h one without =
     (outcome playout tag before line text (text_by-own tag line text is) one (h.keeps tag))
 line_like playout before line Stop is h one without = record {
   output = refl;
+  reply = refl;
   events = refl;
   ends = refl;
   keeps = λ tag. Keeps-other playout tag before line (ap (text_by tag) is) (h.keeps tag);
 }
 line_like playout before line Rejected is h one without = record {
   output = refl;
+  reply = refl;
   events = refl;
   ends = refl;
   keeps = λ tag. Keeps-other playout tag before line (ap (text_by tag) is) (h.keeps tag);
@@ -163,12 +172,13 @@ At-next playout before line h like goes =
 -- lines that follow write and do what they write and do without marks
 record AreLike (playout : Playout) (before lines : List PlayedLine) : Type 0 where
   output : output_after playout before lines ≡ output_after playout (map unmarked before) (map unmarked lines)
+  replies : replies_after playout before lines ≡ replies_after playout (map unmarked before) (map unmarked lines)
   events : events_after playout (past_of playout before) lines ≡ events_after playout (past_of playout (map unmarked before)) (map unmarked lines)
 
 -- a line at which the run ends
 like_ended : (playout : Playout) (before : List PlayedLine) (line : PlayedLine) (lines : List PlayedLine) → At playout before →
     IsLike playout before line line.line → ends_at playout before line line.line ≡ true → AreLike playout before (line ∷ lines)
-unfolding output_after events_after
+unfolding output_after replies_after events_after
 like_ended playout before line lines h like is =
     let is' = sym like.ends ∙ is in
     let next : Past = record { lines = before ++ line ∷ []; events = script_events playout before ++ events_at playout (past_of playout before) line line.line } in
@@ -179,20 +189,22 @@ like_ended playout before line lines h like is =
     } in
     record {
       output = λ i. like.output i ++ ended_rest (output_after playout next.lines lines) (output_after playout next'.lines (map unmarked lines)) is is' i;
+      replies =
+          λ i. reply_list (like.reply i) ++ ended_rest (replies_after playout next.lines lines) (replies_after playout next'.lines (map unmarked lines)) is is' i;
       events =
           ap (λ (b : Bool). cond b next.events (events_after playout next lines)) is
           ∙ (λ i. h.events i ++ like.events i)
           ∙ sym (ap (λ (b : Bool). cond b next'.events (events_after playout next' (map unmarked lines))) is');
     }
   where
-    ended_rest : {one other : Bool} (x y : List ℕ) → one ≡ true → other ≡ true → cond one [] x ≡ cond other [] y
+    ended_rest : {A : Type 0} {one other : Bool} (x y : List A) → one ≡ true → other ≡ true → cond one [] x ≡ cond other [] y
     ended_rest x y p q = ap (λ (b : Bool). cond b [] x) p ∙ sym (ap (λ (b : Bool). cond b [] y) q)
 
 -- a line after which it goes on
 like_going : (playout : Playout) (before : List PlayedLine) (line : PlayedLine) (lines : List PlayedLine) → At playout before →
     IsLike playout before line line.line → ends_at playout before line line.line ≡ false → AreLike playout (before ++ line ∷ []) lines →
     AreLike playout before (line ∷ lines)
-unfolding output_after events_after
+unfolding output_after replies_after events_after
 like_going playout before line lines h like is later =
     let is' = sym like.ends ∙ is in
     let whole = unmarked-append before line in
@@ -211,6 +223,11 @@ like_going playout before line lines h like is later =
           ∙ ap (λ (rest : List ℕ). output_at playout plain (unmarked line) line.line ++ rest)
           (later.output ∙ ap (λ ls. output_after playout ls (map unmarked lines)) (sym whole))
           ∙ ap (λ (b : Bool). output_at playout plain (unmarked line) line.line ++ cond b [] (output_after playout next'.lines (map unmarked lines))) (sym is');
+      replies =
+          (λ i. reply_list (like.reply i) ++ cond (is i) [] (replies_after playout next.lines lines))
+          ∙ ap (λ (rest : List Reply). reply_list (reply_at playout plain (unmarked line) line.line) ++ rest)
+          (later.replies ∙ ap (λ ls. replies_after playout ls (map unmarked lines)) (sym whole))
+          ∙ ap (λ (b : Bool). reply_list (reply_at playout plain (unmarked line) line.line) ++ cond b [] (replies_after playout next'.lines (map unmarked lines))) (sym is');
       events =
           ap (λ (b : Bool). cond b next.events (events_after playout next lines)) is
           ∙ ap (λ events. events_after playout (record { lines = next.lines; events = events }) lines) (sym made)
@@ -232,8 +249,8 @@ like_by playout before line lines false is h like without each =
 
 all_like : (playout : Playout) (before lines : List PlayedLine) → At playout before → AreLines (lines_played lines) →
     HasMemoryAfter playout before lines → AreLike playout before lines
-unfolding output_after events_after
-all_like playout before [] h one without = record { output = refl; events = h.events }
+unfolding output_after replies_after events_after
+all_like playout before [] h one without = record { output = refl; replies = refl; events = h.events }
 all_like playout before (line ∷ lines) h one without =
     let like = line_like playout before line line.line refl h one.0 without.0 in
     like_by playout before line lines (ends_at playout before line line.line) refl h like without.1
@@ -252,6 +269,11 @@ pub output-unmarked : (playout : Playout) (lines : List PlayedLine) → AreLines
     script_output playout lines ≡ script_output playout (map unmarked lines)
 unfolding script_output
 output-unmarked playout lines one without = (all_like playout [] lines (start playout) one without).output
+
+pub replies-unmarked : (playout : Playout) (lines : List PlayedLine) → AreLines (lines_played lines) → HasMemory playout lines →
+    script_replies playout lines ≡ script_replies playout (map unmarked lines)
+unfolding script_replies
+replies-unmarked playout lines one without = (all_like playout [] lines (start playout) one without).replies
 
 pub events-unmarked : (playout : Playout) (lines : List PlayedLine) → AreLines (lines_played lines) → HasMemory playout lines →
     script_events playout lines ≡ script_events playout (map unmarked lines)
@@ -276,6 +298,13 @@ pub output-equal : (playout : Playout) (one other : List PlayedLine) → AreLine
 output-equal playout one other lines same without without' =
     output-unmarked playout one lines without ∙ ap (script_output playout) (unmarked-equal one other same)
     ∙ sym (output-unmarked playout other (subst AreLines same lines) without')
+
+pub replies-equal : (playout : Playout) (one other : List PlayedLine) → AreLines (lines_played one) → lines_played one ≡ lines_played other →
+    HasMemory playout one → HasMemory playout other →
+    script_replies playout one ≡ script_replies playout other
+replies-equal playout one other lines same without without' =
+    replies-unmarked playout one lines without ∙ ap (script_replies playout) (unmarked-equal one other same)
+    ∙ sym (replies-unmarked playout other (subst AreLines same lines) without')
 
 pub events-equal : (playout : Playout) (one other : List PlayedLine) → AreLines (lines_played one) → lines_played one ≡ lines_played other →
     HasMemory playout one → HasMemory playout other →

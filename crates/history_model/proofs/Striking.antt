@@ -7,7 +7,8 @@ use Rattle.amcp_text.specs.Lines.{is_line_end}
 use Rattle.play_types.specs.declared.event.Tag.{Tag}
 use Rattle.history_model.specs.scripts.Line.{ScriptLine, Comment, Ticks, Said, Stop, Rejected}
 use Rattle.history_model.specs.scripts.History.{Playout, PlayedLine, Past, ends_at, events_after, events_at, goes_on, goes_on_after, is_kill, said_step, same_tag, script_events, step_events, text_by, turn_of}
-use Rattle.history_model.specs.scripts.Output.{output_after, output_at, reply_output, script_output, step_reply, ticks_output}
+use Rattle.history_model.specs.scripts.Output.{output_after, answer_output, output_at, script_output, step_reply, ticks_output}
+use Rattle.history_model.specs.sessions.Request.{text_token}
 use Rattle.history_model.specs.scripts.Memory.{AreLines, IsOneLine, lines_played}
 use Rattle.history_model.specs.scripts.Struck.{ChangesNothing, IsIdleLine}
 use Rattle.history_model.proofs.OpenBatch.{LeavesBatch}
@@ -58,7 +59,7 @@ line_like playout a b line (Ticks count) is h one = record {
 line_like playout a b line (Said tag text) is h one =
     let same = said_step-same playout tag a b line text (text_by-own tag line text is) one (h.beside tag) in
     record {
-      output = λ i. reply_output playout tag (step_reply (turn_of playout (h.events i) line tag) (same i));
+      output = λ i. answer_output playout tag (text_token text) (step_reply (turn_of playout (h.events i) line tag) (same i));
       events = λ i. step_events (turn_of playout (h.events i) line tag) (same i);
       ends = ap is_kill same;
       beside = λ other.

@@ -3,7 +3,7 @@ use Rattle.std.proofs.Common.{◌≡◌, ℕ, Bool, false, ◌==◌, List, [], �
 use Rattle.std.proofs.lemmas.Bool.{or_parts}
 use Rattle.play_types.specs.Place.{PlaceView}
 use Rattle.play_types.specs.declared.command.Cmd.{Cmd}
-use Rattle.play_types.specs.declared.command.Cmd.TheVariants.{Load, LoadBg, Play, PlayTake, Pause, Resume, StopLayer, ClearLayer, ClearChannel, SwapLayers, SwapChannels, Set, CommitMixer, ResetLayer, ResetChannel, Value, Info}
+use Rattle.play_types.specs.declared.command.Cmd.TheVariants.{Load, LoadBg, Play, PlayTake, Pause, Resume, StopLayer, ClearLayer, ClearChannel, SwapLayers, SwapChannels, Set, CommitMixer, ResetLayer, ResetChannel, AddFile, RemoveFile, Value, Info}
 use Rattle.history_model.specs.stage.Act.{Act}
 use Rattle.history_model.specs.stage.Trail.{same_place, swapped_place, channel_swapped_place, content_origin, acts_on_content, acts_along, trail}
 use Rattle.history_model.specs.stage.Touched.{touches, some_touches}
@@ -45,6 +45,8 @@ acts_on_content-other (Set setting) place e = refl
 acts_on_content-other (CommitMixer channel) place e = refl
 acts_on_content-other (ResetLayer at) place e = refl
 acts_on_content-other (ResetChannel channel) place e = refl
+acts_on_content-other (AddFile marked name) place e = refl
+acts_on_content-other (RemoveFile marked) place e = refl
 acts_on_content-other (Value at prop) place e = refl
 acts_on_content-other Info place e = refl
 
@@ -67,6 +69,8 @@ content_origin-other (Set setting) place e = refl
 content_origin-other (CommitMixer channel) place e = refl
 content_origin-other (ResetLayer at) place e = refl
 content_origin-other (ResetChannel channel) place e = refl
+content_origin-other (AddFile marked name) place e = refl
+content_origin-other (RemoveFile marked) place e = refl
 content_origin-other (Value at prop) place e = refl
 content_origin-other Info place e = refl
 

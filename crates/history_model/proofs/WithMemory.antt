@@ -20,7 +20,7 @@ use Rattle.play_types.specs.declared.event.Event.TheVariants as event
 use Rattle.play_types.specs.declared.event.Tag.{Tag}
 use Rattle.play_types.specs.declared.reply.Name.{Name}
 use Rattle.play_types.specs.declared.reply.Name.TheVariants as name
-use Rattle.history_model.specs.commands.Command.{parsed}
+use Rattle.history_model.specs.sessions.Request.{requested}
 use Rattle.history_model.specs.sessions.Line.{LineMeaning, Blank, Wrong, Asks, line_meaning, meaning_of_parsed, meaning_of_words, refusal_reply}
 use Rattle.history_model.specs.sessions.Session.{Step, Local, Ask, AskBatch, KillServer, EndConnection, Skip, asks, batch, is_open, line_steps, step_commit, step_of_line, step_of_meaning, steps}
 use Rattle.history_model.specs.stage.Acts.{is_refused}
@@ -68,7 +68,7 @@ words_of_memory : (config : ConfigView) (media : List MediaNameView) (line : Lis
     RefusesOfMemory (meaning_of_words config media line found)
 words_of_memory config media line (Err fault) = tt
 words_of_memory config media line (Ok []) = tt
-words_of_memory config media line (Ok (word ∷ words)) = parsed_of_memory line (parsed config media (word ∷ words))
+words_of_memory config media line (Ok (word ∷ words)) = parsed_of_memory line (requested config media (word ∷ words))
 
 meaning_of_memory : (config : ConfigView) (media : List MediaNameView) (line : Line) → RefusesOfMemory (line_meaning config media line)
 unfolding line_meaning

@@ -4,4 +4,5 @@ pub mod commands
 pub mod sessions
 pub mod text
 pub mod scripts
+pub mod recordings
 pub mod Worked

@@ -7,6 +7,7 @@ use Rattle.play_types.specs.Transition.{TransView, cut}
 use Rattle.play_types.specs.ClipFile.{ClipView}
 use Rattle.play_types.specs.History.{ticks}
 use Rattle.play_types.specs.declared.transition.Kind.{Kind}
+use Rattle.play_types.specs.declared.transition.Curve.{Curve}
 use Rattle.play_types.specs.declared.transition.Curve.TheVariants.{Linear}
 use Rattle.play_types.specs.declared.setting.Prop.{Prop}
 use Rattle.play_types.specs.declared.setting.Prop.TheVariants.{Opacity}
@@ -46,6 +47,10 @@ rightward kind duration = record { kind = kind; duration = duration; curve = Lin
 
 abbrev pub leftward : Kind → ℕ → TransView
 leftward kind duration = record { kind = kind; duration = duration; curve = Linear; leftward = true }
+
+-- a transition with another curve
+abbrev pub curved : Curve → TransView → TransView
+curved curve trans = record trans { curve = curve }
 
 -- a producer that is no clip, with a cut
 abbrev pub plain : Spec → TakeView
@@ -87,6 +92,10 @@ abbrev pub setting : PlaceView → Prop → List ℤ → ℕ → SettingView
 setting place prop values duration =
     record { place = place; prop = prop; values = values; duration = duration; curve = Linear; deferred = false }
 
+-- a setting along another curve
+abbrev pub set_along : Curve → SettingView → SettingView
+set_along curve setting = record setting { curve = curve }
+
 abbrev pub sets : PlaceView → Prop → List ℤ → Event
 sets place prop values = ask (Set (setting place prop values 0))
 
@@ -110,19 +119,26 @@ strip width pairs = record { width = width; height = 1; pairs = pairs }
 
 -- the clip of these bytes
 abbrev pub film : ℕ → ℕ → ℕ → List ℕ → Option ClipView
-film width pairs frames bytes = Some (record { geometry = strip width pairs; frames = frames; bytes = bytes })
+film width pairs frames bytes = Some (record { version = 1; geometry = strip width pairs; frames = frames; bytes = bytes })
 
 -- an opaque pixel with only red
 abbrev pub reds : List ℕ → List ℕ
 reds values = flat_map (λ value. 0 ∷ 0 ∷ value ∷ 255 ∷ []) values
 
--- the clips of the examples: 0 has four columns, 1 three frames, 2 two columns, 3 one column and two pairs of sound
+-- a clip of version 2 without sound
+abbrev pub straight_film : ℕ → List ℕ → Option ClipView
+straight_film width bytes = Some (record { version = 2; geometry = strip width 0; frames = 1; bytes = bytes })
+
+-- the clips of the examples: 0 has four columns, 1 three frames, 2 two columns, 3 one column and two pairs of sound, 4 and 5
+-- two columns of half opacity, of which 5 is of version 2
 abbrev pub media : List (Option ClipView)
 media =
     film 4 0 1 (reds (10 ∷ 20 ∷ 30 ∷ 40 ∷ []))
     ∷ film 1 0 3 (reds (0 ∷ 80 ∷ 160 ∷ []))
     ∷ film 2 0 1 (255 ∷ 255 ∷ 255 ∷ 255 ∷ 128 ∷ 128 ∷ 128 ∷ 255 ∷ [])
     ∷ film 1 2 1 (0 ∷ 0 ∷ 0 ∷ 255 ∷ 0xe8 ∷ 3 ∷ 0x18 ∷ 0xfc ∷ 0xff ∷ 0x7f ∷ 0 ∷ 0x80 ∷ [])
+    ∷ film 2 0 1 (0 ∷ 0 ∷ 0x40 ∷ 0x80 ∷ 0 ∷ 0 ∷ 0xff ∷ 0x80 ∷ [])
+    ∷ straight_film 2 (0 ∷ 0 ∷ 0x80 ∷ 0x80 ∷ 0 ∷ 0 ∷ 0xff ∷ 0x80 ∷ [])
     ∷ []
 
 -- one channel of one row with `width` columns and no sound, and three channels of one pixel and three pairs

@@ -1,5 +1,6 @@
 pub mod Media
 pub mod Source
+pub mod Easing
 pub mod Scene
 pub mod Raster
 pub mod Placing

@@ -4,3 +4,5 @@ pub mod Input
 pub mod Output
 pub mod Memory
 pub mod Struck
+pub mod Replies
+pub mod Generator

@@ -4,11 +4,14 @@
 //! letters: blue, green, red and alpha.
 
 pub mod answers;
+pub mod generator;
 pub mod groups;
 pub mod histories;
 pub mod lives;
 pub mod pictures;
 pub mod places;
+pub mod recordings;
+pub mod requests;
 pub mod routes;
 pub mod scripts;
 pub mod settings;

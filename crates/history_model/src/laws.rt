@@ -2,11 +2,13 @@
 
 pub mod batches;
 pub mod frames;
+pub mod generator;
 pub mod groups;
 pub mod histories;
 pub mod lives;
 pub mod places;
 pub mod placing;
+pub mod recordings;
 pub mod script_outputs;
 pub mod scripts;
 pub mod settings;

@@ -17,9 +17,10 @@ to_be_bytes_same_4 m n p q e =
 -- a file is the file of one clip alone
 pub clip_bytes_same : (a b : ClipView) → IsClip a → IsClip b → clip_bytes a ≡ clip_bytes b → a ≡ b
 clip_bytes_same a b p q e =
+    let version = to_be_bytes_same_2 a.version b.version (omega arith) (omega arith) (ap (λ f. take 2 (drop 4 f)) e) in
     let width = to_be_bytes_same_2 a.geometry.width b.geometry.width (omega arith) (omega arith) (ap (λ f. take 2 (drop 8 f)) e) in
     let height = to_be_bytes_same_2 a.geometry.height b.geometry.height (omega arith) (omega arith) (ap (λ f. take 2 (drop 10 f)) e) in
     let frames = to_be_bytes_same_4 a.frames b.frames (omega arith) (omega arith) (ap (λ f. take 4 (drop 12 f)) e) in
     let pairs = to_be_bytes_same_2 a.geometry.pairs b.geometry.pairs (omega arith) (omega arith) (ap (λ f. take 2 (drop 16 f)) e) in
     let bytes : a.bytes ≡ b.bytes = ap (drop 20) e in
-    λ i. record { geometry = record { width = width i; height = height i; pairs = pairs i }; frames = frames i; bytes = bytes i }
+    λ i. record { version = version i; geometry = record { width = width i; height = height i; pairs = pairs i }; frames = frames i; bytes = bytes i }

@@ -5,5 +5,6 @@ pub mod Kept
 pub mod Layers
 pub mod Letters
 pub mod Numbers
+pub mod RecNames
 pub mod Texts
 pub mod Tweens

@@ -1,10 +1,11 @@
--- What a command is called, whether it only asks, and how the stage's answer to it is told to a client.
-use Rattle.std.specs.Prelude.{Bool, true, false}
+-- What a command is called, whether it only asks, whether it marks a recording, and how the stage's answer to it is told to a client.
+use Rattle.std.specs.Prelude.{Bool, true, false, Option, Some, None}
 use Rattle.play_types.specs.declared.answer.Answer.{Answer}
 use Rattle.play_types.specs.declared.answer.Answer.TheVariants as answer
 use Rattle.play_types.specs.declared.command.Cmd.{Cmd}
 use Rattle.play_types.specs.declared.command.Cmd.TheVariants as cmd
 use Rattle.play_types.specs.declared.shape.CommandShape.TheVariants as shape
+use Rattle.play_types.specs.declared.shape.Recording.{Recording}
 use Rattle.play_types.specs.Shape.{shape_of}
 use Rattle.play_types.specs.declared.reply.Name.{Name}
 use Rattle.play_types.specs.declared.reply.Name.TheVariants as name
@@ -28,6 +29,8 @@ command_name (cmd.Set setting) = name.Mixer
 command_name (cmd.CommitMixer channel) = name.Mixer
 command_name (cmd.ResetLayer place) = name.Mixer
 command_name (cmd.ResetChannel channel) = name.Mixer
+command_name (cmd.AddFile channel recorded) = name.Add
+command_name (cmd.RemoveFile channel) = name.Remove
 command_name (cmd.Value place prop) = name.Mixer
 command_name cmd.Info = name.Info
 
@@ -42,7 +45,23 @@ is_query cmd = elim (shape_of cmd) [
   | shape.Set setting ↦ false
   | shape.CommitMixer channel ↦ false
   | shape.Reset target ↦ false
+  | shape.Record mark ↦ false
   | shape.Ask query ↦ true
+]
+
+-- the mark of a recording that a command is, if it is one
+abbrev pub mark_of : Cmd → Option Recording
+mark_of cmd = elim (shape_of cmd) [
+  | shape.Take at take ↦ None
+  | shape.Change at ↦ None
+  | shape.ClearChannel channel ↦ None
+  | shape.SwapLayers a b transforms ↦ None
+  | shape.SwapChannels a b transforms ↦ None
+  | shape.Set setting ↦ None
+  | shape.CommitMixer channel ↦ None
+  | shape.Reset target ↦ None
+  | shape.Record mark ↦ Some mark
+  | shape.Ask query ↦ None
 ]
 
 -- the reply that tells a client the stage's answer to a command of this name

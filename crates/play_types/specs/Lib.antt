@@ -6,6 +6,7 @@ pub mod Columns
 pub mod Take
 pub mod Playhead
 pub mod Setting
+pub mod RecNames
 pub mod Curve
 pub mod Answer
 pub mod Shape

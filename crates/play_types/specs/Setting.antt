@@ -67,18 +67,18 @@ duration_of Fill duration = duration
 duration_of Clip duration = duration
 duration_of Keyer duration = 0
 
--- the curve that is kept: a keyer has none, which is written as the straight one
-abbrev pub curve_of : Prop → Curve → Curve
-curve_of Opacity curve = curve
-curve_of Volume curve = curve
-curve_of Fill curve = curve
-curve_of Clip curve = curve
-curve_of Keyer curve = Linear
+-- the curve that is kept: a keyer has none, which is kept as the linear one
+abbrev pub kept_curve : Prop → Curve → Curve
+kept_curve Opacity curve = curve
+kept_curve Volume curve = curve
+kept_curve Fill curve = curve
+kept_curve Clip curve = curve
+kept_curve Keyer curve = Linear
 
 -- the setting that is kept of these parts
 abbrev pub setting_of : PlaceView → Prop → List ℤ → ℕ → Curve → Bool → SettingView
 setting_of place prop values duration curve deferred =
-    record { place = place; prop = prop; values = values_of prop values; duration = duration_of prop duration; curve = curve_of prop curve; deferred = deferred }
+    record { place = place; prop = prop; values = values_of prop values; duration = duration_of prop duration; curve = kept_curve prop curve; deferred = deferred }
 
 -- the numbers and the duration are in range, and what the property does not use is 0
 pub record IsSetting (setting : SettingView) : Type 0 where
@@ -86,4 +86,4 @@ pub record IsSetting (setting : SettingView) : Type 0 where
   pub in_range : AreValues setting.prop setting.values
   pub values : values_of setting.prop setting.values ≡ setting.values
   pub duration : duration_of setting.prop setting.duration ≡ setting.duration
-  pub curve : curve_of setting.prop setting.curve ≡ setting.curve
+  pub curve : kept_curve setting.prop setting.curve ≡ setting.curve

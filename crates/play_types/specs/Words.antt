@@ -11,6 +11,8 @@ use Rattle.play_types.specs.declared.setting.Prop.{Prop}
 use Rattle.play_types.specs.declared.setting.Prop.TheVariants as prop
 use Rattle.play_types.specs.declared.transition.Kind.{Kind}
 use Rattle.play_types.specs.declared.transition.Kind.TheVariants as kind
+use Rattle.play_types.specs.declared.transition.Curve.{Curve}
+use Rattle.play_types.specs.declared.transition.Curve.TheVariants as curve
 
 -- every character comes before the small letters
 abbrev pub are_capitals : List ℕ → Bool
@@ -35,6 +37,8 @@ name_text name.Stop = codes "STOP"
 name_text name.Clear = codes "CLEAR"
 name_text name.Swap = codes "SWAP"
 name_text name.Mixer = codes "MIXER"
+name_text name.Add = codes "ADD"
+name_text name.Remove = codes "REMOVE"
 name_text name.Begin = codes "BEGIN"
 name_text name.Commit = codes "COMMIT"
 name_text name.Discard = codes "DISCARD"
@@ -43,12 +47,13 @@ name_text name.Cls = codes "CLS"
 name_text name.Version = codes "VERSION"
 name_text name.Bye = codes "BYE"
 name_text name.Kill = codes "KILL"
+name_text name.Req = codes "REQ"
 
 -- the names of all commands
 abbrev pub all_names : List Name
 all_names =
     name.LoadBg ∷ name.Load ∷ name.Play ∷ name.Pause ∷ name.Resume ∷ name.Stop ∷ name.Clear ∷ name.Swap ∷ name.Mixer
-    ∷ name.Begin ∷ name.Commit ∷ name.Discard ∷ name.Info ∷ name.Cls ∷ name.Version ∷ name.Bye ∷ name.Kill ∷ []
+    ∷ name.Add ∷ name.Remove ∷ name.Begin ∷ name.Commit ∷ name.Discard ∷ name.Info ∷ name.Cls ∷ name.Version ∷ name.Bye ∷ name.Kill ∷ name.Req ∷ []
 
 -- the command that a word names
 unfoldable pub name_of : List ℕ → Option Name
@@ -85,6 +90,22 @@ all_kinds = kind.Cut ∷ kind.Mix ∷ kind.Push ∷ kind.Slide ∷ kind.Wipe ∷
 -- the kind of transition that a word names
 unfoldable pub kind_of : List ℕ → Option Kind
 kind_of word = find (λ kind. is_word (kind_text kind) word) all_kinds
+
+-- a curve in capitals
+abbrev pub curve_text : Curve → List ℕ
+curve_text curve.Linear = codes "LINEAR"
+curve_text curve.EaseInQuad = codes "EASEINQUAD"
+curve_text curve.EaseOutQuad = codes "EASEOUTQUAD"
+curve_text curve.EaseInCubic = codes "EASEINCUBIC"
+curve_text curve.EaseOutCubic = codes "EASEOUTCUBIC"
+
+-- all curves
+abbrev pub all_curves : List Curve
+all_curves = curve.Linear ∷ curve.EaseInQuad ∷ curve.EaseOutQuad ∷ curve.EaseInCubic ∷ curve.EaseOutCubic ∷ []
+
+-- the curve that a word names
+unfoldable pub curve_of : List ℕ → Option Curve
+curve_of word = find (λ curve. is_word (curve_text curve) word) all_curves
 
 -- the status of a channel in capitals
 abbrev pub status_text : Status → List ℕ

@@ -8,7 +8,7 @@ use std::fmt;
 pub enum ClipFault {
     /// The first four bytes are not `RCLP`.
     BadMagic,
-    /// The version is not 1.
+    /// The version is neither 1 nor 2.
     BadVersion,
     /// The header's field at this byte is not accepted, and those before it are.
     BadField { at: usize },
@@ -24,7 +24,7 @@ impl fmt::Display for ClipFault {
     fn fmt<W: fmt::Write>(&self, f: &mut fmt::Formatter<W>) -> fmt::Result {
         match self {
             ClipFault::BadMagic => write!(f, "the file does not begin with RCLP"),
-            ClipFault::BadVersion => write!(f, "the version is not 1"),
+            ClipFault::BadVersion => write!(f, "the version is neither 1 nor 2"),
             ClipFault::BadField { at } => write!(
                 f,
                 "the header's field at byte {at} is out of range"

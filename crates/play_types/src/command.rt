@@ -1,14 +1,15 @@
 //! Commands of the stage, and lists of them.
-ghost use Rattle.std.specs.Prelude.{◌≡◌, ◌==◌, ◌∷◌, ◌++◌, [], length, OnOk, OnErr, option_copied, slice_get};
+ghost use Rattle.std.specs.Prelude.{◌≡◌, ◌==◌, ◌∷◌, ◌++◌, [], length, IfOk, OnOk, OnErr, option_copied, slice_get};
 ghost use Rattle.std.specs.Slice.Iter.{iter_rest};
-ghost use Rattle.play_types.specs.Commands.{command_name, is_query};
+ghost use Rattle.play_types.specs.Commands.{command_name, is_query, mark_of};
 ghost use Rattle.play_types.specs.Shape.{shape_of};
 ghost use Rattle.play_types.specs.Take.{loaded, played};
 
 use crate::place::Place;
+use crate::rec_name::RecName;
 use crate::reply::Name;
 use crate::setting::{Prop, Setting};
-use crate::shape::{CommandShape, Query, Target};
+use crate::shape::{CommandShape, Query, Recording, Target};
 use crate::take::Take;
 use std::alloc::{AllocError, Global};
 use std::marker::Model;
@@ -47,11 +48,18 @@ pub enum Cmd {
     ResetLayer(Place),
     /// Sets all mixer values of all places of a channel to their defaults.
     ResetChannel(u8),
+    /// Marks that a recording of this name begins on a channel. A recording that runs on the channel ends.
+    AddFile(u8, RecName),
+    /// Marks that the recording of a channel ends.
+    RemoveFile(u8),
     /// Asks for a mixer value.
     Value(Place, Prop),
     /// Asks for the status of all channels.
     Info,
 }
+
+// A command takes at most 56 bytes, whatever it is.
+const _: () = prove!(size_of::<Cmd>() <= 56);
 
 impl Cmd {
     /// Creates a LOAD, whose take is kept with a cut and without `auto`.
@@ -86,6 +94,8 @@ impl Cmd {
             | Cmd::ResetLayer(_)
             | Cmd::ResetChannel(_)
             | Cmd::Value(..) => Name::Mixer,
+            Cmd::AddFile(..) => Name::Add,
+            Cmd::RemoveFile(_) => Name::Remove,
             Cmd::Info => Name::Info,
         }
     }
@@ -114,6 +124,10 @@ impl Cmd {
             Cmd::CommitMixer(channel) => CommandShape::CommitMixer(*channel),
             Cmd::ResetLayer(place) => CommandShape::Reset(Target::Layer(*place)),
             Cmd::ResetChannel(channel) => CommandShape::Reset(Target::Channel(*channel)),
+            Cmd::AddFile(channel, name) => {
+                CommandShape::Record(Recording::Begin(*channel, *name))
+            }
+            Cmd::RemoveFile(channel) => CommandShape::Record(Recording::End(*channel)),
             Cmd::Value(place, prop) => CommandShape::Ask(Query::Value(*place, *prop)),
             Cmd::Info => CommandShape::Ask(Query::Status),
         }
@@ -132,7 +146,26 @@ impl Cmd {
             | CommandShape::SwapChannels(..)
             | CommandShape::Set(_)
             | CommandShape::CommitMixer(_)
-            | CommandShape::Reset(_) => false,
+            | CommandShape::Reset(_)
+            | CommandShape::Record(_) => false,
+        }
+    }
+
+    /// Returns the mark of a recording that the command is, if it is one.
+    pub fn mark(&self) -> Option<Recording>
+        ensures { result ≡ mark_of self.now }
+    {
+        match self.shape() {
+            CommandShape::Record(mark) => Some(mark),
+            CommandShape::Take(..)
+            | CommandShape::Change(_)
+            | CommandShape::ClearChannel(_)
+            | CommandShape::SwapLayers(..)
+            | CommandShape::SwapChannels(..)
+            | CommandShape::Set(_)
+            | CommandShape::CommitMixer(_)
+            | CommandShape::Reset(_)
+            | CommandShape::Ask(_) => None,
         }
     }
 }
@@ -165,6 +198,15 @@ impl CmdList {
         }
     }
 
+    /// Creates a list of the commands of a slice. It takes the room for these commands and for no more.
+    pub fn copy_of(alloc: Global, cmds: &[Cmd]) -> Result<CmdList, AllocError>
+        ensures { IfOk result (λ list. list ≡ cmds.now) }
+    {
+        let mut list = Vec::with_capacity(alloc, cmds.len())?;
+        list.extend_from_slice(cmds)?;
+        Ok(CmdList { cmds: list })
+    }
+
     /// Adds a command at the end. If memory runs out, the list stays as it was.
     pub fn push(&mut self, cmd: Cmd) -> Result<(), AllocError>
         ensures ok { OnOk result (self.new ≡ self.old ++ cmd ∷ []) }
@@ -186,6 +228,13 @@ impl CmdList {
         ensures { result ≡ (length self.now == 0) }
     {
         self.cmds.is_empty()
+    }
+
+    /// Returns the commands in order.
+    pub fn as_slice(&self) -> &[Cmd]
+        ensures { result.now ≡ self.now }
+    {
+        self.cmds.as_slice()
     }
 
     /// Returns the commands in order.

@@ -21,8 +21,9 @@ pub struct Drawn {
     pub still: Still,
     /// The picture that the transition replaces.
     pub old: Still,
+    /// The transition. Its curve is linear: one of another curve is drawn as a linear one of `EASED_STEPS` ticks.
     pub trans: Trans,
-    /// The step of the transition, in ticks: 1 at its first tick, and then one more each tick up to its duration.
+    /// The step of the transition, 1 or more from its first tick on, and its duration once it is over.
     pub step: u32,
     /// In millionths, 0 to 1,000,000.
     pub opacity: i64,

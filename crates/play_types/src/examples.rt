@@ -1,6 +1,6 @@
 //! Worked examples of the definitions in `specs/`, which the checker computes. Each is the contract of a function that
 //! does nothing.
-ghost use Rattle.std.specs.Prelude.{◌≡◌, ◌≢◌, ◌∷◌, ◌++◌, [], pos, neg_ℤ, true, false, Some, None, replicate};
+ghost use Rattle.std.specs.Prelude.{◌≡◌, ◌≢◌, ◌∷◌, ◌++◌, [], pos, neg_ℤ, true, false, Some, None, codes, replicate};
 ghost use Rattle.play_types.specs.ClipFile.{IsClip, IsClipFile, clip_bytes};
 ghost use Rattle.play_types.specs.Columns.{New, Old, Both, pick};
 ghost use Rattle.play_types.specs.Config.{IsConfig};
@@ -9,11 +9,12 @@ ghost use Rattle.play_types.specs.Geometry.{IsSize};
 ghost use Rattle.play_types.specs.History.{IsHistory, held, stop_at, ticks};
 ghost use Rattle.play_types.specs.Place.{IsPlace};
 ghost use Rattle.play_types.specs.Playhead.{head};
+ghost use Rattle.play_types.specs.RecNames.{rec_name_of};
 ghost use Rattle.play_types.specs.Setting.{AreValues};
 ghost use Rattle.play_types.specs.Take.{IsTake, take_of};
 ghost use Rattle.play_types.specs.Transition.{IsTrans, cut};
 ghost use Rattle.play_types.specs.Worked.{config};
-ghost use Rattle.play_types.specs.declared.transition.Curve.TheVariants.{Linear};
+ghost use Rattle.play_types.specs.declared.transition.Curve.TheVariants.{EaseInCubic, EaseInQuad, EaseOutCubic, EaseOutQuad, Linear};
 
 use crate::command::Cmd;
 use crate::event::{Event, Tag};
@@ -33,14 +34,45 @@ pub fn playhead_of_a_clip()
 /// A value between 1 and 0 over four ticks, in millionths, and one over three ticks, where thirds are rounded toward the
 /// value at the start.
 pub fn tween_over_four_ticks()
-    ensures before { along (pos 1000000) (pos 0) 0 4 ≡ pos 1000000 }
-    ensures one { along (pos 1000000) (pos 0) 1 4 ≡ pos 750000 }
-    ensures two { along (pos 1000000) (pos 0) 2 4 ≡ pos 500000 }
-    ensures last { along (pos 1000000) (pos 0) 4 4 ≡ pos 0 }
-    ensures after { along (pos 1000000) (pos 0) 9 4 ≡ pos 0 }
-    ensures takes_no_time { along (pos 1000000) (pos 0) 0 0 ≡ pos 0 }
-    ensures down_toward_zero { along (pos 0) (neg_ℤ (pos 10)) 1 3 ≡ neg_ℤ (pos 3) }
-    ensures up_toward_zero { along (neg_ℤ (pos 10)) (pos 0) 1 3 ≡ neg_ℤ (pos 7) }
+    ensures before { along Linear (pos 1000000) (pos 0) 0 4 ≡ pos 1000000 }
+    ensures one { along Linear (pos 1000000) (pos 0) 1 4 ≡ pos 750000 }
+    ensures two { along Linear (pos 1000000) (pos 0) 2 4 ≡ pos 500000 }
+    ensures last { along Linear (pos 1000000) (pos 0) 4 4 ≡ pos 0 }
+    ensures after { along Linear (pos 1000000) (pos 0) 9 4 ≡ pos 0 }
+    ensures takes_no_time { along Linear (pos 1000000) (pos 0) 0 0 ≡ pos 0 }
+    ensures down_toward_zero { along Linear (pos 0) (neg_ℤ (pos 10)) 1 3 ≡ neg_ℤ (pos 3) }
+    ensures up_toward_zero { along Linear (neg_ℤ (pos 10)) (pos 0) 1 3 ≡ neg_ℤ (pos 7) }
+{}
+
+/// A value from 0 to 1 over four ticks with each curve, in millionths.
+pub fn curves_over_four_ticks()
+    ensures in_quad_one { along EaseInQuad (pos 0) (pos 1000000) 1 4 ≡ pos 62500 }
+    ensures in_quad_two { along EaseInQuad (pos 0) (pos 1000000) 2 4 ≡ pos 250000 }
+    ensures in_quad_three { along EaseInQuad (pos 0) (pos 1000000) 3 4 ≡ pos 562500 }
+    ensures in_quad_last { along EaseInQuad (pos 0) (pos 1000000) 4 4 ≡ pos 1000000 }
+    ensures out_quad_one { along EaseOutQuad (pos 0) (pos 1000000) 1 4 ≡ pos 437500 }
+    ensures out_quad_two { along EaseOutQuad (pos 0) (pos 1000000) 2 4 ≡ pos 750000 }
+    ensures out_quad_three { along EaseOutQuad (pos 0) (pos 1000000) 3 4 ≡ pos 937500 }
+    ensures out_quad_last { along EaseOutQuad (pos 0) (pos 1000000) 4 4 ≡ pos 1000000 }
+    ensures in_cubic_one { along EaseInCubic (pos 0) (pos 1000000) 1 4 ≡ pos 15625 }
+    ensures in_cubic_two { along EaseInCubic (pos 0) (pos 1000000) 2 4 ≡ pos 125000 }
+    ensures in_cubic_three { along EaseInCubic (pos 0) (pos 1000000) 3 4 ≡ pos 421875 }
+    ensures in_cubic_last { along EaseInCubic (pos 0) (pos 1000000) 4 4 ≡ pos 1000000 }
+    ensures out_cubic_one { along EaseOutCubic (pos 0) (pos 1000000) 1 4 ≡ pos 578125 }
+    ensures out_cubic_two { along EaseOutCubic (pos 0) (pos 1000000) 2 4 ≡ pos 875000 }
+    ensures out_cubic_three { along EaseOutCubic (pos 0) (pos 1000000) 3 4 ≡ pos 984375 }
+    ensures out_cubic_last { along EaseOutCubic (pos 0) (pos 1000000) 4 4 ≡ pos 1000000 }
+{}
+
+/// Values with each curve at tick 2 of 3, from 0 down to -10, where parts are rounded toward the value at the start, and from 1
+/// to 0 over 1,000,000 ticks.
+pub fn curves_round_toward_the_start()
+    ensures in_quad { along EaseInQuad (pos 0) (neg_ℤ (pos 10)) 2 3 ≡ neg_ℤ (pos 4) }
+    ensures out_quad { along EaseOutQuad (pos 0) (neg_ℤ (pos 10)) 2 3 ≡ neg_ℤ (pos 8) }
+    ensures in_cubic { along EaseInCubic (pos 0) (neg_ℤ (pos 10)) 2 3 ≡ neg_ℤ (pos 2) }
+    ensures out_cubic { along EaseOutCubic (pos 0) (neg_ℤ (pos 10)) 2 3 ≡ neg_ℤ (pos 9) }
+    ensures long_in_cubic { along EaseInCubic (pos 1000000) (pos 0) 999999 1000000 ≡ pos 3 }
+    ensures long_out_cubic { along EaseOutCubic (pos 1000000) (pos 0) 999999 1000000 ≡ pos 1 }
 {}
 
 /// Pictures of four columns, at step 1 of 4 and at step 2 of 3 of a transition.
@@ -80,33 +112,51 @@ pub fn histories(tag: Tag, cmd: Cmd)
     ensures one_stop { IsHistory (Event.Stop tag ∷ Event.Stop tag ∷ []) → ⊥ }
 {}
 
-/// Files of clips of two columns and one row, with one frame and without sound.
+/// Files of clips of two columns and one row, with one frame and without sound. The versions are 1 and 2.
 pub fn clip_files()
     ensures spelled { clip_bytes (record {
+      version = 1;
       geometry = record { width = 2; height = 1; pairs = 0 };
       frames = 1;
       bytes = 1 ∷ 2 ∷ 3 ∷ 255 ∷ 4 ∷ 5 ∷ 6 ∷ 255 ∷ [];
     }) ≡ 82 ∷ 67 ∷ 76 ∷ 80 ∷ 0 ∷ 1 ∷ 0 ∷ 0 ∷ 0 ∷ 2 ∷ 0 ∷ 1 ∷ 0 ∷ 0 ∷ 0 ∷ 1 ∷ 0 ∷ 0 ∷ 0 ∷ 0
         ∷ 1 ∷ 2 ∷ 3 ∷ 255 ∷ 4 ∷ 5 ∷ 6 ∷ 255 ∷ [] }
+    ensures straight { clip_bytes (record {
+      version = 2;
+      geometry = record { width = 2; height = 1; pairs = 0 };
+      frames = 1;
+      bytes = 1 ∷ 2 ∷ 3 ∷ 255 ∷ 4 ∷ 5 ∷ 6 ∷ 255 ∷ [];
+    }) ≡ 82 ∷ 67 ∷ 76 ∷ 80 ∷ 0 ∷ 2 ∷ 0 ∷ 0 ∷ 0 ∷ 2 ∷ 0 ∷ 1 ∷ 0 ∷ 0 ∷ 0 ∷ 1 ∷ 0 ∷ 0 ∷ 0 ∷ 0
+        ∷ 1 ∷ 2 ∷ 3 ∷ 255 ∷ 4 ∷ 5 ∷ 6 ∷ 255 ∷ [] }
     ensures accepted { IsClipFile
         (82 ∷ 67 ∷ 76 ∷ 80 ∷ 0 ∷ 1 ∷ 0 ∷ 0 ∷ 0 ∷ 2 ∷ 0 ∷ 1 ∷ 0 ∷ 0 ∷ 0 ∷ 1 ∷ 0 ∷ 0 ∷ 0 ∷ 0
         ∷ 1 ∷ 2 ∷ 3 ∷ 255 ∷ 4 ∷ 5 ∷ 6 ∷ 255 ∷ [])
         (record {
+          version = 1;
           geometry = record { width = 2; height = 1; pairs = 0 };
           frames = 1;
           bytes = 1 ∷ 2 ∷ 3 ∷ 255 ∷ 4 ∷ 5 ∷ 6 ∷ 255 ∷ [];
         }) }
+    ensures version_3 { IsClip (record {
+      version = 3;
+      geometry = record { width = 1; height = 1; pairs = 0 };
+      frames = 1;
+      bytes = 1 ∷ 2 ∷ 3 ∷ 4 ∷ [];
+    }) → ⊥ }
     ensures a_byte_short { IsClip (record {
+      version = 1;
       geometry = record { width = 2; height = 1; pairs = 0 };
       frames = 1;
       bytes = 1 ∷ 2 ∷ 3 ∷ 255 ∷ 4 ∷ 5 ∷ 6 ∷ [];
     }) → ⊥ }
     ensures no_columns { IsClip (record {
+      version = 1;
       geometry = record { width = 0; height = 1; pairs = 1 };
       frames = 1;
       bytes = 1 ∷ 2 ∷ 3 ∷ 4 ∷ [];
     }) → ⊥ }
     ensures no_frames { IsClip (record {
+      version = 1;
       geometry = record { width = 1; height = 1; pairs = 0 };
       frames = 0;
       bytes = [];
@@ -172,4 +222,14 @@ pub fn limits_of_configurations()
     ensures command_16777217 { IsConfig (config 1 1 16777217 1) → ⊥ }
     ensures no_channel { IsConfig (config 1 1 1 0) → ⊥ }
     ensures channel_17 { IsConfig (config 1 1 1 17) → ⊥ }
+{}
+
+/// Words that write names of recordings, and words that write none.
+pub fn names_of_recordings()
+    ensures capitals { rec_name_of (codes "take_1-b") ≡ Some (codes "TAKE_1-B") }
+    ensures none { rec_name_of [] ≡ None }
+    ensures longest { rec_name_of (replicate 32 65) ≡ Some (replicate 32 65) }
+    ensures too_long { rec_name_of (replicate 33 65) ≡ None }
+    ensures point { rec_name_of (codes "A.B") ≡ None }
+    ensures no_ascii { rec_name_of (196 ∷ []) ≡ None }
 {}

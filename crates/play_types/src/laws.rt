@@ -6,29 +6,29 @@ ghost use Rattle.play_types.specs.Curve.{IsBetween, along};
 ghost use Rattle.play_types.specs.Playhead.{head};
 ghost use Rattle.play_types.specs.Setting.{prop_number};
 ghost use Rattle.play_types.specs.Take.{take_of};
-ghost use Rattle.play_types.specs.Words.{kind_of, kind_text, name_of, name_text, prop_of, prop_text};
+ghost use Rattle.play_types.specs.Words.{curve_of, curve_text, kind_of, kind_text, name_of, name_text, prop_of, prop_text};
 
 use crate::clip::Clip;
 use crate::reply::Name;
 use crate::setting::Prop;
 use crate::take::Spec;
-use crate::transition::{Kind, Trans};
+use crate::transition::{Curve, Kind, Trans};
 
-/// A tween has its first value before its first tick.
-pub fn tween_at_first(from: i64, to: i64, duration: u32)
-    requires { 0 < duration }
-    ensures { along from to 0 duration ≡ from }
+/// A tween of any curve has its first value before its first tick, and its last value from its last tick on.
+pub fn tween_at_its_ends(curve: Curve, from: i64, to: i64, duration: u32, later: u64)
+    ensures begins { 0 < duration → along curve from to 0 duration ≡ from }
+    ensures ends { along curve from to (duration + later) duration ≡ to }
 {}
 
-/// A tween has its last value from its last tick on.
-pub fn tween_at_last(from: i64, to: i64, tick: u64, duration: u32)
-    requires { duration ≤ tick }
-    ensures { along from to tick duration ≡ to }
+/// A tween of any curve is between its two ends at every tick.
+pub fn tween_between(curve: Curve, from: i64, to: i64, tick: u64, duration: u32)
+    ensures { IsBetween from to (along curve from to tick duration) }
 {}
 
-/// A tween is between its two ends at every tick.
-pub fn tween_between(from: i64, to: i64, tick: u64, duration: u32)
-    ensures { IsBetween from to (along from to tick duration) }
+/// A tween of any curve never turns back: what it is later lies between what it was and its end.
+pub fn tween_goes_on(curve: Curve, from: i64, to: i64, tick: u64, later: u64, duration: u32)
+    requires { tick ≤ later }
+    ensures { IsBetween (along curve from to tick duration) to (along curve from to later duration) }
 {}
 
 /// A transition shows columns of the raster alone.
@@ -70,6 +70,12 @@ pub fn prop_reads_back(prop: Prop)
 #[tactic(auto, unfolding(crate::specs::Words::kind_of, crate::specs::Words::is_word))]
 pub fn kind_reads_back(kind: Kind)
     ensures { kind_of (kind_text kind) ≡ Some kind }
+{}
+
+/// A curve that is printed reads back.
+#[tactic(auto, unfolding(crate::specs::Words::curve_of, crate::specs::Words::is_word))]
+pub fn curve_reads_back(curve: Curve)
+    ensures { curve_of (curve_text curve) ≡ Some curve }
 {}
 
 /// Properties with one number are one property.

@@ -8,7 +8,7 @@ use crate::answer::{Answer, Micros, StatusList};
 use crate::text::Text;
 use crate::word::is_word;
 
-/// The name that a command begins with.
+/// The name that a command begins with, or `REQ`, which a token may be put before a command with.
 #[derive(Clone, Copy, Debug, PartialEq, Eq)]
 pub enum Name {
     LoadBg,
@@ -20,6 +20,8 @@ pub enum Name {
     Clear,
     Swap,
     Mixer,
+    Add,
+    Remove,
     Begin,
     Commit,
     Discard,
@@ -28,10 +30,11 @@ pub enum Name {
     Version,
     Bye,
     Kill,
+    Req,
 }
 
 /// The names of all commands.
-const NAMES: [Name; 17] = [
+const NAMES: [Name; 20] = [
     Name::LoadBg,
     Name::Load,
     Name::Play,
@@ -41,6 +44,8 @@ const NAMES: [Name; 17] = [
     Name::Clear,
     Name::Swap,
     Name::Mixer,
+    Name::Add,
+    Name::Remove,
     Name::Begin,
     Name::Commit,
     Name::Discard,
@@ -49,6 +54,7 @@ const NAMES: [Name; 17] = [
     Name::Version,
     Name::Bye,
     Name::Kill,
+    Name::Req,
 ];
 
 impl Name {
@@ -67,6 +73,8 @@ impl Name {
             Name::Clear => "CLEAR",
             Name::Swap => "SWAP",
             Name::Mixer => "MIXER",
+            Name::Add => "ADD",
+            Name::Remove => "REMOVE",
             Name::Begin => "BEGIN",
             Name::Commit => "COMMIT",
             Name::Discard => "DISCARD",
@@ -75,6 +83,7 @@ impl Name {
             Name::Version => "VERSION",
             Name::Bye => "BYE",
             Name::Kill => "KILL",
+            Name::Req => "REQ",
         }
     }
 

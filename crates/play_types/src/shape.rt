@@ -1,6 +1,9 @@
 //! What commands act on, in a few cases.
+ghost use Rattle.std.specs.Prelude.{◌≡◌};
+ghost use Rattle.play_types.specs.Shape.{recording_channel};
 
 use crate::place::Place;
+use crate::rec_name::RecName;
 use crate::setting::{Prop, Setting};
 use crate::take::Take;
 
@@ -24,6 +27,8 @@ pub enum CommandShape {
     CommitMixer(u8),
     /// Sets mixer values to their defaults.
     Reset(Target),
+    /// Marks where a recording begins or ends, and changes nothing that is shown.
+    Record(Recording),
     /// Asks, and changes nothing.
     Ask(Query),
 }
@@ -35,6 +40,26 @@ pub enum Target {
     Layer(Place),
     /// All layers of a channel.
     Channel(u8),
+}
+
+/// A mark of a recording.
+#[derive(Clone, Copy, Debug)]
+pub enum Recording {
+    /// A recording of this name begins on a channel.
+    Begin(u8, RecName),
+    /// The recording of a channel ends.
+    End(u8),
+}
+
+impl Recording {
+    /// Returns the channel of the mark.
+    pub fn channel(self) -> u8
+        ensures { result ≡ recording_channel self }
+    {
+        match self {
+            Recording::Begin(channel, _) | Recording::End(channel) => channel,
+        }
+    }
 }
 
 /// What a command asks for.

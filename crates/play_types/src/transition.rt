@@ -1,7 +1,7 @@
 //! How a picture gives way to the next one.
 ghost use Rattle.std.specs.Prelude.{◌≡◌, ◌≤◌, ◌↔◌, IsTrue, IsSome, IfSome};
 ghost use Rattle.std.specs.Str.{chars};
-ghost use Rattle.play_types.specs.Words.{are_capitals, kind_of, kind_text};
+ghost use Rattle.play_types.specs.Words.{are_capitals, curve_of, curve_text, kind_of, kind_text};
 ghost use Rattle.play_types.specs.Transition.{trans_of, cut};
 ghost use Rattle.play_types.specs.declared.transition.TheConstants.{MAX_DURATION};
 
@@ -10,6 +10,9 @@ use std::marker::Model;
 
 /// The longest transition or tween, in ticks.
 pub const MAX_DURATION: u32 = 1_000_000;
+
+/// The steps of a transition of another curve than the linear one, as it is drawn.
+pub const EASED_STEPS: u32 = 1_000_000;
 
 /// The kind of a transition.
 #[derive(Clone, Copy, Debug, PartialEq, Eq)]
@@ -56,11 +59,55 @@ impl Kind {
     }
 }
 
-/// How a value goes from one end of a tween to the other.
+/// How a value goes from one end of a tween or of a transition to the other.
 #[derive(Clone, Copy, Debug, PartialEq, Eq)]
 pub enum Curve {
     /// In equal steps.
     Linear,
+    /// Slowly at first, by the square of the time.
+    EaseInQuad,
+    /// Slowly at last, by the square of the time that is left.
+    EaseOutQuad,
+    /// More slowly at first, by the cube of the time.
+    EaseInCubic,
+    /// More slowly at last, by the cube of the time that is left.
+    EaseOutCubic,
+}
+
+/// All curves.
+const CURVES: [Curve; 5] = [
+    Curve::Linear,
+    Curve::EaseInQuad,
+    Curve::EaseOutQuad,
+    Curve::EaseInCubic,
+    Curve::EaseOutCubic,
+];
+
+impl Curve {
+    /// Returns the curve in capitals, as options name it.
+    pub fn as_str(self) -> &'static str
+        ensures text { result.now ≡ curve_text self }
+        ensures capitals { IsTrue (are_capitals result.now) }
+    {
+        match self {
+            Curve::Linear => "LINEAR",
+            Curve::EaseInQuad => "EASEINQUAD",
+            Curve::EaseOutQuad => "EASEOUTQUAD",
+            Curve::EaseInCubic => "EASEINCUBIC",
+            Curve::EaseOutCubic => "EASEOUTCUBIC",
+        }
+    }
+
+    /// Returns the curve that a word names, in any case of its letters.
+    #[tactic(auto, unfolding(crate::specs::Words::curve_of))]
+    pub fn read(word: &str) -> Option<Curve>
+        ensures { result ≡ curve_of (chars word.now) }
+    {
+        CURVES
+            .iter()
+            .copied()
+            .find(|curve| is_word(word, curve.as_str()))
+    }
 }
 
 /// A transition: its kind, its duration in ticks, at most 1,000,000, its curve, and whether it goes leftward.

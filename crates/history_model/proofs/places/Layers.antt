@@ -4,7 +4,7 @@ use Rattle.std.proofs.lemmas.Bool.{false≢true, cases_eq, cases_order, cases_Bo
 use Rattle.std.specs.List.{list_any}
 use Rattle.play_types.specs.Place.{PlaceView}
 use Rattle.play_types.specs.declared.command.Cmd.{Cmd}
-use Rattle.play_types.specs.declared.command.Cmd.TheVariants.{Load, LoadBg, Play, PlayTake, Pause, Resume, StopLayer, ClearLayer, ClearChannel, SwapLayers, SwapChannels, Set, CommitMixer, ResetLayer, ResetChannel, Value, Info}
+use Rattle.play_types.specs.declared.command.Cmd.TheVariants.{Load, LoadBg, Play, PlayTake, Pause, Resume, StopLayer, ClearLayer, ClearChannel, SwapLayers, SwapChannels, Set, CommitMixer, ResetLayer, ResetChannel, AddFile, RemoveFile, Value, Info}
 use Rattle.history_model.specs.stage.Act.{Act}
 use Rattle.history_model.specs.stage.Trail.{same_place, swapped_place, channel_swapped_place, content_origin, acts_on_content, trail}
 use Rattle.history_model.specs.stage.Life.{Life, after, effect, empty_place, life}
@@ -106,6 +106,8 @@ rising_more (Set setting) found r = r
 rising_more (CommitMixer channel) found r = r
 rising_more (ResetLayer at) found r = r
 rising_more (ResetChannel channel) found r = r
+rising_more (AddFile marked name) found r = r
+rising_more (RemoveFile marked) found r = r
 rising_more (Value at prop) found r = r
 rising_more Info found r = r
 
@@ -131,6 +133,8 @@ was_apart n (Set setting) found e = e
 was_apart n (CommitMixer channel) found e = e
 was_apart n (ResetLayer at) found e = e
 was_apart n (ResetChannel channel) found e = e
+was_apart n (AddFile marked name) found e = e
+was_apart n (RemoveFile marked) found e = e
 was_apart n (Value at prop) found e = e
 was_apart n Info found e = e
 
@@ -156,6 +160,8 @@ leaves_empty (Set setting) place found e there = refl
 leaves_empty (CommitMixer channel) place found e there = refl
 leaves_empty (ResetLayer at) place found e there = refl
 leaves_empty (ResetChannel channel) place found e there = refl
+leaves_empty (AddFile marked name) place found e there = refl
+leaves_empty (RemoveFile marked) place found e there = refl
 leaves_empty (Value at prop) place found e there = refl
 leaves_empty Info place found e there = refl
 
@@ -202,6 +208,8 @@ origin_layer (Set setting) place found e = refl
 origin_layer (CommitMixer channel) place found e = refl
 origin_layer (ResetLayer at) place found e = refl
 origin_layer (ResetChannel channel) place found e = refl
+origin_layer (AddFile marked name) place found e = refl
+origin_layer (RemoveFile marked) place found e = refl
 origin_layer (Value at prop) place found e = refl
 origin_layer Info place found e = refl
 

@@ -6,7 +6,7 @@ use Rattle.std.specs.List.{list_any}
 use Rattle.play_types.specs.Place.{PlaceView}
 use Rattle.play_types.specs.Take.{TakeView}
 use Rattle.play_types.specs.declared.command.Cmd.{Cmd}
-use Rattle.play_types.specs.declared.command.Cmd.TheVariants.{Load, LoadBg, Play, PlayTake, Pause, Resume, StopLayer, ClearLayer, ClearChannel, SwapLayers, SwapChannels, Set, CommitMixer, ResetLayer, ResetChannel, Value, Info}
+use Rattle.play_types.specs.declared.command.Cmd.TheVariants.{Load, LoadBg, Play, PlayTake, Pause, Resume, StopLayer, ClearLayer, ClearChannel, SwapLayers, SwapChannels, Set, CommitMixer, ResetLayer, ResetChannel, AddFile, RemoveFile, Value, Info}
 use Rattle.history_model.specs.stage.Act.{Act, acts_of}
 use Rattle.history_model.specs.stage.Life.{Life, Foreground, after_play, effect, with_mark}
 use Rattle.history_model.specs.stage.Live.{is_live}
@@ -31,6 +31,8 @@ AreBy-more acts t (Set setting) now by = (now, by)
 AreBy-more acts t (CommitMixer committed) now by = (now, by)
 AreBy-more acts t (ResetLayer at) now by = (now, by)
 AreBy-more acts t (ResetChannel reset) now by = (now, by)
+AreBy-more acts t (AddFile marked name) now by = by
+AreBy-more acts t (RemoveFile marked) now by = by
 AreBy-more acts t (Value at prop) now by = by
 AreBy-more acts t Info now by = by
 

@@ -5,7 +5,7 @@ use Rattle.play_types.specs.Place.{PlaceView}
 use Rattle.play_types.specs.Setting.{SettingView}
 use Rattle.play_types.specs.Take.{played}
 use Rattle.play_types.specs.declared.command.Cmd.{Cmd}
-use Rattle.play_types.specs.declared.command.Cmd.TheVariants.{Load, LoadBg, Play, PlayTake, Pause, Resume, StopLayer, ClearLayer, ClearChannel, SwapLayers, SwapChannels, Set, CommitMixer, ResetLayer, ResetChannel, Value, Info}
+use Rattle.play_types.specs.declared.command.Cmd.TheVariants.{Load, LoadBg, Play, PlayTake, Pause, Resume, StopLayer, ClearLayer, ClearChannel, SwapLayers, SwapChannels, Set, CommitMixer, ResetLayer, ResetChannel, AddFile, RemoveFile, Value, Info}
 use Rattle.history_model.specs.stage.Act.{Act, act_after, acts_of}
 use Rattle.history_model.specs.stage.Trail.{channel_swapped_place, same_place, swapped_place}
 use Rattle.history_model.specs.stage.Life.{Life}
@@ -104,6 +104,8 @@ module _ (acts : List Act) (t channel : ℕ) where
   stands-after (CommitMixer committed) n = standing-live acts t channel n
   stands-after (ResetLayer at) n = standing-live acts t channel n
   stands-after (ResetChannel reset) n = standing-live acts t channel n
+  stands-after (AddFile marked name) n = standing-live acts t channel n
+  stands-after (RemoveFile marked) n = standing-live acts t channel n
   stands-after (Value at prop) n = standing-live acts t channel n
   stands-after Info n = standing-live acts t channel n
 
@@ -125,6 +127,8 @@ ArePlaces-live_after (Set setting) before each channel = each channel
 ArePlaces-live_after (CommitMixer committed) before each channel = each channel
 ArePlaces-live_after (ResetLayer at) before each channel = each channel
 ArePlaces-live_after (ResetChannel reset) before each channel = each channel
+ArePlaces-live_after (AddFile marked name) before each channel = each channel
+ArePlaces-live_after (RemoveFile marked) before each channel = each channel
 ArePlaces-live_after (Value at prop) before each channel = each channel
 ArePlaces-live_after Info before each channel = each channel
 
@@ -143,6 +147,8 @@ pub waiting_settings-more : (acts : List Act) (t : ℕ) (cmd : Cmd) (channel : �
 waiting_settings-more acts t (PlayTake at take) channel =
     waiting_settings-act (act_after t (Play at)) (act_after t (LoadBg at (played take)) ∷ acts) channel
     ∙ waiting_settings-act (act_after t (LoadBg at (played take))) acts channel
+waiting_settings-more acts t (AddFile marked name) channel = refl
+waiting_settings-more acts t (RemoveFile marked) channel = refl
 waiting_settings-more acts t (Value at prop) channel = refl
 waiting_settings-more acts t Info channel = refl
 waiting_settings-more acts t cmd channel = waiting_settings-act (act_after t cmd) acts channel
@@ -174,6 +180,8 @@ length-waiting_after (Set setting) channel earlier = one_more (setting.deferred 
 length-waiting_after (CommitMixer committed) channel earlier = none_left (committed == channel) earlier
 length-waiting_after (ResetLayer at) channel earlier = refl
 length-waiting_after (ResetChannel reset) channel earlier = refl
+length-waiting_after (AddFile marked name) channel earlier = refl
+length-waiting_after (RemoveFile marked) channel earlier = refl
 length-waiting_after (Value at prop) channel earlier = refl
 length-waiting_after Info channel earlier = refl
 
@@ -255,6 +263,8 @@ module _ (before : ℕ → Places) (channel : ℕ) where
   live_after-other (CommitMixer committed) apart = refl
   live_after-other (ResetLayer at) apart = refl
   live_after-other (ResetChannel reset) apart = refl
+  live_after-other (AddFile marked name) apart = refl
+  live_after-other (RemoveFile marked) apart = refl
   live_after-other (Value at prop) apart = refl
   live_after-other Info apart = refl
 
@@ -280,5 +290,7 @@ waiting_count_after-other (Set setting) channel before apart =
 waiting_count_after-other (CommitMixer committed) channel before apart = cond-false (eqb committed channel) 0 before apart
 waiting_count_after-other (ResetLayer at) channel before apart = refl
 waiting_count_after-other (ResetChannel reset) channel before apart = refl
+waiting_count_after-other (AddFile marked name) channel before apart = refl
+waiting_count_after-other (RemoveFile marked) channel before apart = refl
 waiting_count_after-other (Value at prop) channel before apart = refl
 waiting_count_after-other Info channel before apart = refl

@@ -9,7 +9,7 @@ use Rattle.play_types.specs.Setting.{SettingView}
 use Rattle.play_types.specs.declared.place.TheConstants.{MAX_LIVE_LAYERS}
 use Rattle.play_types.specs.declared.setting.TheConstants.{MAX_WAITING_SETTINGS}
 use Rattle.play_types.specs.declared.command.Cmd.{Cmd}
-use Rattle.play_types.specs.declared.command.Cmd.TheVariants.{Load, LoadBg, Play, PlayTake, Pause, Resume, StopLayer, ClearLayer, ClearChannel, SwapLayers, SwapChannels, Set, CommitMixer, ResetLayer, ResetChannel, Value, Info}
+use Rattle.play_types.specs.declared.command.Cmd.TheVariants.{Load, LoadBg, Play, PlayTake, Pause, Resume, StopLayer, ClearLayer, ClearChannel, SwapLayers, SwapChannels, Set, CommitMixer, ResetLayer, ResetChannel, AddFile, RemoveFile, Value, Info}
 use Rattle.history_model.specs.stage.Act.{Act, acts_of}
 use Rattle.history_model.specs.stage.Acts.{channels, is_over, with_command, with_commands}
 use Rattle.history_model.specs.stage.Live.{live_layers, with_number}
@@ -107,6 +107,8 @@ module _ (state : StageState) (each : (channel : ℕ) → ArePlaces (state.place
   few_live (CommitMixer committed) kept channel = h.places channel
   few_live (ResetLayer at) kept channel = h.places channel
   few_live (ResetChannel reset) kept channel = h.places channel
+  few_live (AddFile marked name) kept channel = h.places channel
+  few_live (RemoveFile marked) kept channel = h.places channel
   few_live (Value at prop) kept channel = h.places channel
   few_live Info kept channel = h.places channel
 
@@ -144,6 +146,8 @@ few_waiting state h (Set setting) kept channel =
 few_waiting state h (CommitMixer committed) kept channel = none_waits (eqb committed channel) (state.waiting channel) (h.waiting channel)
 few_waiting state h (ResetLayer at) kept channel = h.waiting channel
 few_waiting state h (ResetChannel reset) kept channel = h.waiting channel
+few_waiting state h (AddFile marked name) kept channel = h.waiting channel
+few_waiting state h (RemoveFile marked) kept channel = h.waiting channel
 few_waiting state h (Value at prop) kept channel = h.waiting channel
 few_waiting state h Info kept channel = h.waiting channel
 
@@ -222,6 +226,8 @@ module _ (acts : List Act) (t : ℕ) where
   some_over (CommitMixer committed) refused = absurd (false≢true refused)
   some_over (ResetLayer at) refused = absurd (false≢true refused)
   some_over (ResetChannel reset) refused = absurd (false≢true refused)
+  some_over (AddFile marked name) refused = absurd (false≢true refused)
+  some_over (RemoveFile marked) refused = absurd (false≢true refused)
   some_over (Value at prop) refused = absurd (false≢true refused)
   some_over Info refused = absurd (false≢true refused)
 

@@ -4,7 +4,7 @@ use Rattle.play_types.specs.Config.{ConfigView}
 use Rattle.play_types.specs.Scene.{IsConfigured}
 use Rattle.play_types.specs.declared.take.Spec.{Spec}
 use Rattle.play_types.specs.declared.take.Spec.TheVariants.{Clip, Colour, RouteChannel, RouteLayer}
-use Rattle.play_types.specs.Shape.{shape_of, target_channel}
+use Rattle.play_types.specs.Shape.{recording_channel, shape_of, target_channel}
 use Rattle.play_types.specs.declared.command.Cmd.{Cmd}
 use Rattle.play_types.specs.declared.shape.CommandShape.TheVariants as shape
 use Rattle.play_types.specs.declared.shape.Query.TheVariants as query
@@ -27,6 +27,7 @@ IsServed channels cmd = elim (shape_of cmd) [
   | shape.Set setting ↦ IsConfigured channels setting.place.channel
   | shape.CommitMixer channel ↦ IsConfigured channels channel
   | shape.Reset target ↦ IsConfigured channels (target_channel target)
+  | shape.Record mark ↦ IsConfigured channels (recording_channel mark)
   | shape.Ask (query.Value place prop) ↦ IsConfigured channels place.channel
   | shape.Ask query.Status ↦ Unit {0}
 ]

@@ -8,7 +8,7 @@ use Rattle.play_types.specs.Words.{name_of}
 use Rattle.play_types.specs.declared.command.Cmd.{Cmd}
 use Rattle.play_types.specs.declared.command.Cmd.TheVariants as cmd
 use Rattle.play_types.specs.declared.reply.Name.{Name}
-use Rattle.play_types.specs.declared.reply.Name.TheVariants.{LoadBg, Load, Play, Pause, Resume, Stop, Clear, Swap, Mixer, Begin, Commit, Discard, Info, Cls, Version, Bye, Kill}
+use Rattle.play_types.specs.declared.reply.Name.TheVariants.{LoadBg, Load, Play, Pause, Resume, Stop, Clear, Swap, Mixer, Add, Remove, Begin, Commit, Discard, Info, Cls, Version, Bye, Kill, Req}
 use Rattle.play_types.specs.declared.parsed.Parsed.{Parsed}
 use Rattle.play_types.specs.declared.parsed.Parsed.TheVariants as asked
 use Rattle.play_types.specs.declared.parsed.Refusal.{Refusal}
@@ -17,6 +17,7 @@ use Rattle.history_model.specs.commands.Line.{Line, ◌>>=◌, legal, ended, fla
 use Rattle.history_model.specs.commands.Places.{Area, place_of, area_at}
 use Rattle.history_model.specs.commands.Producer.{take_at}
 use Rattle.history_model.specs.commands.Mixer.{mixer}
+use Rattle.history_model.specs.commands.Recording.{add_file, remove_file}
 
 -- the least number of words that a command needs after its name
 abbrev pub least_words : Name → ℕ
@@ -29,6 +30,8 @@ least_words Stop = 1
 least_words Clear = 1
 least_words Swap = 2
 least_words Mixer = 2
+least_words Add = 3
+least_words Remove = 2
 least_words Begin = 0
 least_words Commit = 0
 least_words Discard = 0
@@ -37,6 +40,7 @@ least_words Cls = 0
 least_words Version = 0
 least_words Bye = 0
 least_words Kill = 0
+least_words Req = 0
 
 -- the place that stands alone after a name
 abbrev pub only_place : Line → Result PlaceView Refusal
@@ -109,7 +113,7 @@ version line = do
   named ← flag_at line 1 (codes "SERVER")
   Ok asked.Version
 
--- what the words of a line with this name ask for
+-- what the words of a line with this name ask for; REQ is no command's name
 abbrev pub meaning_by_name : Line → Name → Result Parsed Refusal
 meaning_by_name line LoadBg = staged (load_bg line)
 meaning_by_name line Load = staged (load line)
@@ -120,6 +124,8 @@ meaning_by_name line Stop = staged (place_command line cmd.StopLayer)
 meaning_by_name line Clear = staged (clear line)
 meaning_by_name line Swap = staged (swap line)
 meaning_by_name line Mixer = staged (mixer line)
+meaning_by_name line Add = staged (add_file line)
+meaning_by_name line Remove = staged (remove_file line)
 meaning_by_name line Begin = ended line 1 asked.Begin
 meaning_by_name line Commit = ended line 1 asked.Commit
 meaning_by_name line Discard = ended line 1 asked.Discard
@@ -128,6 +134,7 @@ meaning_by_name line Cls = ended line 1 asked.Cls
 meaning_by_name line Version = version line
 meaning_by_name line Bye = ended line 1 asked.Bye
 meaning_by_name line Kill = ended line 1 asked.Kill
+meaning_by_name line Req = Err Unknown
 
 -- what the words of a line ask for, or the first refusal that applies: its places from the left, the other words from the
 -- left except the producer, and the producer

@@ -1,11 +1,12 @@
 -- A client's line whose command is known, and what stands at its positions. They count from 0, if the command's name
 -- stands.
-use Rattle.std.specs.Prelude.{ℕ, ◌+◌, nat_lt, Bool, true, false, if◌then◌else◌, Option, Result, Ok, Err, List, length, slice_get, ok_or}
+use Rattle.std.specs.Prelude.{ℕ, ◌+◌, nat_lt, Bool, true, false, if◌then◌else◌, Option, Result, Ok, Err, List, length, slice_get, ok_or, option_and_then}
 use Rattle.std.specs.Option.{option_map_or}
 use Rattle.amcp_text.specs.Numbers.{number_within}
 use Rattle.play_types.specs.Config.{ConfigView}
 use Rattle.play_types.specs.Media.{MediaNameView}
-use Rattle.play_types.specs.Words.{is_word}
+use Rattle.play_types.specs.Words.{curve_of, is_word}
+use Rattle.play_types.specs.declared.transition.Curve.{Curve}
 use Rattle.play_types.specs.declared.reply.Name.{Name}
 use Rattle.play_types.specs.declared.parsed.Refusal.{Refusal}
 use Rattle.play_types.specs.declared.parsed.Refusal.TheVariants.{Missing, Illegal}
@@ -44,6 +45,10 @@ ended line at value = if nat_lt at (length line.words) then Err (Illegal line.na
 -- whether this fixed word stands at a position
 abbrev pub stands_at : Line → ℕ → List ℕ → Bool
 stands_at line at fixed = option_map_or (is_word fixed) (slice_get line.words at) false
+
+-- the curve that stands at a position, if one does
+abbrev pub curve_at : Line → ℕ → Option Curve
+curve_at line at = option_and_then curve_of (slice_get line.words at)
 
 -- whether this fixed word stands at a position, if no other word may stand, and none after it
 abbrev pub flag_at : Line → ℕ → List ℕ → Result Bool Refusal

@@ -1,5 +1,5 @@
 -- The forms of MIXER: its place stands at position 1, what is asked of it at 2.
-use Rattle.std.specs.Prelude.{ℕ, ◌+◌, nat_lt, not, ◌&&◌, Bool, if◌then◌else◌, Option, Some, None, Result, Ok, List, [], ◌∷◌, length, ℤ, pos, option_and_then, codes}
+use Rattle.std.specs.Prelude.{ℕ, ◌+◌, nat_lt, not, ◌&&◌, Bool, if◌then◌else◌, Option, Some, None, Result, Ok, List, [], ◌∷◌, length, ℤ, pos, is_some, option_and_then, unwrap_or, codes}
 use Rattle.std.specs.Int.Signed.{le_z}
 use Rattle.std.specs.Str.{bytes_eq}
 use Rattle.amcp_text.specs.Micros.{micro_of}
@@ -9,12 +9,13 @@ use Rattle.play_types.specs.Words.{is_word, prop_of}
 use Rattle.play_types.specs.declared.setting.Prop.{Prop}
 use Rattle.play_types.specs.declared.setting.Prop.TheVariants.{Opacity, Fill, Clip, Volume, Keyer}
 use Rattle.play_types.specs.declared.setting.TheConstants.{MICROS_PER_UNIT, MAX_MICROS}
+use Rattle.play_types.specs.declared.transition.Curve.{Curve}
 use Rattle.play_types.specs.declared.transition.Curve.TheVariants.{Linear}
 use Rattle.play_types.specs.declared.transition.TheConstants.{MAX_DURATION}
 use Rattle.play_types.specs.declared.command.Cmd.{Cmd}
 use Rattle.play_types.specs.declared.command.Cmd.TheVariants as cmd
 use Rattle.play_types.specs.declared.parsed.Refusal.{Refusal}
-use Rattle.history_model.specs.commands.Line.{Line, ◌>>=◌, legal, word_at, number_at, ended, stands_at, flag_at}
+use Rattle.history_model.specs.commands.Line.{Line, ◌>>=◌, curve_at, ended, flag_at, legal, number_at, stands_at, word_at}
 use Rattle.history_model.specs.commands.Places.{Area, place_of, area_at}
 
 -- a number that is not negative and not above the most, in millionths
@@ -61,20 +62,26 @@ numbers_of line Clip = four_numbers line Clip
 numbers_of line Volume = one_number line Volume
 numbers_of line Keyer = one_number line Keyer
 
--- in how many ticks a value is reached, and whether it waits
+-- in how many ticks a value is reached, along which curve, and whether it waits
 pub record Timing : Type 0 where
   pub duration : ℕ
+  pub curve : Curve
   pub deferred : Bool
 
 -- at most DEFER stands at a position, and nothing after it
-abbrev pub deferral_at : Line → ℕ → ℕ → Result Timing Refusal
-deferral_at line at duration = do
+abbrev pub deferral_at : Line → ℕ → ℕ → Curve → Result Timing Refusal
+deferral_at line at duration curve = do
   deferred ← flag_at line at (codes "DEFER")
-  Ok (record { duration = duration; deferred = deferred })
+  Ok (record { duration = duration; curve = curve; deferred = deferred })
 
 -- whether a word other than DEFER stands at a position
 abbrev pub has_duration : Line → ℕ → Bool
 has_duration line at = nat_lt at (length line.words) && not (stands_at line at (codes "DEFER"))
+
+-- after a duration at a position at most a curve and DEFER stand: without a curve it is the linear one
+abbrev pub timing_after : Line → ℕ → ℕ → Result Timing Refusal
+timing_after line at duration =
+    deferral_at line (if is_some (curve_at line (at + 1)) then at + 2 else at + 1) duration (unwrap_or (curve_at line (at + 1)) Linear)
 
 -- at most these stand from a position on: a duration, a curve after it, and DEFER
 unfoldable pub timing_at : Line → ℕ → Result Timing Refusal
@@ -82,8 +89,8 @@ timing_at line at =
     if has_duration line at then
     (do
       duration ← number_at line at 0 MAX_DURATION
-      deferral_at line (if stands_at line (at + 1) (codes "LINEAR") then at + 2 else at + 1) duration)
-    else deferral_at line at 0
+      timing_after line at duration)
+    else deferral_at line at 0 Linear
 
 -- what stands after the numbers of a property: a keyer has no duration
 abbrev pub timing_of : Line → Prop → Result Timing Refusal
@@ -91,12 +98,12 @@ timing_of line Opacity = timing_at line 4
 timing_of line Fill = timing_at line 7
 timing_of line Clip = timing_at line 7
 timing_of line Volume = timing_at line 4
-timing_of line Keyer = deferral_at line 4 0
+timing_of line Keyer = deferral_at line 4 0 Linear
 
 -- the setting of a property to these numbers, with this timing
 abbrev pub setting_for : PlaceView → Prop → List ℤ → Timing → SettingView
 setting_for place property numbers timing =
-    setting_of place property numbers timing.duration Linear timing.deferred
+    setting_of place property numbers timing.duration timing.curve timing.deferred
 
 -- a value that is asked for, or one that is set
 abbrev pub property_command : Line → PlaceView → Prop → Result Cmd Refusal

@@ -1,17 +1,18 @@
 -- The options of LOADBG, LOAD and PLAY.
-use Rattle.std.specs.Prelude.{ℕ, suc, zero, ◌+◌, ◌==◌, Bool, false, ◌&&◌, ◌||◌, if◌then◌else◌, Option, Some, None, Result, Ok, Err, List, [], ◌∷◌, ◌++◌, take, drop, slice_get, is_some, is_none, unwrap_or, option_map, option_and_then, codes}
+use Rattle.std.specs.Prelude.{ℕ, suc, zero, ◌+◌, ◌==◌, Bool, false, ◌&&◌, ◌||◌, if◌then◌else◌, Option, Some, None, Result, Ok, Err, List, [], ◌∷◌, ◌++◌, take, drop, slice_get, is_some, is_none, unwrap_or, option_map, option_and_then, filter_map, codes}
 use Rattle.std.specs.Option.{option_map_or}
 use Rattle.std.specs.List.{list_any, find}
 use Rattle.amcp_text.specs.Numbers.{whole_number, number_within}
 use Rattle.play_types.specs.Transition.{TransView, cut, trans_of}
 use Rattle.play_types.specs.declared.transition.Kind.TheVariants.{Cut}
+use Rattle.play_types.specs.declared.transition.Curve.{Curve}
 use Rattle.play_types.specs.declared.transition.Curve.TheVariants.{Linear}
 use Rattle.play_types.specs.declared.transition.TheConstants.{MAX_DURATION}
 use Rattle.play_types.specs.declared.clip.TheConstants.{MAX_FRAMES}
 use Rattle.play_types.specs.declared.reply.Name.{Name}
 use Rattle.play_types.specs.declared.parsed.Refusal.{Refusal}
 use Rattle.play_types.specs.declared.parsed.Refusal.TheVariants.{Missing, Illegal}
-use Rattle.play_types.specs.Words.{is_word, kind_of}
+use Rattle.play_types.specs.Words.{curve_of, is_word, kind_of}
 use Rattle.history_model.specs.commands.Line.{Line}
 
 -- the options: each may be given once. CUT and the other transitions are one
@@ -33,7 +34,7 @@ option_of word =
     else None
 
 abbrev pub is_curve : List ℕ → Bool
-is_curve word = is_word (codes "LINEAR") word
+is_curve word = is_some (curve_of word)
 
 abbrev pub is_leftward : List ℕ → Bool
 is_leftward word = is_word (codes "LEFT") word || is_word (codes "FROMRIGHT") word
@@ -162,11 +163,15 @@ pub record Options : Type 0 where
   pub length : Option ℕ
   pub auto : Bool
 
+-- the curve among words: the linear one if none of them is a curve
+abbrev pub curve_among : List (List ℕ) → Curve
+curve_among words = unwrap_or (slice_get (filter_map curve_of words) 0) Linear
+
 -- the transition that an option writes: without a direction it goes rightward
 abbrev pub transition_of : Written → TransView
 transition_of written =
     let manner = drop (number_len written.word Transition written.more) written.more in
-    trans_of (unwrap_or (kind_of written.word) Cut) (written_number Transition written) Linear (list_any is_leftward manner)
+    trans_of (unwrap_or (kind_of written.word) Cut) (written_number Transition written) (curve_among manner) (list_any is_leftward manner)
 
 -- what the options say that are written
 abbrev pub options_of : List Written → Options

@@ -17,6 +17,7 @@ use Rattle.history_model.specs.stage.Live.{layers, foreground_at}
 use Rattle.history_model.specs.stage.Acts.{acts_back}
 use Rattle.history_model.specs.stage.Value.{value_at}
 use Rattle.history_model.specs.pictures.Source.{last_foregrounds, source}
+use Rattle.history_model.specs.pictures.Easing.{eased}
 
 -- the ticks that an outgoing content was shown, once the one that replaced it was shown for `shown` ticks
 abbrev pub outgoing_shown : Outgoing → ℕ → ℕ
@@ -31,13 +32,18 @@ outgoing_still foregrounds (Some old) shown = source foregrounds old.take.spec (
 abbrev pub is_one : ℤ → Bool
 is_one value = int_eq value MICROS_PER_UNIT
 
--- a place with this foreground at the tick after `ticks` ticks: both pictures, the transition and its step, and the mixer values
+-- the step of a foreground's transition at the next tick, which stays at its duration
+abbrev pub step_of : Foreground → ℕ
+step_of foreground = min (foreground.shown + 1) foreground.take.trans.duration
+
+-- a place with this foreground at the tick after `ticks` ticks: both pictures, the transition and the step that are drawn, and
+-- the mixer values
 abbrev pub drawn_place : List Act → ℕ → Option (PlaceView → Option Foreground) → PlaceView → Foreground → Drawn
 drawn_place acts ticks foregrounds place foreground = record {
   still = source foregrounds foreground.take.spec (head foreground.take foreground.shown);
   old = outgoing_still foregrounds foreground.old foreground.shown;
-  trans = foreground.take.trans;
-  step = min (foreground.shown + 1) foreground.take.trans.duration;
+  trans = (eased foreground.take.trans (step_of foreground)).0;
+  step = (eased foreground.take.trans (step_of foreground)).1;
   opacity = number_at (value_at acts place Opacity (ticks + 1)) 0;
   fill = value_at acts place Fill (ticks + 1);
   clip = value_at acts place Clip (ticks + 1);

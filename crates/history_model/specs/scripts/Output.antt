@@ -19,9 +19,10 @@ use Rattle.pixel_math.specs.Pixel.{pixel_bytes}
 use Rattle.history_model.specs.pictures.Frame.{frame_pixel}
 use Rattle.history_model.specs.text.Frames.{frame_bytes, frame_lines, digest_line}
 use Rattle.history_model.specs.pictures.Media.{Setup, size}
-use Rattle.history_model.specs.text.Replies.{reply_lines}
+use Rattle.history_model.specs.text.Replies.{answer_lines}
 use Rattle.history_model.specs.scripts.Line.{ScriptLine, Comment, Ticks, Said, Stop, Rejected}
 use Rattle.history_model.specs.scripts.History.{Playout, PlayedLine, Turn, Verdict, JournalFull, OutOfMemory, Taken, setup_of, verdict, turn_of, said_step, ends_at, script_events}
+use Rattle.history_model.specs.sessions.Request.{text_token}
 use Rattle.history_model.specs.sessions.Session.{Step, Local, Ask, AskBatch, KillServer, EndConnection, Skip}
 
 -- the configuration of a run that names a width and a height alone
@@ -47,10 +48,14 @@ reply_line tag text = tag_text tag ++ text ++ 10 ∷ []
 unfoldable pub tagged_lines : Tag → List (List ℕ) → List ℕ
 tagged_lines tag lines = flat_map (reply_line tag) lines
 
--- what is written for a reply, if there is one
+-- what is written for the reply to a line with this token, or without one, if there is a reply
+abbrev pub answer_output : Playout → Tag → Option (List ℕ) → Option Reply → List ℕ
+answer_output playout tag token None = []
+answer_output playout tag token (Some answer) = tagged_lines tag (answer_lines playout.config playout.names token answer)
+
+-- what is written for the reply to a line without a token
 abbrev pub reply_output : Playout → Tag → Option Reply → List ℕ
-reply_output playout tag None = []
-reply_output playout tag (Some answer) = tagged_lines tag (reply_lines playout.config playout.names answer)
+reply_output playout tag answer = answer_output playout tag None answer
 
 -- the reply to a command or a batch of this name by what becomes of it: `found`, the stage's answer, if it is an event
 abbrev pub verdict_reply : Name → Answer → Verdict → Reply
@@ -96,6 +101,10 @@ abbrev pub picture_bytes : Setup → List Event → ℕ → List ℕ
 picture_bytes setup events channel =
     frame_bytes (size setup channel).width (size setup channel).height (frame_pixel setup events channel)
 
+-- the frame of a channel at that tick: the bytes of its picture, and then those of its sound
+unfoldable pub raw_frame : Setup → List Event → ℕ → List ℕ
+raw_frame setup events channel = picture_bytes setup events channel ++ sound_bytes setup events channel
+
 -- what is written for a channel at a tick: the lines of its frame, or the line of its digest
 abbrev pub channel_output : Playout → ℕ → ℕ → List ℕ → List ℕ → List ℕ
 channel_output playout tick channel picture sound =
@@ -128,7 +137,7 @@ abbrev pub output_at : Playout → List PlayedLine → PlayedLine → ScriptLine
 output_at playout before line Comment = []
 output_at playout before line (Ticks count) = ticks_output playout (script_events playout before) count
 output_at playout before line (Said tag text) =
-    reply_output playout tag
+    answer_output playout tag (text_token text)
     (step_reply (turn_of playout (script_events playout before) line tag) (said_step playout before line tag))
 output_at playout before line Stop = []
 output_at playout before line Rejected = []

@@ -10,7 +10,7 @@ use Rattle.play_types.specs.declared.reply.Reply.TheVariants.{Unknown, Refused}
 use Rattle.play_types.specs.declared.parsed.Parsed.{Parsed}
 use Rattle.play_types.specs.declared.parsed.Refusal.{Refusal}
 use Rattle.play_types.specs.declared.parsed.Refusal.TheVariants as refusal
-use Rattle.history_model.specs.commands.Command.{parsed}
+use Rattle.history_model.specs.sessions.Request.{requested}
 
 -- nothing, if the line has no word; a refusal, by its reply; or what its words ask for
 pub data LineMeaning : Type 0 where
@@ -35,7 +35,7 @@ meaning_of_parsed line (Err reason) = Wrong (refusal_reply line reason)
 abbrev pub meaning_of_words : ConfigView → List MediaNameView → List ℕ → Result (List (List ℕ)) TokenFault → LineMeaning
 meaning_of_words config media line (Err fault) = Wrong (Unknown line)
 meaning_of_words config media line (Ok []) = Blank
-meaning_of_words config media line (Ok (word ∷ words)) = meaning_of_parsed line (parsed config media (word ∷ words))
+meaning_of_words config media line (Ok (word ∷ words)) = meaning_of_parsed line (requested config media (word ∷ words))
 
 -- what a line means: one that is too long, or is not UTF-8, is answered without its text
 unfoldable pub line_meaning : ConfigView → List MediaNameView → Line → LineMeaning

@@ -2,7 +2,7 @@
 use Rattle.std.specs.Prelude.{ℕ, List, [], ◌∷◌}
 use Rattle.play_types.specs.Take.{played}
 use Rattle.play_types.specs.declared.command.Cmd.{Cmd}
-use Rattle.play_types.specs.declared.command.Cmd.TheVariants.{Load, LoadBg, Play, PlayTake, Pause, Resume, StopLayer, ClearLayer, ClearChannel, SwapLayers, SwapChannels, Set, CommitMixer, ResetLayer, ResetChannel, Value, Info}
+use Rattle.play_types.specs.declared.command.Cmd.TheVariants.{Load, LoadBg, Play, PlayTake, Pause, Resume, StopLayer, ClearLayer, ClearChannel, SwapLayers, SwapChannels, Set, CommitMixer, ResetLayer, ResetChannel, AddFile, RemoveFile, Value, Info}
 
 -- a command, and the number of ticks before it
 pub record Act : Type 0 where
@@ -13,7 +13,7 @@ pub record Act : Type 0 where
 abbrev pub act_after : ℕ → Cmd → Act
 act_after ticks cmd = record { cmd = cmd; ticks = ticks }
 
--- the acts of a command after `ticks` ticks: a play of a take gives a background and a play, and queries give none
+-- the acts of a command after `ticks` ticks: a play of a take gives a background and a play, and queries and marks of recordings give none
 abbrev pub acts_of : ℕ → Cmd → List Act
 acts_of ticks (Load place take) = act_after ticks (Load place take) ∷ []
 acts_of ticks (LoadBg place take) = act_after ticks (LoadBg place take) ∷ []
@@ -30,5 +30,7 @@ acts_of ticks (Set setting) = act_after ticks (Set setting) ∷ []
 acts_of ticks (CommitMixer channel) = act_after ticks (CommitMixer channel) ∷ []
 acts_of ticks (ResetLayer place) = act_after ticks (ResetLayer place) ∷ []
 acts_of ticks (ResetChannel channel) = act_after ticks (ResetChannel channel) ∷ []
+acts_of ticks (AddFile channel name) = []
+acts_of ticks (RemoveFile channel) = []
 acts_of ticks (Value place prop) = []
 acts_of ticks Info = []

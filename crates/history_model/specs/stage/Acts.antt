@@ -24,6 +24,7 @@ with_channels_of cmd channels = elim (shape_of cmd) [
   | shape.Set setting ↦ with_number setting.place.channel channels
   | shape.CommitMixer channel ↦ channels
   | shape.Reset target ↦ channels
+  | shape.Record mark ↦ channels
   | shape.Ask query ↦ channels
 ]
 

@@ -104,6 +104,7 @@ command_answer setup history refused cmd = elim (shape_of cmd) [
   | shape.Set setting ↦ outcome_of refused
   | shape.CommitMixer channel ↦ outcome_of refused
   | shape.Reset target ↦ outcome_of refused
+  | shape.Record mark ↦ outcome_of refused
   | shape.Ask (query.Value place prop) ↦ Value (micros_of (value history place prop (ticks history)) (number_count prop))
   | shape.Ask query.Status ↦ Info (status_list_of (statuses setup history) (length setup.channels))
 ]

@@ -19,6 +19,7 @@ is_deferred_of which cmd = elim (shape_of cmd) [
   | shape.Set setting ↦ setting.deferred && which setting.place.channel
   | shape.CommitMixer channel ↦ false
   | shape.Reset target ↦ false
+  | shape.Record mark ↦ false
   | shape.Ask query ↦ false
 ]
 
@@ -33,6 +34,7 @@ and_not_committed which cmd = elim (shape_of cmd) [
   | shape.Set setting ↦ which
   | shape.CommitMixer committed ↦ λ channel. which channel && not (committed == channel)
   | shape.Reset target ↦ which
+  | shape.Record mark ↦ which
   | shape.Ask query ↦ which
 ]
 

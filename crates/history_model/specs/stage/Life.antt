@@ -6,7 +6,7 @@ use Rattle.play_types.specs.declared.transition.Kind.TheVariants.{Cut, Mix, Push
 use Rattle.play_types.specs.declared.take.Spec.{Spec}
 use Rattle.play_types.specs.declared.take.Spec.TheVariants.{Clip, Colour, RouteChannel, RouteLayer}
 use Rattle.play_types.specs.declared.command.Cmd.{Cmd}
-use Rattle.play_types.specs.declared.command.Cmd.TheVariants.{Load, LoadBg, Play, PlayTake, Pause, Resume, StopLayer, ClearLayer, ClearChannel, SwapLayers, SwapChannels, Set, CommitMixer, ResetLayer, ResetChannel, Value, Info}
+use Rattle.play_types.specs.declared.command.Cmd.TheVariants.{Load, LoadBg, Play, PlayTake, Pause, Resume, StopLayer, ClearLayer, ClearChannel, SwapLayers, SwapChannels, Set, CommitMixer, ResetLayer, ResetChannel, AddFile, RemoveFile, Value, Info}
 use Rattle.history_model.specs.stage.Act.{Act}
 
 -- a content that is replaced: its take, the ticks that it was shown, and whether it was paused
@@ -140,6 +140,8 @@ effect (Set setting) s = s
 effect (CommitMixer channel) s = s
 effect (ResetLayer at) s = s
 effect (ResetChannel channel) s = s
+effect (AddFile channel name) s = s
+effect (RemoveFile channel) s = s
 effect (Value at prop) s = s
 effect Info s = s
 

@@ -26,6 +26,7 @@ with_layers_of cmd layers = elim (shape_of cmd) [
   | shape.Set setting ↦ layers
   | shape.CommitMixer channel ↦ layers
   | shape.Reset target ↦ layers
+  | shape.Record mark ↦ layers
   | shape.Ask query ↦ layers
 ]
 

@@ -24,6 +24,7 @@ deferral cmd = elim (shape_of cmd) [
   | shape.Set setting ↦ if setting.deferred then Defers setting else Neither
   | shape.CommitMixer channel ↦ Commits channel
   | shape.Reset target ↦ Neither
+  | shape.Record mark ↦ Neither
   | shape.Ask query ↦ Neither
 ]
 

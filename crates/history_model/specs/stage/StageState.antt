@@ -57,6 +57,7 @@ live_after cmd before channel = elim (shape_of cmd) [
   | shape.Set setting ↦ before channel
   | shape.CommitMixer committed ↦ before channel
   | shape.Reset target ↦ before channel
+  | shape.Record mark ↦ before channel
   | shape.Ask query ↦ before channel
 ]
 
@@ -71,6 +72,7 @@ waiting_count_after cmd channel before = elim (shape_of cmd) [
   | shape.Set setting ↦ if setting.deferred && (setting.place.channel == channel) then 1 + before else before
   | shape.CommitMixer committed ↦ if committed == channel then 0 else before
   | shape.Reset target ↦ before
+  | shape.Record mark ↦ before
   | shape.Ask query ↦ before
 ]
 
@@ -97,6 +99,7 @@ is_refused_by cmd state = elim (shape_of cmd) [
   | shape.Set setting ↦ setting.deferred && nat_le MAX_WAITING_SETTINGS (state.waiting setting.place.channel)
   | shape.CommitMixer channel ↦ false
   | shape.Reset target ↦ false
+  | shape.Record mark ↦ false
   | shape.Ask query ↦ false
 ]
 
@@ -135,5 +138,6 @@ names_channel cmd channel = elim (shape_of cmd) [
   | shape.Set setting ↦ setting.place.channel == channel
   | shape.CommitMixer committed ↦ committed == channel
   | shape.Reset target ↦ false
+  | shape.Record mark ↦ false
   | shape.Ask query ↦ false
 ]

@@ -19,6 +19,7 @@ touches cmd place = elim (shape_of cmd) [
   | shape.Set setting ↦ false
   | shape.CommitMixer channel ↦ false
   | shape.Reset target ↦ false
+  | shape.Record mark ↦ false
   | shape.Ask query ↦ false
 ]
 

@@ -38,6 +38,7 @@ content_origin cmd place = elim (shape_of cmd) [
   | shape.Set setting ↦ place
   | shape.CommitMixer channel ↦ place
   | shape.Reset target ↦ place
+  | shape.Record mark ↦ place
   | shape.Ask query ↦ place
 ]
 
@@ -52,6 +53,7 @@ values_origin cmd place = elim (shape_of cmd) [
   | shape.Set setting ↦ place
   | shape.CommitMixer channel ↦ place
   | shape.Reset target ↦ place
+  | shape.Record mark ↦ place
   | shape.Ask query ↦ place
 ]
 
@@ -66,6 +68,7 @@ acts_on_content cmd place = elim (shape_of cmd) [
   | shape.Set setting ↦ false
   | shape.CommitMixer channel ↦ false
   | shape.Reset target ↦ false
+  | shape.Record mark ↦ false
   | shape.Ask query ↦ false
 ]
 
@@ -80,6 +83,7 @@ acts_on_values cmd place = elim (shape_of cmd) [
   | shape.Set setting ↦ same_place setting.place place
   | shape.CommitMixer channel ↦ false
   | shape.Reset target ↦ covers target place
+  | shape.Record mark ↦ false
   | shape.Ask query ↦ false
 ]
 

@@ -23,6 +23,7 @@ waiting_after cmd channel earlier = elim (shape_of cmd) [
   | shape.Set setting ↦ if setting.deferred && (setting.place.channel == channel) then setting ∷ earlier else earlier
   | shape.CommitMixer committed ↦ if committed == channel then [] else earlier
   | shape.Reset target ↦ earlier
+  | shape.Record mark ↦ earlier
   | shape.Ask query ↦ earlier
 ]
 
@@ -43,6 +44,7 @@ resolved_act cmd ticks before = elim (shape_of cmd) [
   | shape.Set setting ↦ if setting.deferred then [] else settled_act ticks setting ∷ []
   | shape.CommitMixer channel ↦ map (settled_act ticks) (waiting_list before channel)
   | shape.Reset target ↦ act_after ticks cmd ∷ []
+  | shape.Record mark ↦ act_after ticks cmd ∷ []
   | shape.Ask query ↦ act_after ticks cmd ∷ []
 ]
 

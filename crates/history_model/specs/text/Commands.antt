@@ -1,23 +1,22 @@
 -- Commands as they are printed: a name and words, with one space between them. A client's line of this text asks for the
 -- command.
-use Rattle.std.specs.Prelude.{ℕ, zero, suc, ◌/◌, ◌%◌, ◌^◌, ℤ, Bool, true, false, List, [], ◌∷◌, ◌++◌, map, take, flat_map, slice_get, codes, decimal}
+use Rattle.std.specs.Prelude.{ℕ, zero, suc, ◌/◌, ◌%◌, ◌^◌, ℤ, Bool, true, false, if◌then◌else◌, List, [], ◌∷◌, ◌++◌, map, take, flat_map, slice_get, codes, decimal}
 use Rattle.std.specs.Option.{option_map_or}
 use Rattle.std.specs.Fmt.{digit_glyph}
 use Rattle.amcp_text.specs.Micros.{printed_micro}
 use Rattle.amcp_text.specs.Escapes.{quoted}
 use Rattle.play_types.specs.Place.{PlaceView}
+use Rattle.play_types.specs.RecNames.{is_rec_word}
 use Rattle.play_types.specs.Media.{MediaNameView}
 use Rattle.play_types.specs.Take.{TakeView}
 use Rattle.play_types.specs.Transition.{TransView}
 use Rattle.play_types.specs.Setting.{SettingView}
-use Rattle.play_types.specs.Words.{name_text, prop_text, kind_text}
+use Rattle.play_types.specs.Words.{curve_text, kind_text, name_text, prop_text}
 use Rattle.play_types.specs.Commands.{command_name}
 use Rattle.play_types.specs.declared.take.Spec.{Spec}
 use Rattle.play_types.specs.declared.take.Spec.TheVariants.{Clip, Colour, RouteChannel, RouteLayer}
 use Rattle.play_types.specs.declared.transition.Kind.{Kind}
 use Rattle.play_types.specs.declared.transition.Kind.TheVariants.{Cut, Mix, Push, Slide, Wipe}
-use Rattle.play_types.specs.declared.transition.Curve.{Curve}
-use Rattle.play_types.specs.declared.transition.Curve.TheVariants.{Linear}
 use Rattle.play_types.specs.declared.setting.Prop.{Prop}
 use Rattle.play_types.specs.declared.setting.Prop.TheVariants as prop
 use Rattle.play_types.specs.Shape.{shape_of}
@@ -25,6 +24,8 @@ use Rattle.play_types.specs.declared.command.Cmd.{Cmd}
 use Rattle.play_types.specs.declared.shape.CommandShape.TheVariants as shape
 use Rattle.play_types.specs.declared.shape.Target.{Target}
 use Rattle.play_types.specs.declared.shape.Target.TheVariants as target
+use Rattle.play_types.specs.declared.shape.Recording.{Recording}
+use Rattle.play_types.specs.declared.shape.Recording.TheVariants as recording
 use Rattle.play_types.specs.declared.shape.Query.TheVariants as query
 use Rattle.history_model.specs.stage.Answer.{number_count}
 
@@ -89,9 +90,6 @@ part_words (Colour value) take = []
 part_words (RouteChannel channel) take = []
 part_words (RouteLayer place) take = []
 
-abbrev pub curve_text : Curve → List ℕ
-curve_text Linear = codes "LINEAR"
-
 abbrev pub direction_text : Bool → List ℕ
 direction_text true = codes "LEFT"
 direction_text false = codes "RIGHT"
@@ -133,6 +131,15 @@ setting_words setting =
     Plain (prop_text setting.prop) ∷ map micro_word (take (number_count setting.prop) setting.values)
     ++ (timing_words setting.prop setting ++ flag_words setting.deferred (codes "DEFER"))
 
+-- the name of a recording, which stands as it is
+abbrev pub recording_word : List ℕ → Word
+recording_word name = if is_rec_word name then Plain name else Quoted name
+
+-- the channel of a mark, FILE, and the name of the recording that begins
+abbrev pub recording_words : Recording → List Word
+recording_words (recording.Begin channel name) = number_word channel ∷ Plain (codes "FILE") ∷ recording_word name ∷ []
+recording_words (recording.End channel) = number_word channel ∷ Plain (codes "FILE") ∷ []
+
 -- the words after the name of a command
 abbrev pub arguments : List MediaNameView → Cmd → List Word
 arguments media cmd = elim (shape_of cmd) [
@@ -144,6 +151,7 @@ arguments media cmd = elim (shape_of cmd) [
   | shape.Set setting ↦ place_word setting.place ∷ setting_words setting
   | shape.CommitMixer channel ↦ number_word channel ∷ Plain (codes "COMMIT") ∷ []
   | shape.Reset target ↦ target_word target ∷ Plain (codes "CLEAR") ∷ []
+  | shape.Record mark ↦ recording_words mark
   | shape.Ask (query.Value place prop) ↦ place_word place ∷ Plain (prop_text prop) ∷ []
   | shape.Ask query.Status ↦ []
 ]

@@ -1,5 +1,5 @@
 -- Replies as lines, and as the bytes that are sent.
-use Rattle.std.specs.Prelude.{◌≡◌, length, ◌⊎◌, ℕ, ◌≤◌, nat_lt, if◌then◌else◌, List, [], ◌∷◌, ◌++◌, map, take, flat_map, codes, decimal, encode_utf8_all}
+use Rattle.std.specs.Prelude.{◌≡◌, length, ◌⊎◌, ℕ, ◌≤◌, nat_lt, if◌then◌else◌, Option, Some, None, List, [], ◌∷◌, ◌++◌, map, take, flat_map, codes, decimal, encode_utf8_all}
 use Rattle.std.specs.List.{join_by, zip, enumerate_from}
 use Rattle.play_types.specs.Answer.{MicrosView}
 use Rattle.play_types.specs.Words.{name_text, status_text}
@@ -65,6 +65,31 @@ reply_lines config media (reply.Unknown line) = codes "400 ERROR" ∷ encode_utf
 reply_lines config media (reply.Refused code command) = code_line code command (refusal_word code) ∷ []
 reply_lines config media reply.NoMemory = codes "500 FAILED" ∷ []
 
+-- what stands before the first line of a reply: RES and the token, if there is one
+abbrev pub token_text : Option (List ℕ) → List ℕ
+token_text None = []
+token_text (Some token) = codes "RES " ++ token ++ 32 ∷ []
+
+-- these lines with a token before the first
+abbrev pub with_token : Option (List ℕ) → List (List ℕ) → List (List ℕ)
+with_token token [] = []
+with_token token (line ∷ lines) = (token_text token ++ line) ∷ lines
+
+-- the token that a reply has, by the token of the line that it replies to: a 500 has none
+abbrev pub reply_token : Option (List ℕ) → Reply → Option (List ℕ)
+reply_token token (reply.Done command) = token
+reply_token token (reply.Value micros) = token
+reply_token token (reply.Info statuses) = token
+reply_token token reply.Cls = token
+reply_token token reply.Version = token
+reply_token token (reply.Unknown line) = token
+reply_token token (reply.Refused code command) = token
+reply_token token reply.NoMemory = None
+
+-- the lines of the reply to a line with this token, or without one
+abbrev pub answer_lines : ConfigView → List MediaNameView → Option (List ℕ) → Reply → List (List ℕ)
+answer_lines config media token answer = with_token (reply_token token answer) (reply_lines config media answer)
+
 -- a line with what stands before it and after it
 abbrev pub wrapped : List ℕ → List ℕ → List ℕ → List ℕ
 wrapped before after line = before ++ line ++ after
@@ -73,9 +98,9 @@ wrapped before after line = before ++ line ++ after
 unfoldable pub ended : List ℕ → List ℕ
 ended line = line ++ 13 ∷ 10 ∷ []
 
--- the bytes of a reply
-unfoldable pub reply_bytes : ConfigView → List MediaNameView → Reply → List ℕ
-reply_bytes config media answer = flat_map ended (reply_lines config media answer)
+-- the bytes of the reply to a line with this token, or without one
+unfoldable pub reply_bytes : ConfigView → List MediaNameView → Option (List ℕ) → Reply → List ℕ
+reply_bytes config media token answer = flat_map ended (answer_lines config media token answer)
 
 -- a reply that a server of this configuration gives: an Info has a status for each channel, and a Refused one of its codes
 abbrev pub IsReplyTo : ConfigView → Reply → Type 0

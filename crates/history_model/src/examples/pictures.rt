@@ -5,9 +5,11 @@ ghost use Rattle.std.specs.Prelude.{◌≡◌, ◌∷◌, ◌++◌, [], pos, neg
 ghost use Rattle.play_types.specs.declared.command.Cmd.TheVariants.{ClearLayer, LoadBg};
 ghost use Rattle.play_types.specs.declared.event.Event.TheVariants.{Tick};
 ghost use Rattle.play_types.specs.declared.setting.Prop.TheVariants.{Clip, Fill, Keyer, Opacity};
+ghost use Rattle.play_types.specs.declared.transition.Curve.TheVariants.{EaseInCubic, EaseInQuad, EaseOutQuad};
 ghost use Rattle.play_types.specs.declared.transition.Kind.TheVariants.{Mix, Push, Slide, Wipe};
+ghost use Rattle.history_model.specs.pictures.Easing.{eased};
 ghost use Rattle.history_model.specs.pictures.Placing.{floor_div};
-ghost use Rattle.history_model.specs.Worked.{ask, at, automatic, blue, by, clip, leftward, looped, number, numbers, one, plays, red, rightward, row_text, sets, ticking};
+ghost use Rattle.history_model.specs.Worked.{ask, at, automatic, blue, by, clip, curved, leftward, looped, number, numbers, one, plays, red, rightward, row_text, sets, ticking};
 
 /// Before the first act a frame is transparent, and after the last content is gone it is so again.
 pub fn nothing_is_transparent()
@@ -31,11 +33,39 @@ pub fn frames_of_a_clip()
     ensures missing { row_text (one 1) 1 (plays (at 1 0) (clip 9 3) ∷ []) ≡ codes "00000000" }
 {}
 
+/// The colours of a clip of version 1 are lowered to their alpha, and those of version 2 are multiplied by it.
+pub fn versions_of_clips()
+    ensures lowered { row_text (one 2) 1 (plays (at 1 0) (clip 4 1) ∷ []) ≡ codes "0000408000008080" }
+    ensures multiplied { row_text (one 2) 1 (plays (at 1 0) (clip 5 1) ∷ []) ≡ codes "0000408000008080" }
+{}
+
 /// A mix at step 1 of 2, and after it.
 pub fn mixing()
     ensures { let history = plays (at 1 1) blue ∷ plays (at 1 1) (by red (rightward Mix 2)) ∷ [] in
         (row_text (one 1) 1 history ≡ codes "800080ff")
         × (row_text (one 1) 1 (history ++ ticking 1) ≡ codes "0000ffff") }
+{}
+
+/// A mix along a curve: the step of 1,000,000 that is drawn, which is at least 1, and after it the last one. A linear one is
+/// drawn at its own step.
+pub fn eased_steps()
+    ensures linear { eased (rightward Mix 2) 1 ≡ (rightward Mix 2, 1) }
+    ensures half { eased (curved EaseOutQuad (leftward Wipe 2)) 1 ≡ (leftward Wipe 1000000, 750000) }
+    ensures least { eased (curved EaseInCubic (rightward Mix 1000)) 1 ≡ (rightward Mix 1000000, 1) }
+    ensures last { eased (curved EaseInQuad (rightward Mix 2)) 2 ≡ (rightward Mix 1000000, 1000000) }
+{}
+
+/// A mix along a curve at step 1 of 2, where it is at three quarters, and after it.
+pub fn eased_mixing()
+    ensures { let history = plays (at 1 0) blue ∷ plays (at 1 0) (by red (curved EaseOutQuad (rightward Mix 2))) ∷ [] in
+        (row_text (one 1) 1 history ≡ codes "4000bfff")
+        × (row_text (one 1) 1 (history ++ ticking 1) ≡ codes "0000ffff") }
+{}
+
+/// A wipe along a curve at step 2 of 4, where it is at a quarter of four columns.
+pub fn eased_wiping()
+    ensures { row_text (one 4) 1 (plays (at 1 0) blue ∷ plays (at 1 0) (by red (curved EaseInQuad (rightward Wipe 4))) ∷ Tick ∷ [])
+        ≡ codes "0000ffffff0000ffff0000ffff0000ff" }
 {}
 
 /// A wipe at step 1 of 4 over four columns, rightward and leftward.

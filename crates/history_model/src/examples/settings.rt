@@ -5,11 +5,12 @@ ghost use Rattle.std.specs.Prelude.{◌≡◌, ◌∷◌, ◌++◌, [], pos, neg
 ghost use Rattle.play_types.specs.declared.command.Cmd.TheVariants.{CommitMixer, PlayTake, ResetChannel, ResetLayer, Set, SwapLayers};
 ghost use Rattle.play_types.specs.declared.event.Event.TheVariants.{Tick};
 ghost use Rattle.play_types.specs.declared.setting.Prop.TheVariants.{Fill, Opacity, Volume};
+ghost use Rattle.play_types.specs.declared.transition.Curve.TheVariants.{EaseInCubic, EaseInQuad, EaseOutCubic, EaseOutQuad};
 ghost use Rattle.history_model.specs.stage.Act.{act_after};
 ghost use Rattle.history_model.specs.stage.Acts.{acts};
 ghost use Rattle.history_model.specs.stage.Resolved.{resolved_acts, waiting_settings};
 ghost use Rattle.history_model.specs.stage.Value.{value};
-ghost use Rattle.history_model.specs.Worked.{ask, at, batch, blue, deferred, defers, number, numbers, one, plays, red, row_text, sets, setting, ticking};
+ghost use Rattle.history_model.specs.Worked.{ask, at, batch, blue, deferred, defers, number, numbers, one, plays, red, row_text, set_along, sets, setting, ticking};
 
 /// A place without a content has its defaults, and the values that were set.
 pub fn place_without_a_content()
@@ -31,6 +32,38 @@ pub fn opacity_tween()
         × (row_text (one 1) 1 (history ++ ticking 1) ≡ codes "00008080")
         × (row_text (one 1) 1 (history ++ ticking 2) ≡ codes "00004040")
         × (row_text (one 1) 1 (history ++ ticking 3) ≡ codes "00000000") }
+{}
+
+/// An opacity that goes to 0 in four ticks along each curve: what it is after one tick, and what is shown then.
+pub fn curved_tweens()
+    ensures in_quad { value (ask (Set (set_along EaseInQuad (setting (at 1 0) Opacity (number (pos 0)) 4))) ∷ []) (at 1 0) Opacity 1
+        ≡ number (pos 937500) }
+    ensures out_quad { value (ask (Set (set_along EaseOutQuad (setting (at 1 0) Opacity (number (pos 0)) 4))) ∷ []) (at 1 0) Opacity 1
+        ≡ number (pos 562500) }
+    ensures in_cubic { value (ask (Set (set_along EaseInCubic (setting (at 1 0) Opacity (number (pos 0)) 4))) ∷ []) (at 1 0) Opacity 1
+        ≡ number (pos 984375) }
+    ensures out_cubic { value (ask (Set (set_along EaseOutCubic (setting (at 1 0) Opacity (number (pos 0)) 4))) ∷ []) (at 1 0) Opacity 1
+        ≡ number (pos 421875) }
+    ensures picture { row_text (one 1) 1
+        (plays (at 1 0) red ∷ ask (Set (set_along EaseInQuad (setting (at 1 0) Opacity (number (pos 0)) 4))) ∷ [])
+        ≡ codes "0000efef" }
+{}
+
+/// A tween that is interrupted by one of another curve goes on from the value that was reached, along the new curve. A commit and
+/// a swap of layers with their values leave the curve.
+pub fn curves_are_kept()
+    ensures interrupted { let history =
+        ask (Set (set_along EaseInQuad (setting (at 1 0) Opacity (number (pos 0)) 4)))
+        ∷ Tick ∷ ask (Set (set_along EaseOutQuad (setting (at 1 0) Opacity (number (pos 0)) 2))) ∷ [] in
+        value history (at 1 0) Opacity 2 ≡ number (pos 234375) }
+    ensures committed { let history =
+        ask (Set (record (set_along EaseInCubic (setting (at 1 0) Opacity (number (pos 0)) 4)) { deferred = true }))
+        ∷ Tick ∷ ask (CommitMixer 1) ∷ [] in
+        value history (at 1 0) Opacity 2 ≡ number (pos 984375) }
+    ensures swapped { let history =
+        ask (Set (set_along EaseOutCubic (setting (at 1 0) Opacity (number (pos 0)) 4)))
+        ∷ ask (SwapLayers (at 1 0) (at 1 1) true) ∷ [] in
+        value history (at 1 1) Opacity 1 ≡ number (pos 421875) }
 {}
 
 /// A tween that is interrupted goes on from the value that was reached. Its quotient is taken toward zero.

@@ -4,8 +4,9 @@
 ghost use Rattle.std.specs.Prelude.{◌≡◌, ◌∷◌, ◌++◌, [], pos, neg_ℤ, replicate};
 ghost use Rattle.play_types.specs.declared.event.Event.TheVariants.{Tick};
 ghost use Rattle.play_types.specs.declared.setting.Prop.TheVariants.{Keyer, Opacity, Volume};
+ghost use Rattle.play_types.specs.declared.transition.Curve.TheVariants.{EaseInQuad};
 ghost use Rattle.play_types.specs.declared.transition.Kind.TheVariants.{Wipe};
-ghost use Rattle.history_model.specs.Worked.{at, by, clip, number, plays, red, rightward, route, samples_of, sets, three, ticking};
+ghost use Rattle.history_model.specs.Worked.{at, by, clip, curved, number, plays, red, rightward, route, samples_of, sets, three, ticking};
 
 /// A clip with fewer pairs than the channel is silent in the others, and a colour is silent.
 pub fn clip_sound()
@@ -34,6 +35,14 @@ pub fn volume()
 pub fn sound_of_a_transition()
     ensures { samples_of three 1 (plays (at 1 0) (clip 3 1) ∷ plays (at 1 0) (by red (rightward Wipe 4)) ∷ [])
         ≡ pos 750 ∷ neg_ℤ (pos 750) ∷ pos 24575 ∷ neg_ℤ (pos 24576) ∷ pos 0 ∷ pos 0 ∷ [] }
+{}
+
+/// A wipe along a curve mixes the sound at the step where the curve is: at step 1 of 4 fifteen sixteenths of the old one are
+/// left, toward zero.
+pub fn sound_of_an_eased_transition()
+    ensures { samples_of three 1
+        (plays (at 1 0) (clip 3 1) ∷ plays (at 1 0) (by red (curved EaseInQuad (rightward Wipe 4))) ∷ [])
+        ≡ pos 937 ∷ neg_ℤ (pos 937) ∷ pos 30719 ∷ neg_ℤ (pos 30720) ∷ pos 0 ∷ pos 0 ∷ [] }
 {}
 
 /// A channel route gives the sound of the tick before, with the volumes that it had.

@@ -5,6 +5,7 @@ ghost use Rattle.history_model.specs.scripts.History.{PlayedLine, Playout, goes_
 ghost use Rattle.history_model.specs.scripts.Line.{ScriptLine, until_stop};
 ghost use Rattle.history_model.specs.scripts.Memory.{AreLines, HasMemory, input_lines, lines_played, with_memory};
 ghost use Rattle.history_model.specs.scripts.Output.{output_at, script_output};
+ghost use Rattle.history_model.specs.scripts.Replies.{script_replies};
 ghost use Rattle.history_model.specs.scripts.Struck.{IsIdleLine};
 
 /// What the first lines of a script write and do stands at the beginning of what the script writes and does, whatever follows.
@@ -24,11 +25,13 @@ pub fn lines_of_inputs_are_lines()
     ensures last { (lines later : List ScriptLine) → AreLines (lines ++ later) → AreLines later }
 {}
 
-/// Two runs of equal lines of which no reply says that memory ran out write the same and do the same. Every list of lines has such
-/// a run.
+/// Two runs of equal lines of which no reply says that memory ran out write the same, are replied the same and do the same. Every
+/// list of lines has such a run.
 pub fn runs_with_memory_are_equal()
     ensures output { (playout : Playout) (one other : List PlayedLine) → AreLines (lines_played one) → lines_played one ≡ lines_played other →
         HasMemory playout one → HasMemory playout other → script_output playout one ≡ script_output playout other }
+    ensures replies { (playout : Playout) (one other : List PlayedLine) → AreLines (lines_played one) → lines_played one ≡ lines_played other →
+        HasMemory playout one → HasMemory playout other → script_replies playout one ≡ script_replies playout other }
     ensures history { (playout : Playout) (one other : List PlayedLine) → AreLines (lines_played one) → lines_played one ≡ lines_played other →
         HasMemory playout one → HasMemory playout other → script_events playout one ≡ script_events playout other }
     ensures some { (playout : Playout) (lines : List ScriptLine) → HasMemory playout (map with_memory lines) }

@@ -9,3 +9,4 @@ pub mod ReadingText
 pub mod TextLaws
 pub mod Escapes
 pub mod Digits
+pub mod ReqTokens

@@ -63,7 +63,7 @@ decimal_is_ascii text value h =
 
 -- what reads ASCII alone reads the characters and the bytes of a text alike
 module _ {A : Type 0} (read : List ℕ → Option A) (ascii : (text : List ℕ) (value : A) → read text ≡ Some value → IsAscii text) where
-  both_read : (text : List ℕ) → IsUtf8 text → (at_bytes at_chars : Option A) → read text ≡ at_bytes → read (chars text) ≡ at_chars → read (chars text) ≡ read text
+  pub both_read : (text : List ℕ) → IsUtf8 text → (at_bytes at_chars : Option A) → read text ≡ at_bytes → read (chars text) ≡ at_chars → read (chars text) ≡ read text
   both_read text utf8 (Some value) at_chars b c = ap read (chars-IsAscii text (ascii text value b))
   both_read text utf8 None (Some value) b c =
       let same = encodes-chars text utf8 in

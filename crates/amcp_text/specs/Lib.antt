@@ -3,6 +3,7 @@ pub mod ReaderState
 pub mod Reader
 pub mod Words
 pub mod Tokens
+pub mod ReqTokens
 pub mod Escapes
 pub mod Numbers
 pub mod Micros

@@ -12,11 +12,13 @@ pub mod examples;
 pub mod laws;
 mod line_reader;
 mod number;
+mod req_token;
 mod token;
 mod word_list;
 
 pub use escape::escape_of;
 pub use line_reader::{LineEvent, LineReader, MAX_LINE_BYTES, without_carriage_return};
 pub use number::{is_whole_number, number_within, plain_number_within, word_within};
+pub use req_token::{MAX_TOKEN_BYTES, ReqToken};
 pub use token::{TokenFault, tokens};
 pub use word_list::WordList;

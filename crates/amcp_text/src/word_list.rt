@@ -1,5 +1,5 @@
 //! The words of a line.
-ghost use Rattle.std.specs.Prelude.{◌≡◌, ◌==◌, ◌∷◌, ◌++◌, [], length, map, OnOk, OnErr, option_map, slice_get, string_bytes};
+ghost use Rattle.std.specs.Prelude.{◌≡◌, ◌≤◌, ◌==◌, ◌∷◌, ◌++◌, [], length, drop, map, OnOk, OnErr, option_map, slice_get, string_bytes};
 ghost use Rattle.std.specs.Slice.Iter.{iter_rest};
 ghost use Rattle.std.specs.Str.{chars};
 
@@ -68,5 +68,14 @@ impl WordList {
         ensures { option_map (λ word. chars word.now) result ≡ slice_get self.now at }
     {
         self.words.get(at).map(|word| word.as_str())
+    }
+
+    /// Drops the first two words. It takes no memory.
+    pub fn drop_two(&mut self)
+        requires { 3 ≤ length self.old }
+        ensures { self.new ≡ drop 2 self.old }
+    {
+        self.words.remove(0);
+        self.words.remove(0);
     }
 }

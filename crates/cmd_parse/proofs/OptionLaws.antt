@@ -11,7 +11,6 @@ use Rattle.amcp_text.specs.Numbers.{whole_number}
 use Rattle.play_types.specs.Transition.{TransView, trans_of}
 use Rattle.play_types.specs.declared.transition.Kind.{Kind}
 use Rattle.play_types.specs.declared.transition.Kind.TheVariants.{Cut}
-use Rattle.play_types.specs.declared.transition.Curve.TheVariants.{Linear}
 use Rattle.play_types.specs.declared.transition.TheConstants.{MAX_DURATION}
 use Rattle.play_types.specs.declared.parsed.Refusal.{Refusal}
 use Rattle.play_types.specs.declared.parsed.Refusal.TheVariants.{Illegal, Missing}
@@ -203,7 +202,7 @@ transition_more line at word rest =
 -- a transition of this duration, which `duration.1` words write
 abbrev timed : Line → ℕ → Kind → ℕ × ℕ → TransView × ℕ
 timed line at kind duration =
-    let manner = manner_at line (at + duration.1) in (trans_of kind duration.0 Linear manner.1, duration.1 + manner.0)
+    let manner = manner_at line (at + duration.1) in (trans_of kind duration.0 manner.curve manner.leftward, duration.1 + manner.words)
 
 abbrev with_number : ℕ → ℕ × ℕ
 with_number duration = (duration, 1)

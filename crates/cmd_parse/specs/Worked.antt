@@ -10,6 +10,7 @@ use Rattle.play_types.specs.Transition.{TransView, cut}
 use Rattle.play_types.specs.declared.take.Spec.{Spec}
 use Rattle.play_types.specs.declared.take.Spec.TheVariants.{Clip}
 use Rattle.play_types.specs.declared.transition.Kind.{Kind}
+use Rattle.play_types.specs.declared.transition.Curve.{Curve}
 use Rattle.play_types.specs.declared.transition.Curve.TheVariants.{Linear}
 use Rattle.play_types.specs.declared.setting.Prop.{Prop}
 use Rattle.play_types.specs.declared.command.Cmd.{Cmd}
@@ -51,6 +52,10 @@ rightward kind duration = record { kind = kind; duration = duration; curve = Lin
 abbrev pub leftward : Kind → ℕ → TransView
 leftward kind duration = record { kind = kind; duration = duration; curve = Linear; leftward = true }
 
+-- a transition with another curve
+abbrev pub curved : Curve → TransView → TransView
+curved curve trans = record trans { curve = curve }
+
 -- a producer that is no clip
 abbrev pub plain : Spec → TransView → Bool → TakeView
 plain spec trans auto = record { spec = spec; looped = false; seek = 0; length = 0; trans = trans; auto = auto }
@@ -59,7 +64,10 @@ plain spec trans auto = record { spec = spec; looped = false; seek = 0; length =
 abbrev pub three : ℕ → ℕ → Bool → TakeView
 three seek length looped = record { spec = Clip 1; looped = looped; seek = seek; length = length; trans = cut; auto = false }
 
--- a setting of layer 3 of channel 1
+-- a setting of layer 3 of channel 1, along a curve and along the linear one
+abbrev pub set_along : Curve → Prop → List ℤ → ℕ → Bool → Cmd
+set_along curve property values duration deferred =
+    Set (record { place = at 1 3; prop = property; values = values; duration = duration; curve = curve; deferred = deferred })
+
 abbrev pub set : Prop → List ℤ → ℕ → Bool → Cmd
-set property values duration deferred =
-    Set (record { place = at 1 3; prop = property; values = values; duration = duration; curve = Linear; deferred = deferred })
+set property values duration deferred = set_along Linear property values duration deferred

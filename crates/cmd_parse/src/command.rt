@@ -6,12 +6,13 @@ ghost use Rattle.history_model.specs.commands.Line.{ended};
 use crate::area::Area;
 use crate::line::Line;
 use crate::mixer::mixer;
+use crate::recording::{add_file, remove_file};
 use amcp_text::WordList;
 use play_types::{Cmd, Config, MediaNames, Name, Parsed, Place, Refusal};
 
 /// Returns what the words of a line ask for, with these channels and these clips. It takes no memory.
 ///
-/// Refused are, in this order: a name that is none; a line with fewer words than its command needs; a place, from the
+/// Refused are, in this order: a name that is none, as REQ is; a line with fewer words than its command needs; a place, from the
 /// left; the other words, from the left, except the producer; and the producer. The position in `Illegal` counts the
 /// words from 0, where the name stands.
 #[tactic(auto, unfolding(history_model::specs::commands::Command::parsed))]
@@ -38,7 +39,8 @@ fn least_words(name: Name) -> usize
     ensures { result ≡ least_words name }
 {
     match name {
-        Name::LoadBg | Name::Load | Name::Swap | Name::Mixer => 2,
+        Name::Add => 3,
+        Name::LoadBg | Name::Load | Name::Swap | Name::Mixer | Name::Remove => 2,
         Name::Play | Name::Pause | Name::Resume | Name::Stop | Name::Clear => 1,
         Name::Begin
         | Name::Commit
@@ -47,7 +49,8 @@ fn least_words(name: Name) -> usize
         | Name::Cls
         | Name::Version
         | Name::Bye
-        | Name::Kill => 0,
+        | Name::Kill
+        | Name::Req => 0,
     }
 }
 
@@ -65,6 +68,8 @@ fn meaning(line: &Line<'_>) -> Result<Parsed, Refusal>
         Name::Clear => Ok(Parsed::Stage(clear(line)?)),
         Name::Swap => Ok(Parsed::Stage(swap(line)?)),
         Name::Mixer => Ok(Parsed::Stage(mixer(line)?)),
+        Name::Add => Ok(Parsed::Stage(add_file(line)?)),
+        Name::Remove => Ok(Parsed::Stage(remove_file(line)?)),
         Name::Begin => only_name(line, Parsed::Begin),
         Name::Commit => only_name(line, Parsed::Commit),
         Name::Discard => only_name(line, Parsed::Discard),
@@ -73,6 +78,7 @@ fn meaning(line: &Line<'_>) -> Result<Parsed, Refusal>
         Name::Version => version(line),
         Name::Bye => only_name(line, Parsed::Bye),
         Name::Kill => only_name(line, Parsed::Kill),
+        Name::Req => Err(Refusal::Unknown),
     }
 }
 

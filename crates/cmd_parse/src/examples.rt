@@ -1,17 +1,18 @@
 //! Worked lines. Each function does nothing, and its contract says what lines ask for, or why they are refused. There
 //! are two channels, a clip THREE of three frames and an unreadable clip BAD.
-#![tactic(auto, unfolding(play_types::specs::Words::is_word, play_types::specs::Words::is_same_name, history_model::specs::commands::Places::area_of, history_model::specs::commands::Options::options_at, history_model::specs::commands::Producer::producer_of, history_model::specs::commands::Producer::take_at, history_model::specs::commands::Mixer::numbers_of, history_model::specs::commands::Mixer::timing_at, history_model::specs::commands::Mixer::mixer, play_types::specs::Words::name_of, play_types::specs::Words::kind_of, play_types::specs::Words::prop_of, history_model::specs::commands::Command::play, history_model::specs::commands::Command::load_bg, history_model::specs::commands::Command::load, history_model::specs::commands::Command::clear, history_model::specs::commands::Command::swap, history_model::specs::commands::Command::parsed))]
+#![tactic(auto, unfolding(play_types::specs::Words::is_word, play_types::specs::Words::is_same_name, history_model::specs::commands::Places::area_of, history_model::specs::commands::Options::options_at, history_model::specs::commands::Producer::producer_of, history_model::specs::commands::Producer::take_at, history_model::specs::commands::Mixer::numbers_of, history_model::specs::commands::Mixer::timing_at, history_model::specs::commands::Mixer::mixer, play_types::specs::Words::name_of, play_types::specs::Words::kind_of, play_types::specs::Words::curve_of, play_types::specs::Words::prop_of, history_model::specs::commands::Command::play, history_model::specs::commands::Command::load_bg, history_model::specs::commands::Command::load, history_model::specs::commands::Command::clear, history_model::specs::commands::Command::swap, history_model::specs::commands::Recording::add_file, history_model::specs::commands::Recording::remove_file, history_model::specs::commands::Command::parsed))]
 
-ghost use Rattle.std.specs.Prelude.{◌≡◌, ◌∷◌, [], true, false, Ok, Err, pos, neg_ℤ};
+ghost use Rattle.std.specs.Prelude.{◌≡◌, ◌∷◌, [], true, false, Ok, Err, pos, neg_ℤ, codes};
 ghost use Rattle.play_types.specs.Transition.{cut};
 ghost use Rattle.play_types.specs.declared.command.Cmd.TheVariants as cmd;
 ghost use Rattle.play_types.specs.declared.take.Spec.TheVariants.{Colour, RouteChannel, RouteLayer};
+ghost use Rattle.play_types.specs.declared.transition.Curve.TheVariants.{EaseInCubic, EaseInQuad, EaseOutCubic, EaseOutQuad};
 ghost use Rattle.play_types.specs.declared.transition.Kind.TheVariants.{Mix, Push, Slide, Wipe};
 ghost use Rattle.play_types.specs.declared.setting.Prop.TheVariants as prop;
 ghost use Rattle.play_types.specs.declared.parsed.Parsed.TheVariants as parsed;
 ghost use Rattle.play_types.specs.declared.parsed.Refusal.TheVariants.{Unknown, Channel, Missing, Illegal, NotFound, Unreadable};
 ghost use Rattle.play_types.specs.declared.reply.Name.TheVariants as name;
-ghost use Rattle.cmd_parse.specs.Worked.{asks, does, at, plain, three, rightward, leftward, set};
+ghost use Rattle.cmd_parse.specs.Worked.{asks, at, curved, does, leftward, plain, rightward, set, set_along, three};
 
 /// Names and fixed words may be written in any case. A word that is no name is none.
 pub fn names()
@@ -91,6 +92,37 @@ pub fn options()
     ensures unknown { asks "LOADBG 1-0 RED LINEAR" ≡ Err (Illegal name.LoadBg 3) }
 {}
 
+/// Curves, in any case of their letters and before or after a direction. A cut and a keyer have none, and a word that is no curve
+/// is refused.
+pub fn curves()
+    ensures first { asks "PLAY 1 RED MIX 2 EASEOUTQUAD LEFT"
+        ≡ does (cmd.PlayTake (at 1 0) (plain (Colour 0xFFFF0000) (curved EaseOutQuad (leftward Mix 2)) false)) }
+    ensures after_the_direction { asks "PLAY 1 RED WIPE 2 fromLeft easeInCubic"
+        ≡ does (cmd.PlayTake (at 1 0) (plain (Colour 0xFFFF0000) (curved EaseInCubic (rightward Wipe 2)) false)) }
+    ensures alone { asks "LOADBG 1 RED PUSH 2 EaseOutCubic AUTO"
+        ≡ does (cmd.LoadBg (at 1 0) (plain (Colour 0xFFFF0000) (curved EaseOutCubic (rightward Push 2)) true)) }
+    ensures cut { asks "LOADBG 1 RED CUT 9 EASEINQUAD AUTO" ≡ does (cmd.LoadBg (at 1 0) (plain (Colour 0xFFFF0000) cut true)) }
+    ensures two { asks "LOADBG 1-0 RED MIX 5 LINEAR EASEINQUAD" ≡ Err (Illegal name.LoadBg 6) }
+    ensures unknown { asks "LOADBG 1-0 RED MIX 5 EASEINSINE" ≡ Err (Illegal name.LoadBg 5) }
+    ensures setting { asks "MIXER 1-3 OPACITY .5 25 easeInQuad DEFER"
+        ≡ does (set_along EaseInQuad prop.Opacity (pos 500000 ∷ pos 0 ∷ pos 0 ∷ pos 0 ∷ []) 25 true) }
+    ensures setting_at_once { asks "MIXER 1-3 VOLUME 1 0 EASEOUTCUBIC"
+        ≡ does (set_along EaseOutCubic prop.Volume (pos 1000000 ∷ pos 0 ∷ pos 0 ∷ pos 0 ∷ []) 0 false) }
+    ensures unknown_of_a_setting { asks "MIXER 1-3 OPACITY 1 25 EASEINOUTQUAD" ≡ Err (Illegal name.Mixer 5) }
+    ensures keyer { asks "MIXER 1-0 KEYER 1 EASEINQUAD" ≡ Err (Illegal name.Mixer 4) }
+{}
+
+/// Texts without a curve, as they were printed before there were others, ask for the linear one.
+pub fn without_a_curve()
+    ensures transition { asks "PLAY 1-0 #FFFF0000 MIX 12 RIGHT"
+        ≡ does (cmd.PlayTake (at 1 0) (plain (Colour 0xFFFF0000) (rightward Mix 12) false)) }
+    ensures transition_alone { asks "LOADBG 1-0 #FFFF0000 SLIDE 12 AUTO"
+        ≡ does (cmd.LoadBg (at 1 0) (plain (Colour 0xFFFF0000) (rightward Slide 12) true)) }
+    ensures setting { asks "MIXER 1-3 OPACITY 0.5 25" ≡ does (set prop.Opacity (pos 500000 ∷ pos 0 ∷ pos 0 ∷ pos 0 ∷ []) 25 false) }
+    ensures deferred { asks "MIXER 1-3 OPACITY 0.5 25 DEFER"
+        ≡ does (set prop.Opacity (pos 500000 ∷ pos 0 ∷ pos 0 ∷ pos 0 ∷ []) 25 true) }
+{}
+
 /// Producers: colours in hexadecimal, routes, named colours and clips, tried in this order.
 pub fn producers()
     ensures colour { asks "PLAY 1 #80fF0001" ≡ does (cmd.PlayTake (at 1 0) (plain (Colour 0x80FF0001) cut false)) }
@@ -159,4 +191,24 @@ pub fn sessions()
     ensures info_surplus { asks "INFO x" ≡ Err (Illegal name.Info 1) }
     ensures version_other { asks "VERSION x SERVER" ≡ Err (Illegal name.Version 1) }
     ensures version_surplus { asks "VERSION SERVER x" ≡ Err (Illegal name.Version 2) }
+{}
+
+/// The marks of recordings. A name is in capitals, and no clip has it, whether it can be read or not. The channel comes before
+/// FILE, and FILE before the name.
+pub fn recordings()
+    ensures add { asks "ADD 1 FILE take_1" ≡ does (cmd.AddFile 1 (codes "TAKE_1")) }
+    ensures remove { asks "remove 02 file" ≡ does (cmd.RemoveFile 2) }
+    ensures few { asks "ADD 1" ≡ Err (Missing name.Add) }
+    ensures no_name { asks "ADD 9 FILE" ≡ Err (Missing name.Add) }
+    ensures no_file { asks "REMOVE 9" ≡ Err (Missing name.Remove) }
+    ensures channel { asks "ADD 3 DISK x" ≡ Err (Channel name.Add) }
+    ensures layer { asks "ADD 1-0 FILE x" ≡ Err (Illegal name.Add 1) }
+    ensures layer_before_word { asks "REMOVE 1-0 DISK" ≡ Err (Illegal name.Remove 1) }
+    ensures word { asks "REMOVE 1 DISK" ≡ Err (Illegal name.Remove 2) }
+    ensures word_before_name { asks "ADD 1 DISK a.b 1" ≡ Err (Illegal name.Add 2) }
+    ensures name { asks "ADD 1 FILE a.b 1" ≡ Err (Illegal name.Add 3) }
+    ensures clip { asks "ADD 1 FILE three" ≡ Err (Illegal name.Add 3) }
+    ensures unreadable_clip { asks "ADD 1 FILE BAD" ≡ Err (Illegal name.Add 3) }
+    ensures surplus { asks "ADD 1 FILE x 1" ≡ Err (Illegal name.Add 4) }
+    ensures remove_surplus { asks "REMOVE 1 FILE x" ≡ Err (Illegal name.Remove 3) }
 {}

@@ -13,6 +13,7 @@ mod line;
 mod mixer;
 mod options;
 mod producer;
+mod recording;
 mod take;
 
 pub use command::parse;

@@ -1,11 +1,11 @@
 //! A client's line whose command is known, and what stands at its positions.
-ghost use Rattle.std.specs.Prelude.{◌≡◌, ◌+◌, ◌^◌, ◌<◌, ◌≤◌, length, IfOk, OnOk, IsTrue, MatchResult, Ok, Err};
+ghost use Rattle.std.specs.Prelude.{◌≡◌, ◌+◌, ◌^◌, ◌<◌, ◌≤◌, length, IfOk, OnOk, OnSome, IsTrue, MatchResult, Ok, Err};
 ghost use Rattle.std.specs.Str.{chars};
 ghost use Rattle.play_types.specs.Words.{are_capitals};
-ghost use Rattle.history_model.specs.commands.Line.{ended, flag_at, number_at, stands_at, word_at};
+ghost use Rattle.history_model.specs.commands.Line.{curve_at, ended, flag_at, number_at, stands_at, word_at};
 
 use amcp_text::{WordList, word_within};
-use play_types::{Config, MediaNames, Name, Refusal, is_word};
+use play_types::{Config, Curve, MediaNames, Name, Refusal, is_word};
 use std::marker::Model;
 
 /// A client's line whose command is known, and the channels and the clips that its words can name.
@@ -72,6 +72,14 @@ impl<'a> Line<'a> {
             Some(word) => is_word(word, fixed),
             None => false,
         }
+    }
+
+    /// Returns the curve that stands at a position, if one does.
+    pub fn curve(&self, at: usize) -> Option<Curve>
+        ensures value { result ≡ curve_at self.now at }
+        ensures within { OnSome result (at < length self.now.words) }
+    {
+        Curve::read(self.words.get(at)?)
     }
 
     /// Returns nothing if the line ends before a position. A word there is refused as `Illegal`.

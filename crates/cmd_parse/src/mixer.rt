@@ -67,7 +67,7 @@ fn property_command(line: &Line<'_>, place: Place, property: Prop) -> Result<Cmd
         property,
         numbers,
         timing.duration,
-        Curve::Linear,
+        timing.curve,
         timing.deferred,
     );
     Ok(Cmd::Set(setting.unwrap()))
@@ -140,10 +140,12 @@ fn keyer(word: &str) -> Option<i64>
     }
 }
 
-/// The ticks after which a value is reached, at most `MAX_DURATION`, and whether the value waits for a MIXER COMMIT.
+/// The ticks after which a value is reached, at most `MAX_DURATION`, the curve along which it goes, and whether it waits for a
+/// MIXER COMMIT.
 #[derive(Clone, Copy)]
 struct Timing {
     duration: u32,
+    curve: Curve,
     deferred: bool,
 }
 
@@ -154,11 +156,11 @@ impl Model for Timing {
 
     ghost Value = { Timing };
 
-    ghost view = { λ t. record { duration = t.duration; deferred = t.deferred } };
+    ghost view = { λ t. record { duration = t.duration; curve = t.curve; deferred = t.deferred } };
 
     ghost invariant = { λ t. t.duration ≤ MAX_DURATION };
 
-    ghost inverse = { λ v. record { duration = v.duration; deferred = v.deferred } };
+    ghost inverse = { λ v. record { duration = v.duration; curve = v.curve; deferred = v.deferred } };
 }
 
 /// Returns the timing that stands after the numbers of a property. A keyer has no duration.
@@ -168,7 +170,7 @@ fn timing_of(line: &Line<'_>, property: Prop) -> Result<Timing, Refusal>
     match property {
         Prop::Opacity | Prop::Volume => timing_at(line, 4),
         Prop::Fill | Prop::Clip => timing_at(line, 7),
-        Prop::Keyer => deferral_at(line, 4, 0),
+        Prop::Keyer => deferral_at(line, 4, 0, Curve::Linear),
     }
 }
 
@@ -180,22 +182,25 @@ fn timing_at(line: &Line<'_>, at: usize) -> Result<Timing, Refusal>
     ensures { result ≡ timing_at line.now at }
 {
     if at >= line.len() || line.stands(at, "DEFER") {
-        return deferral_at(line, at, 0);
+        return deferral_at(line, at, 0, Curve::Linear);
     }
     let duration = line.number(at, 0, MAX_DURATION)?;
-    if line.stands(at + 1, "LINEAR") {
-        deferral_at(line, at + 2, duration)
-    } else {
-        deferral_at(line, at + 1, duration)
+    match line.curve(at + 1) {
+        Some(curve) => deferral_at(line, at + 2, duration, curve),
+        None => deferral_at(line, at + 1, duration, Curve::Linear),
     }
 }
 
-/// Returns the timing of this duration, if DEFER or nothing stands from a position to the end of the line.
-fn deferral_at(line: &Line<'_>, at: usize, duration: u32) -> Result<Timing, Refusal>
+/// Returns the timing of this duration and this curve, if DEFER or nothing stands from a position to the end of the line.
+fn deferral_at(line: &Line<'_>, at: usize, duration: u32, curve: Curve) -> Result<Timing, Refusal>
     requires short { duration ≤ MAX_DURATION }
     requires early { at < 200 }
-    ensures { result ≡ deferral_at line.now at duration }
+    ensures { result ≡ deferral_at line.now at duration curve }
 {
     let deferred = line.flag(at, "DEFER")?;
-    Ok(Timing { duration, deferred })
+    Ok(Timing {
+        duration,
+        curve,
+        deferred,
+    })
 }

@@ -217,9 +217,9 @@ fn transition_at(line: &Line<'_>, at: usize, kind: Kind) -> Result<(Trans, usize
     ensures within { IfOk result (λ read. at + read.1 ≤ length line.now.words) }
 {
     let (duration, numbers) = duration_at(line, at, kind)?;
-    let (manner, leftward) = manner_at(line, at + numbers);
-    let transition = Trans::new(kind, duration, Curve::Linear, leftward).unwrap();
-    Ok((transition, numbers + manner))
+    let manner = manner_at(line, at + numbers);
+    let transition = Trans::new(kind, duration, manner.curve, manner.leftward).unwrap();
+    Ok((transition, numbers + manner.words))
 }
 
 /// Returns the duration of a transition in ticks, at most `MAX_DURATION`, and the number of words that write it: 1, or 0
@@ -238,29 +238,56 @@ fn duration_at(line: &Line<'_>, at: usize, kind: Kind) -> Result<(u32, usize), R
     Ok((duration, 1))
 }
 
-/// Returns the number of words from a position on that are a curve and a direction, in either order, and whether the
-/// transition goes leftward.
+/// The curve of a transition, whether it goes leftward, and the number of words that say so.
+#[derive(Clone, Copy)]
+struct Manner {
+    words: usize,
+    curve: Curve,
+    leftward: bool,
+}
+
+/// Returns the curve and the direction that stand from a position on, in either order, each at most once.
 #[tactic(auto, unfolding(crate::specs::inner::Options::manner_at))]
-fn manner_at(line: &Line<'_>, at: usize) -> (usize, bool)
+fn manner_at(line: &Line<'_>, at: usize) -> Manner
     requires inside { at ≤ length line.now.words }
     requires fits { length line.now.words < 2 ^ 64 }
     ensures value { result ≡ manner_at line.now at }
-    ensures within { at + result.0 ≤ length line.now.words }
+    ensures within { at + result.words ≤ length line.now.words }
 {
-    if line.stands(at, "LINEAR") {
+    if let Some(curve) = line.curve(at) {
         if is_direction_at(line, at + 1) {
-            return (2, is_leftward_at(line, at + 1));
+            let leftward = is_leftward_at(line, at + 1);
+            return Manner {
+                words: 2,
+                curve,
+                leftward,
+            };
         }
-        return (1, false);
+        return Manner {
+            words: 1,
+            curve,
+            leftward: false,
+        };
     }
     if !is_direction_at(line, at) {
-        return (0, false);
+        return Manner {
+            words: 0,
+            curve: Curve::Linear,
+            leftward: false,
+        };
     }
     let leftward = is_leftward_at(line, at);
-    if line.stands(at + 1, "LINEAR") {
-        (2, leftward)
-    } else {
-        (1, leftward)
+    match line.curve(at + 1) {
+        Some(curve) => Manner {
+            words: 2,
+            curve,
+            leftward,
+        },
+        None => Manner {
+            words: 1,
+            curve: Curve::Linear,
+            leftward,
+        },
     }
 }
 

@@ -5,9 +5,10 @@ use Rattle.amcp_text.specs.Micros.{printed_micro}
 use Rattle.play_types.specs.Config.{ConfigView}
 use Rattle.play_types.specs.Media.{MediaNameView}
 use Rattle.play_types.specs.Place.{PlaceView}
+use Rattle.play_types.specs.RecNames.{rec_name_of}
 use Rattle.play_types.specs.Take.{TakeView}
 use Rattle.play_types.specs.Transition.{TransView, cut, trans_of}
-use Rattle.play_types.specs.Setting.{SettingView, duration_of}
+use Rattle.play_types.specs.Setting.{SettingView, duration_of, kept_curve}
 use Rattle.play_types.specs.declared.place.TheConstants.{MAX_LAYER}
 use Rattle.play_types.specs.declared.clip.TheConstants.{MAX_FRAMES}
 use Rattle.play_types.specs.declared.transition.TheConstants.{MAX_DURATION}
@@ -19,6 +20,7 @@ use Rattle.play_types.specs.declared.command.Cmd.{Cmd}
 use Rattle.play_types.specs.declared.command.Cmd.TheVariants as cmd
 use Rattle.history_model.specs.commands.Producer.{clip_named, is_colour_word, is_route_word, named_colour}
 use Rattle.history_model.specs.commands.Mixer.{number_of}
+use Rattle.history_model.specs.commands.Recording.{names_clip}
 
 pub record IsChannelOf (config : ConfigView) (channel : ℕ) : Type 0 where
   pub low : 1 ≤ channel
@@ -95,6 +97,12 @@ pub record IsKnownSetting (config : ConfigView) (setting : SettingView) : Type 0
   pub numbers : AreKnownNumbers setting.prop setting.values
   pub short : setting.duration ≤ MAX_DURATION
   pub duration : duration_of setting.prop setting.duration ≡ setting.duration
+  pub curve : kept_curve setting.prop setting.curve ≡ setting.curve
+
+-- the name of a recording, which no clip has
+pub record IsKnownRecording (media : List MediaNameView) (name : List ℕ) : Type 0 where
+  pub again : rec_name_of name ≡ Some name
+  pub free : names_clip media name ≡ false
 
 -- what is known of a command that a client asks for
 abbrev pub IsKnown : ConfigView → List MediaNameView → Cmd → Type 0
@@ -114,5 +122,7 @@ IsKnown config media (cmd.Set setting) = IsKnownSetting config setting
 IsKnown config media (cmd.CommitMixer channel) = IsChannelOf config channel
 IsKnown config media (cmd.ResetLayer place) = IsPlaceOf config place
 IsKnown config media (cmd.ResetChannel channel) = IsChannelOf config channel
+IsKnown config media (cmd.AddFile channel name) = IsChannelOf config channel × IsKnownRecording media name
+IsKnown config media (cmd.RemoveFile channel) = IsChannelOf config channel
 IsKnown config media (cmd.Value place property) = IsPlaceOf config place
 IsKnown config media cmd.Info = Unit {0}

@@ -9,5 +9,6 @@ pub mod ReadsBack
 pub mod Asked
 pub mod Producers
 pub mod Takes
+pub mod Recordings
 pub mod Settings
 pub mod Runs

@@ -15,21 +15,21 @@ use Rattle.play_types.specs.Media.{MediaNameView}
 use Rattle.play_types.specs.Place.{PlaceView}
 use Rattle.play_types.specs.Take.{TakeView}
 use Rattle.play_types.specs.Transition.{TransView, cut, trans_of}
-use Rattle.play_types.specs.Words.{is_word, name_of, name_text, kind_of, kind_text}
+use Rattle.play_types.specs.Words.{is_word, curve_of, curve_text, name_of, name_text, kind_of, kind_text}
 use Rattle.play_types.specs.declared.place.TheConstants.{MAX_LAYER}
 use Rattle.play_types.specs.declared.clip.TheConstants.{MAX_FRAMES}
 use Rattle.play_types.specs.declared.transition.TheConstants.{MAX_DURATION}
 use Rattle.play_types.specs.declared.transition.Kind.{Kind}
 use Rattle.play_types.specs.declared.transition.Kind.TheVariants.{Cut, Mix, Push, Slide, Wipe}
 use Rattle.play_types.specs.declared.transition.Curve.{Curve}
-use Rattle.play_types.specs.declared.transition.Curve.TheVariants.{Linear}
+use Rattle.play_types.specs.declared.transition.Curve.TheVariants.{Linear, EaseInQuad, EaseOutQuad, EaseInCubic, EaseOutCubic}
 use Rattle.play_types.specs.declared.take.Spec.{Spec}
 use Rattle.play_types.specs.declared.take.Spec.TheVariants.{Clip, Colour, RouteChannel, RouteLayer}
 use Rattle.play_types.specs.declared.reply.Name.{Name}
 use Rattle.play_types.specs.declared.reply.Name.TheVariants as name
 use Rattle.history_model.specs.commands.Line.{Line}
 use Rattle.history_model.specs.commands.Places.{is_dash, area_of}
-use Rattle.history_model.specs.commands.Options.{Options, Loop, Seek, Length, Auto, Transition, option_of, is_curve, is_direction, is_leftward, options_from, options_refusal, options_of, options_at}
+use Rattle.history_model.specs.commands.Options.{Options, Loop, Seek, Length, Auto, Transition, option_of, is_direction, is_leftward, options_from, options_refusal, options_of, options_at}
 use Rattle.history_model.specs.commands.Producer.{Producer, is_route_word, producer_of, take_at, plain, take_with}
 use Rattle.history_model.specs.commands.Command.{parsed, enough}
 use Rattle.history_model.specs.text.Commands.{Word, Plain, word_meant, place_text, capital_digits, clip_name_at, flag_words, transition_words, take_words, direction_text}
@@ -48,6 +48,8 @@ name_of_text name.Stop = refl
 name_of_text name.Clear = refl
 name_of_text name.Swap = refl
 name_of_text name.Mixer = refl
+name_of_text name.Add = refl
+name_of_text name.Remove = refl
 name_of_text name.Begin = refl
 name_of_text name.Commit = refl
 name_of_text name.Discard = refl
@@ -56,6 +58,7 @@ name_of_text name.Cls = refl
 name_of_text name.Version = refl
 name_of_text name.Bye = refl
 name_of_text name.Kill = refl
+name_of_text name.Req = refl
 
 -- the words that are meant by printed words
 abbrev pub meant : List Word → List (List ℕ)
@@ -107,10 +110,10 @@ record IsTimed (k d c r : List ℕ) (trans : TransView) : Type 0 where
   cuts : is_word (codes "CUT") k ≡ false
   kind : kind_of k ≡ Some trans.kind
   number : number_within 0 MAX_DURATION d ≡ Some trans.duration
-  curve : is_curve c ≡ true
+  curve : curve_of c ≡ Some trans.curve
   direction : is_direction r ≡ true
   leftward : list_any is_leftward (c ∷ r ∷ []) ≡ trans.leftward
-  kept : trans_of trans.kind trans.duration Linear trans.leftward ≡ trans
+  kept : trans_of trans.kind trans.duration trans.curve trans.leftward ≡ trans
 
 -- a kind of transition that is no cut
 record IsTimedKind (one : Kind) : Type 0 where
@@ -134,48 +137,63 @@ wipe_kind : IsTimedKind Wipe
 unfolding is_word kind_of
 wipe_kind = record { option = refl; cuts = refl; kind = refl }
 
-linear_curve : is_curve (codes "LINEAR") ≡ true
-unfolding is_word
-linear_curve = refl
+pub curve_read : (curve : Curve) → curve_of (curve_text curve) ≡ Some curve
+unfolding is_word curve_of
+curve_read Linear = refl
+curve_read EaseInQuad = refl
+curve_read EaseOutQuad = refl
+curve_read EaseInCubic = refl
+curve_read EaseOutCubic = refl
 
 direction_read : (leftward : Bool) → is_direction (direction_text leftward) ≡ true
 unfolding is_word
 direction_read true = refl
 direction_read false = refl
 
-leftward_read : (leftward : Bool) → list_any is_leftward (codes "LINEAR" ∷ direction_text leftward ∷ []) ≡ leftward
+no_leftward : (curve : Curve) → is_leftward (curve_text curve) ≡ false
 unfolding is_word
-leftward_read true = refl
-leftward_read false = refl
+no_leftward Linear = refl
+no_leftward EaseInQuad = refl
+no_leftward EaseOutQuad = refl
+no_leftward EaseInCubic = refl
+no_leftward EaseOutCubic = refl
+
+leftward_alone : (leftward : Bool) → list_any is_leftward (direction_text leftward ∷ []) ≡ leftward
+unfolding is_word
+leftward_alone true = refl
+leftward_alone false = refl
+
+leftward_read : (curve : Curve) (leftward : Bool) → list_any is_leftward (curve_text curve ∷ direction_text leftward ∷ []) ≡ leftward
+leftward_read curve leftward = rw (no_leftward curve) (leftward_alone leftward)
 
 -- the words of a transition are none, or those of one that takes time
 data Shape (words : List (List ℕ)) (trans : TransView) : Type 0 where
   Cuts : words ≡ [] → trans ≡ cut → Shape words trans
   Takes : (k d c r : List ℕ) → words ≡ k ∷ d ∷ c ∷ r ∷ [] → IsTimed k d c r trans → Shape words trans
 
-timed_shape : (kind : Kind) (duration : ℕ) (leftward : Bool) → duration ≤ MAX_DURATION → IsTimedKind kind
-    → trans_of kind duration Linear leftward ≡ record { kind = kind; duration = duration; curve = Linear; leftward = leftward }
-    → Shape (kind_text kind ∷ decimal duration ∷ codes "LINEAR" ∷ direction_text leftward ∷ []) (record { kind = kind; duration = duration; curve = Linear; leftward = leftward })
-timed_shape kind duration leftward short timed kept =
-    Takes (kind_text kind) (decimal duration) (codes "LINEAR") (direction_text leftward) refl (record {
+timed_shape : (kind : Kind) (duration : ℕ) (curve : Curve) (leftward : Bool) → duration ≤ MAX_DURATION → IsTimedKind kind
+    → trans_of kind duration curve leftward ≡ record { kind = kind; duration = duration; curve = curve; leftward = leftward }
+    → Shape (kind_text kind ∷ decimal duration ∷ curve_text curve ∷ direction_text leftward ∷ []) (record { kind = kind; duration = duration; curve = curve; leftward = leftward })
+timed_shape kind duration curve leftward short timed kept =
+    Takes (kind_text kind) (decimal duration) (curve_text curve) (direction_text leftward) refl (record {
       option = timed.option;
       cuts = timed.cuts;
       kind = timed.kind;
       number = number_within-decimal 0 MAX_DURATION duration (omega arith) short (omega (arith, short));
-      curve = linear_curve;
+      curve = curve_read curve;
       direction = direction_read leftward;
-      leftward = leftward_read leftward;
+      leftward = leftward_read curve leftward;
       kept = kept;
     })
 
 shape_of : (kind : Kind) (duration : ℕ) (curve : Curve) (leftward : Bool) → duration ≤ MAX_DURATION
     → trans_of kind duration curve leftward ≡ record { kind = kind; duration = duration; curve = curve; leftward = leftward }
     → Shape (meant (transition_words kind (record { kind = kind; duration = duration; curve = curve; leftward = leftward }))) (record { kind = kind; duration = duration; curve = curve; leftward = leftward })
-shape_of Cut duration Linear leftward short kept = Cuts refl (sym kept)
-shape_of Mix duration Linear leftward short kept = timed_shape Mix duration leftward short mix_kind kept
-shape_of Push duration Linear leftward short kept = timed_shape Push duration leftward short push_kind kept
-shape_of Slide duration Linear leftward short kept = timed_shape Slide duration leftward short slide_kind kept
-shape_of Wipe duration Linear leftward short kept = timed_shape Wipe duration leftward short wipe_kind kept
+shape_of Cut duration curve leftward short kept = Cuts refl (sym kept)
+shape_of Mix duration curve leftward short kept = timed_shape Mix duration curve leftward short mix_kind kept
+shape_of Push duration curve leftward short kept = timed_shape Push duration curve leftward short push_kind kept
+shape_of Slide duration curve leftward short kept = timed_shape Slide duration curve leftward short slide_kind kept
+shape_of Wipe duration curve leftward short kept = timed_shape Wipe duration curve leftward short wipe_kind kept
 
 -- the other options
 loop_option_read : option_of (codes "LOOP") ≡ Some Loop

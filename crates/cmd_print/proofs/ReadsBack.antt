@@ -1,5 +1,5 @@
 -- Each command that is known is read back from the words that are printed of it.
-use Rattle.std.proofs.Common.{◌≡◌, ℕ, ◌≤◌, Bool, true, false, ◌==◌, nat_lt, List, [], ◌∷◌, length, Ok, ℤ, pos, refl, sym, ap, ◌∙◌, arith}
+use Rattle.std.proofs.Common.{◌≡◌, ℕ, ◌≤◌, Bool, true, false, cond, ◌==◌, nat_lt, List, [], ◌∷◌, length, Ok, ℤ, pos, refl, sym, ap, ◌∙◌, arith}
 use Rattle.std.specs.Prelude.{Some, codes, decimal}
 use Rattle.std.proofs.lemmas.Bool.{lt-ltb, ne_eqb}
 use Rattle.amcp_text.specs.Numbers.{number_within}
@@ -7,6 +7,7 @@ use Rattle.amcp_text.specs.Micros.{printed_micro}
 use Rattle.play_types.specs.Config.{ConfigView}
 use Rattle.play_types.specs.Media.{MediaNameView}
 use Rattle.play_types.specs.Place.{PlaceView}
+use Rattle.play_types.specs.RecNames.{is_rec_word}
 use Rattle.play_types.specs.Take.{TakeView, loaded, played}
 use Rattle.play_types.specs.Transition.{TransView, cut}
 use Rattle.play_types.specs.Setting.{SettingView}
@@ -22,10 +23,11 @@ use Rattle.play_types.specs.declared.command.Cmd.TheVariants as cmd
 use Rattle.play_types.specs.declared.parsed.Parsed.TheVariants.{Stage}
 use Rattle.history_model.specs.commands.Mixer.{mixer, numbers_of, timing_at, number_of}
 use Rattle.history_model.specs.commands.Command.{parsed, play, load, load_bg, clear, swap}
-use Rattle.history_model.specs.text.Commands.{place_text, arguments, command_words}
+use Rattle.history_model.specs.commands.Recording.{add_file, remove_file}
+use Rattle.history_model.specs.text.Commands.{Plain, Quoted, place_text, recording_word, word_meant, arguments, command_words}
 use Rattle.cmd_print.proofs.Numbers.{number_within-decimal, decimal_is_no_word}
-use Rattle.cmd_print.proofs.Known.{IsChannelOf, IsPlaceOf, IsKnownTake, IsKnownSetting, IsKnown}
-use Rattle.cmd_print.proofs.Reading.{meant, line_of, parsed_line, take_read, area_of-channel, area_of-place}
+use Rattle.cmd_print.proofs.Known.{IsChannelOf, IsPlaceOf, IsKnownTake, IsKnownRecording, IsKnownSetting, IsKnown}
+use Rattle.cmd_print.proofs.Reading.{meant, line_of, parsed_line, curve_read, take_read, area_of-channel, area_of-place}
 
 -- a line with a producer has enough words
 long_line : (one two three : List ℕ) (more : List (List ℕ)) → nat_lt 2 (length (one ∷ two ∷ three ∷ more)) ≡ true
@@ -43,6 +45,14 @@ loaded_same take cuts plain =
 
 played_same : (take : TakeView) → take.auto ≡ false → played take ≡ take
 played_same take plain = ap (λ (b : Bool). record take { auto = b }) (sym plain)
+
+-- the name of a recording is meant by its word
+meant_recording : (name : List ℕ) → word_meant (recording_word name) ≡ name
+meant_recording name = by_test (is_rec_word name)
+  where
+    by_test : (b : Bool) → word_meant (cond b (Plain name) (Quoted name)) ≡ name
+    by_test true = refl
+    by_test false = refl
 
 -- a command of the stage is read back from its words
 abbrev IsReadBack : ConfigView → List MediaNameView → Cmd → Type 0
@@ -167,9 +177,9 @@ module _ (config : ConfigView) (media : List MediaNameView) (few : length config
       ∙ rw (area_of-place (line_of config media name.Mixer (words_of_line (cmd.Value place prop.Keyer))) few 1 place at) refl
 
   -- settings
-  abbrev set_view : PlaceView → Prop → List ℤ → ℕ → Bool → SettingView
-  set_view place property values duration deferred =
-      record { place = place; prop = property; values = values; duration = duration; curve = Linear; deferred = deferred }
+  abbrev set_view : PlaceView → Prop → List ℤ → ℕ → Curve → Bool → SettingView
+  set_view place property values duration curve deferred =
+      record { place = place; prop = property; values = values; duration = duration; curve = curve; deferred = deferred }
 
   abbrev zeros_after : ℤ → List ℤ
   zeros_after a = a ∷ pos 0 ∷ pos 0 ∷ pos 0 ∷ []
@@ -180,85 +190,100 @@ module _ (config : ConfigView) (media : List MediaNameView) (few : length config
   no_defer : (duration : ℕ) → duration ≤ MAX_DURATION → is_word (codes "DEFER") (decimal duration) ≡ false
   no_defer duration short = decimal_is_no_word duration 68 (69 ∷ 70 ∷ 69 ∷ 82 ∷ []) (omega (arith, short)) (omega arith)
 
-  opacity_read : (place : PlaceView) (a : ℤ) (duration : ℕ) (deferred : Bool) → IsPlaceOf config place → number_of prop.Opacity (printed_micro a) ≡ Some a → duration ≤ MAX_DURATION
-      → IsReadBack config media (cmd.Set (set_view place prop.Opacity (zeros_after a) duration deferred))
+  opacity_read : (place : PlaceView) (a : ℤ) (duration : ℕ) (curve : Curve) (deferred : Bool) → IsPlaceOf config place → number_of prop.Opacity (printed_micro a) ≡ Some a → duration ≤ MAX_DURATION
+      → IsReadBack config media (cmd.Set (set_view place prop.Opacity (zeros_after a) duration curve deferred))
   unfolding mixer numbers_of timing_at is_word prop_of
-  opacity_read place a duration true at again short =
-      let line = line_of config media name.Mixer (words_of_line (cmd.Set (set_view place prop.Opacity (zeros_after a) duration true))) in
-      parsed_line config media name.Mixer (words_of_line (cmd.Set (set_view place prop.Opacity (zeros_after a) duration true)))
-      ∙ rw (area_of-place line few 1 place at, again, no_defer duration short, duration_read duration short) refl
-  opacity_read place a duration false at again short =
-      let line = line_of config media name.Mixer (words_of_line (cmd.Set (set_view place prop.Opacity (zeros_after a) duration false))) in
-      parsed_line config media name.Mixer (words_of_line (cmd.Set (set_view place prop.Opacity (zeros_after a) duration false)))
-      ∙ rw (area_of-place line few 1 place at, again, no_defer duration short, duration_read duration short) refl
+  opacity_read place a duration curve true at again short =
+      let line = line_of config media name.Mixer (words_of_line (cmd.Set (set_view place prop.Opacity (zeros_after a) duration curve true))) in
+      parsed_line config media name.Mixer (words_of_line (cmd.Set (set_view place prop.Opacity (zeros_after a) duration curve true)))
+      ∙ rw (area_of-place line few 1 place at, again, no_defer duration short, duration_read duration short, curve_read curve) refl
+  opacity_read place a duration curve false at again short =
+      let line = line_of config media name.Mixer (words_of_line (cmd.Set (set_view place prop.Opacity (zeros_after a) duration curve false))) in
+      parsed_line config media name.Mixer (words_of_line (cmd.Set (set_view place prop.Opacity (zeros_after a) duration curve false)))
+      ∙ rw (area_of-place line few 1 place at, again, no_defer duration short, duration_read duration short, curve_read curve) refl
 
-  volume_read : (place : PlaceView) (a : ℤ) (duration : ℕ) (deferred : Bool) → IsPlaceOf config place → number_of prop.Volume (printed_micro a) ≡ Some a → duration ≤ MAX_DURATION
-      → IsReadBack config media (cmd.Set (set_view place prop.Volume (zeros_after a) duration deferred))
+  volume_read : (place : PlaceView) (a : ℤ) (duration : ℕ) (curve : Curve) (deferred : Bool) → IsPlaceOf config place → number_of prop.Volume (printed_micro a) ≡ Some a → duration ≤ MAX_DURATION
+      → IsReadBack config media (cmd.Set (set_view place prop.Volume (zeros_after a) duration curve deferred))
   unfolding mixer numbers_of timing_at is_word prop_of
-  volume_read place a duration true at again short =
-      let line = line_of config media name.Mixer (words_of_line (cmd.Set (set_view place prop.Volume (zeros_after a) duration true))) in
-      parsed_line config media name.Mixer (words_of_line (cmd.Set (set_view place prop.Volume (zeros_after a) duration true)))
-      ∙ rw (area_of-place line few 1 place at, again, no_defer duration short, duration_read duration short) refl
-  volume_read place a duration false at again short =
-      let line = line_of config media name.Mixer (words_of_line (cmd.Set (set_view place prop.Volume (zeros_after a) duration false))) in
-      parsed_line config media name.Mixer (words_of_line (cmd.Set (set_view place prop.Volume (zeros_after a) duration false)))
-      ∙ rw (area_of-place line few 1 place at, again, no_defer duration short, duration_read duration short) refl
+  volume_read place a duration curve true at again short =
+      let line = line_of config media name.Mixer (words_of_line (cmd.Set (set_view place prop.Volume (zeros_after a) duration curve true))) in
+      parsed_line config media name.Mixer (words_of_line (cmd.Set (set_view place prop.Volume (zeros_after a) duration curve true)))
+      ∙ rw (area_of-place line few 1 place at, again, no_defer duration short, duration_read duration short, curve_read curve) refl
+  volume_read place a duration curve false at again short =
+      let line = line_of config media name.Mixer (words_of_line (cmd.Set (set_view place prop.Volume (zeros_after a) duration curve false))) in
+      parsed_line config media name.Mixer (words_of_line (cmd.Set (set_view place prop.Volume (zeros_after a) duration curve false)))
+      ∙ rw (area_of-place line few 1 place at, again, no_defer duration short, duration_read duration short, curve_read curve) refl
 
   keyer_read : (place : PlaceView) (a : ℤ) (deferred : Bool) → IsPlaceOf config place → number_of prop.Keyer (printed_micro a) ≡ Some a
-      → IsReadBack config media (cmd.Set (set_view place prop.Keyer (zeros_after a) 0 deferred))
+      → IsReadBack config media (cmd.Set (set_view place prop.Keyer (zeros_after a) 0 Linear deferred))
   unfolding mixer numbers_of timing_at is_word prop_of
   keyer_read place a true at again =
-      let line = line_of config media name.Mixer (words_of_line (cmd.Set (set_view place prop.Keyer (zeros_after a) 0 true))) in
-      parsed_line config media name.Mixer (words_of_line (cmd.Set (set_view place prop.Keyer (zeros_after a) 0 true)))
+      let line = line_of config media name.Mixer (words_of_line (cmd.Set (set_view place prop.Keyer (zeros_after a) 0 Linear true))) in
+      parsed_line config media name.Mixer (words_of_line (cmd.Set (set_view place prop.Keyer (zeros_after a) 0 Linear true)))
       ∙ rw (area_of-place line few 1 place at, again) refl
   keyer_read place a false at again =
-      let line = line_of config media name.Mixer (words_of_line (cmd.Set (set_view place prop.Keyer (zeros_after a) 0 false))) in
-      parsed_line config media name.Mixer (words_of_line (cmd.Set (set_view place prop.Keyer (zeros_after a) 0 false)))
+      let line = line_of config media name.Mixer (words_of_line (cmd.Set (set_view place prop.Keyer (zeros_after a) 0 Linear false))) in
+      parsed_line config media name.Mixer (words_of_line (cmd.Set (set_view place prop.Keyer (zeros_after a) 0 Linear false)))
       ∙ rw (area_of-place line few 1 place at, again) refl
 
-  fill_read : (place : PlaceView) (a b c d : ℤ) (duration : ℕ) (deferred : Bool) → IsPlaceOf config place
+  fill_read : (place : PlaceView) (a b c d : ℤ) (duration : ℕ) (curve : Curve) (deferred : Bool) → IsPlaceOf config place
       → number_of prop.Fill (printed_micro a) ≡ Some a → number_of prop.Fill (printed_micro b) ≡ Some b
       → number_of prop.Fill (printed_micro c) ≡ Some c → number_of prop.Fill (printed_micro d) ≡ Some d → duration ≤ MAX_DURATION
-      → IsReadBack config media (cmd.Set (set_view place prop.Fill (a ∷ b ∷ c ∷ d ∷ []) duration deferred))
+      → IsReadBack config media (cmd.Set (set_view place prop.Fill (a ∷ b ∷ c ∷ d ∷ []) duration curve deferred))
   unfolding mixer numbers_of timing_at is_word prop_of
-  fill_read place a b c d duration true at again_a again_b again_c again_d short =
-      let line = line_of config media name.Mixer (words_of_line (cmd.Set (set_view place prop.Fill (a ∷ b ∷ c ∷ d ∷ []) duration true))) in
-      parsed_line config media name.Mixer (words_of_line (cmd.Set (set_view place prop.Fill (a ∷ b ∷ c ∷ d ∷ []) duration true)))
-      ∙ rw (area_of-place line few 1 place at, again_a, again_b, again_c, again_d, no_defer duration short, duration_read duration short) refl
-  fill_read place a b c d duration false at again_a again_b again_c again_d short =
-      let line = line_of config media name.Mixer (words_of_line (cmd.Set (set_view place prop.Fill (a ∷ b ∷ c ∷ d ∷ []) duration false))) in
-      parsed_line config media name.Mixer (words_of_line (cmd.Set (set_view place prop.Fill (a ∷ b ∷ c ∷ d ∷ []) duration false)))
-      ∙ rw (area_of-place line few 1 place at, again_a, again_b, again_c, again_d, no_defer duration short, duration_read duration short) refl
+  fill_read place a b c d duration curve true at again_a again_b again_c again_d short =
+      let line = line_of config media name.Mixer (words_of_line (cmd.Set (set_view place prop.Fill (a ∷ b ∷ c ∷ d ∷ []) duration curve true))) in
+      parsed_line config media name.Mixer (words_of_line (cmd.Set (set_view place prop.Fill (a ∷ b ∷ c ∷ d ∷ []) duration curve true)))
+      ∙ rw (area_of-place line few 1 place at, again_a, again_b, again_c, again_d, no_defer duration short, duration_read duration short, curve_read curve) refl
+  fill_read place a b c d duration curve false at again_a again_b again_c again_d short =
+      let line = line_of config media name.Mixer (words_of_line (cmd.Set (set_view place prop.Fill (a ∷ b ∷ c ∷ d ∷ []) duration curve false))) in
+      parsed_line config media name.Mixer (words_of_line (cmd.Set (set_view place prop.Fill (a ∷ b ∷ c ∷ d ∷ []) duration curve false)))
+      ∙ rw (area_of-place line few 1 place at, again_a, again_b, again_c, again_d, no_defer duration short, duration_read duration short, curve_read curve) refl
 
-  clip_read : (place : PlaceView) (a b c d : ℤ) (duration : ℕ) (deferred : Bool) → IsPlaceOf config place
+  clip_read : (place : PlaceView) (a b c d : ℤ) (duration : ℕ) (curve : Curve) (deferred : Bool) → IsPlaceOf config place
       → number_of prop.Clip (printed_micro a) ≡ Some a → number_of prop.Clip (printed_micro b) ≡ Some b
       → number_of prop.Clip (printed_micro c) ≡ Some c → number_of prop.Clip (printed_micro d) ≡ Some d → duration ≤ MAX_DURATION
-      → IsReadBack config media (cmd.Set (set_view place prop.Clip (a ∷ b ∷ c ∷ d ∷ []) duration deferred))
+      → IsReadBack config media (cmd.Set (set_view place prop.Clip (a ∷ b ∷ c ∷ d ∷ []) duration curve deferred))
   unfolding mixer numbers_of timing_at is_word prop_of
-  clip_read place a b c d duration true at again_a again_b again_c again_d short =
-      let line = line_of config media name.Mixer (words_of_line (cmd.Set (set_view place prop.Clip (a ∷ b ∷ c ∷ d ∷ []) duration true))) in
-      parsed_line config media name.Mixer (words_of_line (cmd.Set (set_view place prop.Clip (a ∷ b ∷ c ∷ d ∷ []) duration true)))
-      ∙ rw (area_of-place line few 1 place at, again_a, again_b, again_c, again_d, no_defer duration short, duration_read duration short) refl
-  clip_read place a b c d duration false at again_a again_b again_c again_d short =
-      let line = line_of config media name.Mixer (words_of_line (cmd.Set (set_view place prop.Clip (a ∷ b ∷ c ∷ d ∷ []) duration false))) in
-      parsed_line config media name.Mixer (words_of_line (cmd.Set (set_view place prop.Clip (a ∷ b ∷ c ∷ d ∷ []) duration false)))
-      ∙ rw (area_of-place line few 1 place at, again_a, again_b, again_c, again_d, no_defer duration short, duration_read duration short) refl
+  clip_read place a b c d duration curve true at again_a again_b again_c again_d short =
+      let line = line_of config media name.Mixer (words_of_line (cmd.Set (set_view place prop.Clip (a ∷ b ∷ c ∷ d ∷ []) duration curve true))) in
+      parsed_line config media name.Mixer (words_of_line (cmd.Set (set_view place prop.Clip (a ∷ b ∷ c ∷ d ∷ []) duration curve true)))
+      ∙ rw (area_of-place line few 1 place at, again_a, again_b, again_c, again_d, no_defer duration short, duration_read duration short, curve_read curve) refl
+  clip_read place a b c d duration curve false at again_a again_b again_c again_d short =
+      let line = line_of config media name.Mixer (words_of_line (cmd.Set (set_view place prop.Clip (a ∷ b ∷ c ∷ d ∷ []) duration curve false))) in
+      parsed_line config media name.Mixer (words_of_line (cmd.Set (set_view place prop.Clip (a ∷ b ∷ c ∷ d ∷ []) duration curve false)))
+      ∙ rw (area_of-place line few 1 place at, again_a, again_b, again_c, again_d, no_defer duration short, duration_read duration short, curve_read curve) refl
 
   set_read : (place : PlaceView) (property : Prop) (values : List ℤ) (duration : ℕ) (curve : Curve) (deferred : Bool)
       → IsKnownSetting config (record { place = place; prop = property; values = values; duration = duration; curve = curve; deferred = deferred })
       → IsReadBack config media (cmd.Set (record { place = place; prop = property; values = values; duration = duration; curve = curve; deferred = deferred }))
-  set_read place prop.Opacity values duration Linear deferred known =
-      rw known.numbers.is (opacity_read place known.numbers.a duration deferred known.place known.numbers.again known.short)
-  set_read place prop.Volume values duration Linear deferred known =
-      rw known.numbers.is (volume_read place known.numbers.a duration deferred known.place known.numbers.again known.short)
-  set_read place prop.Keyer values duration Linear deferred known =
-      rw (known.numbers.is, ← known.duration) (keyer_read place known.numbers.a deferred known.place known.numbers.again)
-  set_read place prop.Fill values duration Linear deferred known =
+  set_read place prop.Opacity values duration curve deferred known =
+      rw known.numbers.is (opacity_read place known.numbers.a duration curve deferred known.place known.numbers.again known.short)
+  set_read place prop.Volume values duration curve deferred known =
+      rw known.numbers.is (volume_read place known.numbers.a duration curve deferred known.place known.numbers.again known.short)
+  set_read place prop.Keyer values duration curve deferred known =
+      rw (known.numbers.is, ← known.duration, ← known.curve) (keyer_read place known.numbers.a deferred known.place known.numbers.again)
+  set_read place prop.Fill values duration curve deferred known =
       let n = known.numbers in
-      rw n.is (fill_read place n.a n.b n.c n.d duration deferred known.place n.again_a n.again_b n.again_c n.again_d known.short)
-  set_read place prop.Clip values duration Linear deferred known =
+      rw n.is (fill_read place n.a n.b n.c n.d duration curve deferred known.place n.again_a n.again_b n.again_c n.again_d known.short)
+  set_read place prop.Clip values duration curve deferred known =
       let n = known.numbers in
-      rw n.is (clip_read place n.a n.b n.c n.d duration deferred known.place n.again_a n.again_b n.again_c n.again_d known.short)
+      rw n.is (clip_read place n.a n.b n.c n.d duration curve deferred known.place n.again_a n.again_b n.again_c n.again_d known.short)
+
+  -- marks of recordings
+  add_file_read : (channel : ℕ) (name : List ℕ) → IsChannelOf config channel → IsKnownRecording media name → IsReadBack config media (cmd.AddFile channel name)
+  unfolding add_file is_word
+  add_file_read channel recorded at known =
+      let words = decimal channel ∷ codes "FILE" ∷ recorded ∷ [] in
+      let line = line_of config media name.Add words in
+      rw (meant_recording recorded)
+      (parsed_line config media name.Add words ∙ rw (area_of-channel line few 1 channel at, known.free, known.again) refl)
+
+  remove_file_read : (channel : ℕ) → IsChannelOf config channel → IsReadBack config media (cmd.RemoveFile channel)
+  unfolding remove_file is_word
+  remove_file_read channel at =
+      let line = line_of config media name.Remove (words_of_line (cmd.RemoveFile channel)) in
+      parsed_line config media name.Remove (words_of_line (cmd.RemoveFile channel)) ∙ rw (area_of-channel line few 1 channel at) refl
 
   -- each command that is known is read back
   pub command_read : (command : Cmd) → IsKnown config media command → parsed config media (meant (command_words media command)) ≡ Ok (Stage command)
@@ -277,5 +302,7 @@ module _ (config : ConfigView) (media : List MediaNameView) (few : length config
   command_read (cmd.CommitMixer channel) known = commit_read channel known
   command_read (cmd.ResetLayer place) known = reset_layer_read place known
   command_read (cmd.ResetChannel channel) known = reset_channel_read channel known
+  command_read (cmd.AddFile channel name) known = add_file_read channel name known.0 known.1
+  command_read (cmd.RemoveFile channel) known = remove_file_read channel known
   command_read (cmd.Value place property) known = value_read place property known
   command_read cmd.Info known = parsed_line config media name.Info []

@@ -1,6 +1,6 @@
 -- What is known of a command that the words of a line ask for: commands of the mixer, and all commands.
 use Rattle.std.proofs.Common.{◌≡◌, ℕ, ◌+◌, ◌≤◌, Bool, true, false, cond, ◌&&◌, nat_lt, List, [], ◌∷◌, length, Result, Ok, Err, ℤ, pos, negsuc, neg_ℤ, ◌≤ℤ◌, refl, sym, ap, ◌∙◌, subst, arith, All}
-use Rattle.std.specs.Prelude.{Option, Some, None, slice_get, codes, option_and_then, ok_or, unsigned_abs}
+use Rattle.std.specs.Prelude.{Option, Some, None, slice_get, codes, option_and_then, is_some, unwrap_or, ok_or, unsigned_abs}
 use Rattle.std.specs.Int.Signed.{le_z}
 use Rattle.std.specs.Fmt.{digits}
 use Rattle.std.specs.Str.{bytes_eq}
@@ -12,9 +12,11 @@ use Rattle.fixed_params.proofs.ReadsBack.{reads_back}
 use Rattle.play_types.specs.Config.{ConfigView}
 use Rattle.play_types.specs.Media.{MediaNameView, IsMediaName}
 use Rattle.play_types.specs.Place.{PlaceView}
-use Rattle.play_types.specs.Setting.{values_of, duration_of}
+use Rattle.play_types.specs.Setting.{values_of, duration_of, kept_curve}
 use Rattle.play_types.specs.Words.{is_word, name_of, prop_of}
 use Rattle.play_types.specs.declared.transition.TheConstants.{MAX_DURATION}
+use Rattle.play_types.specs.declared.transition.Curve.{Curve}
+use Rattle.play_types.specs.declared.transition.Curve.TheVariants.{Linear}
 use Rattle.play_types.specs.declared.setting.TheConstants.{MICROS_PER_UNIT, MAX_MICROS}
 use Rattle.play_types.specs.declared.setting.Prop.{Prop}
 use Rattle.play_types.specs.declared.setting.Prop.TheVariants as prop
@@ -25,14 +27,16 @@ use Rattle.play_types.specs.declared.command.Cmd.TheVariants as cmd
 use Rattle.play_types.specs.declared.parsed.Parsed.TheVariants as parsing
 use Rattle.play_types.specs.declared.parsed.Refusal.{Refusal}
 use Rattle.play_types.specs.declared.parsed.Refusal.TheVariants.{Unknown, Missing, Illegal}
-use Rattle.history_model.specs.commands.Line.{Line, ◌>>=◌, legal, word_at, number_at, ended, flag_at, stands_at}
+use Rattle.history_model.specs.commands.Line.{Line, ◌>>=◌, legal, word_at, number_at, ended, flag_at, curve_at}
 use Rattle.history_model.specs.commands.Places.{Area, place_of, area_at}
 use Rattle.history_model.specs.commands.Mixer.{Timing, up_to, number_of, micros_at, numbers_of, one_number, four_numbers, deferral_at, has_duration, timing_at, timing_of, setting_for, property_command, reset, mixer_command, mixer}
+use Rattle.history_model.specs.commands.Recording.{add_file, remove_file}
 use Rattle.history_model.specs.commands.Command.{parsed, play, load, load_bg, clear, swap, staged, place_command, meaning_by_name, enough, meaning, least_words}
 use Rattle.cmd_print.proofs.Numbers.{number_within-between}
 use Rattle.cmd_print.proofs.Known.{IsChannelOf, IsPlaceOf, IsOneNumber, AreFourNumbers, AreKnownNumbers, IsKnown}
 use Rattle.cmd_print.proofs.Asked.{bound, given_of, ended_of, fine, ok_injective, some_injective, IsLayer, IsKnownArea, area_at_known, place_known, place_command_known, clear_known, swap_known}
 use Rattle.cmd_print.proofs.Takes.{load_known, load_bg_known, play_known}
+use Rattle.cmd_print.proofs.Recordings.{add_file_known, remove_file_known}
 
 -- a number of a property is read again as it is printed
 wide_one : (z v : ℤ) (wide : Bool) → is_wide z ≡ wide → cond wide (Some z) None ≡ Some v → is_wide v ≡ true
@@ -144,25 +148,30 @@ numbers_known line prop.Volume numbers h = kept_one prop.Volume numbers (values_
 numbers_known line prop.Keyer numbers h = kept_one prop.Keyer numbers (values_of prop.Keyer) (λ a. refl) (one_known line prop.Keyer numbers h)
 
 -- the duration that is written is in range
-abbrev timing_with : ℕ → Bool → Timing
-timing_with duration deferred = record { duration = duration; deferred = deferred }
+abbrev timing_with : ℕ → Curve → Bool → Timing
+timing_with duration curve deferred = record { duration = duration; curve = curve; deferred = deferred }
 
-deferral_short : (line : Line) (at duration : ℕ) (timing : Timing) → duration ≤ MAX_DURATION → deferral_at line at duration ≡ Ok timing → timing.duration ≤ MAX_DURATION
-deferral_short line at duration timing short h =
-    let one = bound (flag_at line at (codes "DEFER")) (λ deferred. Ok (timing_with duration deferred)) timing h in
-    subst (λ (t : Timing). t.duration ≤ MAX_DURATION) (ok_injective (timing_with duration one.value) timing one.rest) short
+deferral_short : (line : Line) (at duration : ℕ) (curve : Curve) (timing : Timing) → duration ≤ MAX_DURATION → deferral_at line at duration curve ≡ Ok timing
+    → timing.duration ≤ MAX_DURATION
+deferral_short line at duration curve timing short h =
+    let one = bound (flag_at line at (codes "DEFER")) (λ deferred. Ok (timing_with duration curve deferred)) timing h in
+    subst (λ (t : Timing). t.duration ≤ MAX_DURATION) (ok_injective (timing_with duration curve one.value) timing one.rest) short
 
 abbrev after_duration : Line → ℕ → ℕ
-after_duration line at = cond (stands_at line (at + 1) (codes "LINEAR")) (at + 2) (at + 1)
+after_duration line at = cond (is_some (curve_at line (at + 1))) (at + 2) (at + 1)
+
+abbrev said_curve : Line → ℕ → Curve
+said_curve line at = unwrap_or (curve_at line (at + 1)) Linear
 
 timing_by : (line : Line) (at : ℕ) (written : Bool) (timing : Timing)
-    → cond written (number_at line at 0 MAX_DURATION >>= (λ duration. deferral_at line (after_duration line at) duration)) (deferral_at line at 0) ≡ Ok timing → timing.duration ≤ MAX_DURATION
+    → cond written (number_at line at 0 MAX_DURATION >>= (λ duration. deferral_at line (after_duration line at) duration (said_curve line at))) (deferral_at line at 0 Linear) ≡ Ok timing
+    → timing.duration ≤ MAX_DURATION
 timing_by line at true timing h =
-    let one = bound (number_at line at 0 MAX_DURATION) (λ duration. deferral_at line (after_duration line at) duration) timing h in
+    let one = bound (number_at line at 0 MAX_DURATION) (λ duration. deferral_at line (after_duration line at) duration (said_curve line at)) timing h in
     let two = bound (word_at line at) (λ word. legal line at (number_within 0 MAX_DURATION word)) one.value one.first in
     let read = given_of (number_within 0 MAX_DURATION two.value) (Illegal line.name at) one.value two.rest in
-    deferral_short line (after_duration line at) one.value timing ((number_within-between 0 MAX_DURATION two.value one.value read).high) one.rest
-timing_by line at false timing h = deferral_short line at 0 timing (omega arith) h
+    deferral_short line (after_duration line at) one.value (said_curve line at) timing ((number_within-between 0 MAX_DURATION two.value one.value read).high) one.rest
+timing_by line at false timing h = deferral_short line at 0 Linear timing (omega arith) h
 
 timing_short : (line : Line) (at : ℕ) (timing : Timing) → timing_at line at ≡ Ok timing → timing.duration ≤ MAX_DURATION
 unfolding timing_at
@@ -173,7 +182,7 @@ property_short line prop.Opacity timing h = timing_short line 4 timing h
 property_short line prop.Fill timing h = timing_short line 7 timing h
 property_short line prop.Clip timing h = timing_short line 7 timing h
 property_short line prop.Volume timing h = timing_short line 4 timing h
-property_short line prop.Keyer timing h = deferral_short line 4 0 timing (omega arith) h
+property_short line prop.Keyer timing h = deferral_short line 4 0 Linear timing (omega arith) h
 
 kept_short : (property : Prop) (duration : ℕ) → duration ≤ MAX_DURATION → duration_of property duration ≤ MAX_DURATION
 kept_short prop.Opacity duration short = short
@@ -189,6 +198,13 @@ kept_twice prop.Clip duration = refl
 kept_twice prop.Volume duration = refl
 kept_twice prop.Keyer duration = refl
 
+curve_twice : (property : Prop) (curve : Curve) → kept_curve property (kept_curve property curve) ≡ kept_curve property curve
+curve_twice prop.Opacity curve = refl
+curve_twice prop.Fill curve = refl
+curve_twice prop.Clip curve = refl
+curve_twice prop.Volume curve = refl
+curve_twice prop.Keyer curve = refl
+
 property_by : (line : Line) (place : PlaceView) (property : Prop) (sets : Bool) (asked : Cmd) → IsPlaceOf line.config place
     → cond sets (numbers_of line property >>= (λ numbers. timing_of line property >>= (λ timing. Ok (cmd.Set (setting_for place property numbers timing))))) (Ok (cmd.Value place property)) ≡ Ok asked
     → IsKnown line.config line.media asked
@@ -201,6 +217,7 @@ property_by line place property true asked known h =
       numbers = numbers_known line property one.value one.first;
       short = kept_short property two.value.duration (property_short line property two.value two.first);
       duration = kept_twice property two.value.duration;
+      curve = curve_twice property two.value.curve;
     })
 property_by line place property false asked known h =
     subst (IsKnown line.config line.media) (ok_injective (cmd.Value place property) asked h) known
@@ -246,6 +263,8 @@ by_name line name.Stop asked names h = place_command_known line cmd.StopLayer as
 by_name line name.Clear asked names h = clear_known line asked (staged_of (clear line) asked h)
 by_name line name.Swap asked names h = swap_known line asked (staged_of (swap line) asked h)
 by_name line name.Mixer asked names h = mixer_known line asked (staged_of (mixer line) asked h)
+by_name line name.Add asked names h = add_file_known line asked (staged_of (add_file line) asked h)
+by_name line name.Remove asked names h = remove_file_known line asked (staged_of (remove_file line) asked h)
 by_name line name.Begin asked names h = let other = ended_of line 1 parsing.Begin (parsing.Stage asked) h in cc
 by_name line name.Commit asked names h = let other = ended_of line 1 parsing.Commit (parsing.Stage asked) h in cc
 by_name line name.Discard asked names h = let other = ended_of line 1 parsing.Discard (parsing.Stage asked) h in cc
@@ -259,6 +278,7 @@ by_name line name.Version asked names h =
     cc
 by_name line name.Bye asked names h = let other = ended_of line 1 parsing.Bye (parsing.Stage asked) h in cc
 by_name line name.Kill asked names h = let other = ended_of line 1 parsing.Kill (parsing.Stage asked) h in cc
+by_name line name.Req asked names h = absurd cc
 
 enough_by : (line : Line) (long : Bool) (asked : Cmd) → All IsMediaName line.media → cond long (meaning line) (Err (Missing line.name)) ≡ Ok (parsing.Stage asked) → IsKnown line.config line.media asked
 enough_by line true asked names h = by_name line line.name asked names h

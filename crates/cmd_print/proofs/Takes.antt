@@ -15,7 +15,7 @@ use Rattle.play_types.specs.declared.clip.TheConstants.{MAX_FRAMES}
 use Rattle.play_types.specs.declared.transition.TheConstants.{MAX_DURATION}
 use Rattle.play_types.specs.declared.transition.Kind.{Kind}
 use Rattle.play_types.specs.declared.transition.Kind.TheVariants.{Cut, Mix, Push, Slide, Wipe}
-use Rattle.play_types.specs.declared.transition.Curve.TheVariants.{Linear}
+use Rattle.play_types.specs.declared.transition.Curve.{Curve}
 use Rattle.play_types.specs.declared.take.Spec.{Spec}
 use Rattle.play_types.specs.declared.take.Spec.TheVariants.{Clip, Colour, RouteChannel, RouteLayer}
 use Rattle.play_types.specs.declared.reply.Name.{Name}
@@ -25,7 +25,7 @@ use Rattle.play_types.specs.declared.parsed.Refusal.{Refusal}
 use Rattle.play_types.specs.declared.parsed.Refusal.TheVariants.{Illegal}
 use Rattle.history_model.specs.commands.Line.{Line, ◌>>=◌, legal, word_at}
 use Rattle.history_model.specs.commands.Places.{Area, place_of, area_at}
-use Rattle.history_model.specs.commands.Options.{Options, OptionName, Loop, Transition, Seek, Length, Auto, Written, given, is_leftward, is_option, is_same_option, least_number, most_number, number_len, number_refusal, option_of, option_refusal, option_value, options_from, options_refusal, options_of, options_at, transition_of, unless_refused, written_number}
+use Rattle.history_model.specs.commands.Options.{Options, OptionName, Loop, Transition, Seek, Length, Auto, Written, curve_among, given, is_leftward, is_option, is_same_option, least_number, most_number, number_len, number_refusal, option_of, option_refusal, option_value, options_from, options_refusal, options_of, options_at, transition_of, unless_refused, written_number}
 use Rattle.history_model.specs.commands.Command.{play, load, load_bg}
 use Rattle.history_model.specs.commands.Producer.{played_length, producer_of, take_at, take_for, take_with}
 use Rattle.cmd_print.proofs.Numbers.{IsBetween, number_within-between}
@@ -34,12 +34,12 @@ use Rattle.cmd_print.proofs.Asked.{bound, given_of, ok_injective, some_injective
 use Rattle.cmd_print.proofs.Producers.{IsKnownProducer, producer_known}
 
 -- a transition that is kept of its parts
-trans_known : (kind : Kind) (duration : ℕ) (leftward : Bool) → duration ≤ MAX_DURATION → IsKnownTrans (trans_of kind duration Linear leftward)
-trans_known Cut duration leftward short = record { short = omega arith; kept = refl }
-trans_known Mix duration leftward short = record { short = short; kept = refl }
-trans_known Push duration leftward short = record { short = short; kept = refl }
-trans_known Slide duration leftward short = record { short = short; kept = refl }
-trans_known Wipe duration leftward short = record { short = short; kept = refl }
+trans_known : (kind : Kind) (duration : ℕ) (curve : Curve) (leftward : Bool) → duration ≤ MAX_DURATION → IsKnownTrans (trans_of kind duration curve leftward)
+trans_known Cut duration curve leftward short = record { short = omega arith; kept = refl }
+trans_known Mix duration curve leftward short = record { short = short; kept = refl }
+trans_known Push duration curve leftward short = record { short = short; kept = refl }
+trans_known Slide duration curve leftward short = record { short = short; kept = refl }
+trans_known Wipe duration curve leftward short = record { short = short; kept = refl }
 
 number_below : (most : ℕ) (read : Option ℕ) → ((n : ℕ) → read ≡ Some n → n ≤ most) → unwrap_or read 0 ≤ most
 number_below most None below = omega arith
@@ -57,6 +57,7 @@ transition_known : (found : Option Written) → IsKnownTrans (unwrap_or (option_
 transition_known None = record { short = omega arith; kept = refl }
 transition_known (Some written) =
     trans_known (unwrap_or (kind_of written.word) Cut) (written_number Transition written)
+    (curve_among (drop (number_len written.word Transition written.more) written.more))
     (list_any is_leftward (drop (number_len written.word Transition written.more) written.more)) (written_below Transition written)
 
 -- a length that was not refused is at least 1

@@ -1,6 +1,6 @@
 -- The words of a command have ASCII characters alone, except the name of a clip, and none of them is a blank, a quotation mark
 -- or a backslash.
-use Rattle.std.proofs.Common.{◌≡◌, ℕ, ◌+◌, ◌-◌, ◌/◌, ◌%◌, ◌^◌, ◌<◌, zero, suc, Bool, true, false, not, ◌&&◌, ◌==◌, nat_lt, List, [], ◌∷◌, ◌++◌, map, take, length, ℤ, pos, negsuc, refl, ap, ◌∙◌, arith, inl, inr, append-nil, lit<}
+use Rattle.std.proofs.Common.{◌≡◌, ℕ, ◌+◌, ◌-◌, ◌/◌, ◌%◌, ◌^◌, ◌<◌, zero, suc, Bool, true, false, cond, not, ◌&&◌, ◌==◌, nat_lt, List, [], ◌∷◌, ◌++◌, map, take, length, ℤ, pos, negsuc, refl, ap, ◌∙◌, arith, inl, inr, append-nil, lit<}
 use Rattle.std.specs.Prelude.{encode_utf8_all, codes, decimal, flat_map}
 use Rattle.std.specs.List.{list_all, suffix_len}
 use Rattle.std.specs.Fmt.{digits, digits_onto, digit_glyph}
@@ -12,11 +12,12 @@ use Rattle.std.proofs.lemmas.Str.Ascii.{IsAscii-nil, IsAscii-cons}
 use Rattle.std.proofs.lemmas.List.Folds.{list_all-append}
 use Rattle.amcp_text.specs.Micros.{last_digits, without_end_zeros, printed_unsigned}
 use Rattle.play_types.specs.Place.{PlaceView}
+use Rattle.play_types.specs.RecNames.{is_rec_char, is_rec_word}
 use Rattle.play_types.specs.Media.{MediaNameView}
 use Rattle.play_types.specs.Take.{TakeView}
 use Rattle.play_types.specs.Transition.{TransView}
 use Rattle.play_types.specs.Setting.{SettingView}
-use Rattle.play_types.specs.Words.{name_text, prop_text, kind_text}
+use Rattle.play_types.specs.Words.{curve_text, name_text, prop_text, kind_text}
 use Rattle.play_types.specs.Commands.{command_name}
 use Rattle.play_types.specs.declared.reply.Name.{Name}
 use Rattle.play_types.specs.declared.reply.Name.TheVariants as name
@@ -25,13 +26,13 @@ use Rattle.play_types.specs.declared.take.Spec.TheVariants.{Clip, Colour, RouteC
 use Rattle.play_types.specs.declared.transition.Kind.{Kind}
 use Rattle.play_types.specs.declared.transition.Kind.TheVariants.{Cut, Mix, Push, Slide, Wipe}
 use Rattle.play_types.specs.declared.transition.Curve.{Curve}
-use Rattle.play_types.specs.declared.transition.Curve.TheVariants.{Linear}
+use Rattle.play_types.specs.declared.transition.Curve.TheVariants.{Linear, EaseInQuad, EaseOutQuad, EaseInCubic, EaseOutCubic}
 use Rattle.play_types.specs.declared.setting.Prop.{Prop}
 use Rattle.play_types.specs.declared.setting.Prop.TheVariants as prop
 use Rattle.play_types.specs.declared.command.Cmd.{Cmd}
 use Rattle.play_types.specs.declared.command.Cmd.TheVariants as cmd
 use Rattle.history_model.specs.stage.Answer.{number_count}
-use Rattle.history_model.specs.text.Commands.{Word, Plain, Quoted, word_text, number_word, place_text, place_word, flag_words, capital_digits, producer_word, part_words, curve_text, direction_text, timed_words, transition_words, take_words, micro_word, timing_words, setting_words, arguments, command_text}
+use Rattle.history_model.specs.text.Commands.{Word, Plain, Quoted, word_text, number_word, place_text, place_word, flag_words, capital_digits, producer_word, part_words, direction_text, timed_words, transition_words, take_words, micro_word, timing_words, setting_words, recording_word, arguments, command_text}
 use Rattle.cmd_print.specs.inner.Bytes.{word_bytes, spaced}
 
 -- a visible ASCII character that is no quotation mark and no backslash
@@ -165,6 +166,10 @@ fit_part (RouteLayer place) take = refl
 
 fit_curve : (curve : Curve) → is_fit (Plain (curve_text curve)) ≡ true
 fit_curve Linear = refl
+fit_curve EaseInQuad = refl
+fit_curve EaseOutQuad = refl
+fit_curve EaseInCubic = refl
+fit_curve EaseOutCubic = refl
 
 fit_direction : (leftward : Bool) → is_fit (Plain (direction_text leftward)) ≡ true
 fit_direction true = refl
@@ -222,6 +227,27 @@ fit_setting setting =
     (both (map micro_word numbers) (timing ++ defer) (fit_micros numbers)
     (both timing defer (fit_timing setting.prop setting) (fit_flag setting.deferred (codes "DEFER") refl)))
 
+plain_rec_char : (c : ℕ) → is_rec_char c ≡ true → is_plain c ≡ true
+plain_rec_char c h = grind (arith, nat_tests, h)
+
+plain_rec_chars : (word : List ℕ) → list_all is_rec_char word ≡ true → list_all is_plain word ≡ true
+plain_rec_chars [] h = refl
+plain_rec_chars (c ∷ cs) h =
+    let parts = and_parts (is_rec_char c) (list_all is_rec_char cs) h in
+    rw (plain_rec_char c parts.0, plain_rec_chars cs parts.1) refl
+
+fit_rec_word : (word : List ℕ) → is_rec_word word ≡ true → is_fit (Plain word) ≡ true
+fit_rec_word [] h = cc
+fit_rec_word (c ∷ cs) h = plain_rec_chars (c ∷ cs) (and_parts _ (list_all is_rec_char (c ∷ cs)) h).1
+
+-- the name of a recording can be printed
+fit_recording : (name : List ℕ) → is_fit (recording_word name) ≡ true
+fit_recording name = by_test (is_rec_word name) refl
+  where
+    by_test : (b : Bool) → is_rec_word name ≡ b → is_fit (cond b (Plain name) (Quoted name)) ≡ true
+    by_test true is = fit_rec_word name is
+    by_test false is = refl
+
 pub fit_arguments : (media : List MediaNameView) (command : Cmd) → are_fit (arguments media command) ≡ true
 fit_arguments media (cmd.Load place take) = one_more (place_word place) (take_words media take) (fit_place place) (fit_take media take)
 fit_arguments media (cmd.LoadBg place take) = one_more (place_word place) (take_words media take) (fit_place place) (fit_take media take)
@@ -242,6 +268,10 @@ fit_arguments media (cmd.Set setting) = one_more (place_word setting.place) (set
 fit_arguments media (cmd.CommitMixer channel) = one_more (number_word channel) (Plain (codes "COMMIT") ∷ []) (fit_decimal channel) refl
 fit_arguments media (cmd.ResetLayer place) = one_more (place_word place) (Plain (codes "CLEAR") ∷ []) (fit_place place) refl
 fit_arguments media (cmd.ResetChannel channel) = one_more (number_word channel) (Plain (codes "CLEAR") ∷ []) (fit_decimal channel) refl
+fit_arguments media (cmd.AddFile channel name) =
+    one_more (number_word channel) (Plain (codes "FILE") ∷ recording_word name ∷ []) (fit_decimal channel)
+    (one_more (Plain (codes "FILE")) (recording_word name ∷ []) refl (one_more (recording_word name) [] (fit_recording name) refl))
+fit_arguments media (cmd.RemoveFile channel) = one_more (number_word channel) (Plain (codes "FILE") ∷ []) (fit_decimal channel) refl
 fit_arguments media (cmd.Value place property) =
     one_more (place_word place) (Plain (prop_text property) ∷ []) (fit_place place) (one_more (Plain (prop_text property)) [] (fit_prop property) refl)
 fit_arguments media cmd.Info = refl
@@ -256,6 +286,8 @@ fit_name name.Stop = refl
 fit_name name.Clear = refl
 fit_name name.Swap = refl
 fit_name name.Mixer = refl
+fit_name name.Add = refl
+fit_name name.Remove = refl
 fit_name name.Begin = refl
 fit_name name.Commit = refl
 fit_name name.Discard = refl
@@ -264,6 +296,7 @@ fit_name name.Cls = refl
 fit_name name.Version = refl
 fit_name name.Bye = refl
 fit_name name.Kill = refl
+fit_name name.Req = refl
 
 -- plain characters are ASCII
 pub ascii_of_plain : (cs : List ℕ) → list_all is_plain cs ≡ true → IsAscii cs

@@ -2,15 +2,15 @@
 ghost use Rattle.std.specs.Prelude.{encode_utf8_all, codes, ◌∷◌, ◌++◌, []};
 ghost use Rattle.play_outside.specs.Sink.{Sends};
 ghost use Rattle.play_outside.specs.Gathered.{Adds};
-ghost use Rattle.history_model.specs.text.Commands.{Plain, arguments, command_text, flag_words, number_word, place_word, setting_words, take_words};
+ghost use Rattle.history_model.specs.text.Commands.{Plain, arguments, command_text, flag_words, number_word, place_word, recording_word, setting_words, take_words};
 ghost use Rattle.cmd_print.specs.inner.Bytes.{spaced};
 
 use crate::setting::add_setting;
 use crate::take::add_take;
 use crate::text::Text;
-use crate::word::{add_flag, add_number, add_place, add_word};
-use play_outside::{Sent, Sink};
-use play_types::{Cmd, MediaNames, Place, Setting, Take};
+use crate::word::{add_flag, add_number, add_place, add_rec_name, add_word};
+use play_outside::{Gather, Sent, Sink};
+use play_types::{Cmd, MediaNames, Place, RecName, Setting, Take};
 
 /// Writes the text of a command: its name and its words, with one space between them. It takes no memory, and a text of at
 /// most 4,096 bytes is one write.
@@ -27,10 +27,10 @@ pub fn print<K: Sink>(cmd: &Cmd, media: &MediaNames, to: &mut K) -> Sent
 }
 
 /// Adds the text of a command.
-pub(crate) fn add_command<K: Sink>(
+pub(crate) fn add_command<const ROOM: usize, K: Sink>(
     cmd: &Cmd,
     media: &MediaNames,
-    text: &mut Text,
+    text: &mut Gather<ROOM>,
     to: &mut K,
 ) -> Sent
     ensures { Adds result (text.old ++ encode_utf8_all (command_text media.now cmd.now)) text.new (K.state to.old) (K.state to.new) }
@@ -40,7 +40,12 @@ pub(crate) fn add_command<K: Sink>(
 }
 
 /// Adds the words after the name of a command.
-fn add_arguments<K: Sink>(cmd: &Cmd, media: &MediaNames, text: &mut Text, to: &mut K) -> Sent
+fn add_arguments<const ROOM: usize, K: Sink>(
+    cmd: &Cmd,
+    media: &MediaNames,
+    text: &mut Gather<ROOM>,
+    to: &mut K,
+) -> Sent
     ensures { Adds result (text.old ++ spaced (arguments media.now cmd.now)) text.new (K.state to.old) (K.state to.new) }
 {
     match cmd {
@@ -61,17 +66,19 @@ fn add_arguments<K: Sink>(cmd: &Cmd, media: &MediaNames, text: &mut Text, to: &m
         Cmd::CommitMixer(channel) => add_channel_and_word(*channel, "COMMIT", text, to),
         Cmd::ResetLayer(place) => add_place_and_word(*place, "CLEAR", text, to),
         Cmd::ResetChannel(channel) => add_channel_and_word(*channel, "CLEAR", text, to),
+        Cmd::AddFile(channel, name) => add_channel_and_name(*channel, *name, text, to),
+        Cmd::RemoveFile(channel) => add_channel_and_word(*channel, "FILE", text, to),
         Cmd::Value(place, prop) => add_place_and_word(*place, prop.as_str(), text, to),
         Cmd::Info => Sent::All,
     }
 }
 
 /// Adds a place and the take that is played there.
-fn add_place_and_take<K: Sink>(
+fn add_place_and_take<const ROOM: usize, K: Sink>(
     place: Place,
     take: Take,
     media: &MediaNames,
-    text: &mut Text,
+    text: &mut Gather<ROOM>,
     to: &mut K,
 ) -> Sent
     ensures { Adds result (text.old ++ spaced (place_word place ∷ take_words media.now take)) text.new (K.state to.old) (K.state to.new) }
@@ -81,7 +88,11 @@ fn add_place_and_take<K: Sink>(
 }
 
 /// Adds the place of a setting and what the setting says.
-fn add_place_and_setting<K: Sink>(setting: Setting, text: &mut Text, to: &mut K) -> Sent
+fn add_place_and_setting<const ROOM: usize, K: Sink>(
+    setting: Setting,
+    text: &mut Gather<ROOM>,
+    to: &mut K,
+) -> Sent
     ensures { Adds result (text.old ++ spaced (place_word setting.place ∷ setting_words setting)) text.new (K.state to.old) (K.state to.new) }
 {
     add_place(setting.place(), text, to)?;
@@ -89,11 +100,11 @@ fn add_place_and_setting<K: Sink>(setting: Setting, text: &mut Text, to: &mut K)
 }
 
 /// Adds two places, and whether their mixer values are exchanged too.
-fn add_layers<K: Sink>(
+fn add_layers<const ROOM: usize, K: Sink>(
     one: Place,
     other: Place,
     transforms: bool,
-    text: &mut Text,
+    text: &mut Gather<ROOM>,
     to: &mut K,
 ) -> Sent
     ensures { Adds result
@@ -106,7 +117,13 @@ fn add_layers<K: Sink>(
 }
 
 /// Adds two channels, and whether their mixer values are exchanged too.
-fn add_channels<K: Sink>(one: u8, other: u8, transforms: bool, text: &mut Text, to: &mut K) -> Sent
+fn add_channels<const ROOM: usize, K: Sink>(
+    one: u8,
+    other: u8,
+    transforms: bool,
+    text: &mut Gather<ROOM>,
+    to: &mut K,
+) -> Sent
     ensures { Adds result
         (text.old ++ spaced (number_word one ∷ number_word other ∷ flag_words transforms (codes "TRANSFORMS")))
         text.new (K.state to.old) (K.state to.new) }
@@ -117,7 +134,12 @@ fn add_channels<K: Sink>(one: u8, other: u8, transforms: bool, text: &mut Text, 
 }
 
 /// Adds a place and a word.
-fn add_place_and_word<K: Sink>(place: Place, word: &str, text: &mut Text, to: &mut K) -> Sent
+fn add_place_and_word<const ROOM: usize, K: Sink>(
+    place: Place,
+    word: &str,
+    text: &mut Gather<ROOM>,
+    to: &mut K,
+) -> Sent
     ensures { Adds result (text.old ++ spaced (place_word place ∷ Plain word.now ∷ [])) text.new (K.state to.old) (K.state to.new) }
 {
     add_place(place, text, to)?;
@@ -125,9 +147,29 @@ fn add_place_and_word<K: Sink>(place: Place, word: &str, text: &mut Text, to: &m
 }
 
 /// Adds a channel and a word.
-fn add_channel_and_word<K: Sink>(channel: u8, word: &str, text: &mut Text, to: &mut K) -> Sent
+fn add_channel_and_word<const ROOM: usize, K: Sink>(
+    channel: u8,
+    word: &str,
+    text: &mut Gather<ROOM>,
+    to: &mut K,
+) -> Sent
     ensures { Adds result (text.old ++ spaced (number_word channel ∷ Plain word.now ∷ [])) text.new (K.state to.old) (K.state to.new) }
 {
     add_number(u32::from(channel), text, to)?;
     add_word(word, text, to)
+}
+
+/// Adds a channel, FILE, and the name of a recording.
+fn add_channel_and_name<const ROOM: usize, K: Sink>(
+    channel: u8,
+    name: RecName,
+    text: &mut Gather<ROOM>,
+    to: &mut K,
+) -> Sent
+    ensures { Adds result
+        (text.old ++ spaced (number_word channel ∷ Plain (codes "FILE") ∷ recording_word name ∷ []))
+        text.new (K.state to.old) (K.state to.new) }
+{
+    add_channel_and_word(channel, "FILE", text, to)?;
+    add_rec_name(name, text, to)
 }

@@ -12,7 +12,7 @@ use crate::command::add_command;
 use crate::text::Text;
 use history_model::MAX_TICKS_PER_LINE;
 use itoa::Buffer;
-use play_outside::{Sent, Sink};
+use play_outside::{Gather, Sent, Sink};
 use play_types::{Cmd, CmdList, Event, MediaNames, Tag};
 
 /// Writes the lines of the text of a history for an event that stands in it `times` times in a row: at least once, and once
@@ -28,12 +28,16 @@ pub fn print_event<K: Sink>(event: &Event, times: u64, media: &MediaNames, to: &
     text.finish(to)
 }
 
-/// Adds the lines of an event.
-fn add_event<K: Sink>(
+/// Adds to a text that is gathered the lines that `print_event` writes, so that the lines of many events go out in one
+/// write. It takes no memory.
+///
+/// What waits in the text afterwards is for the caller to write. The result is `Failed` only if `to` failed; then a prefix
+/// of what waited and the lines was written, and nothing waits.
+pub fn add_event<const ROOM: usize, K: Sink>(
     event: &Event,
     times: u64,
     media: &MediaNames,
-    text: &mut Text,
+    text: &mut Gather<ROOM>,
     to: &mut K,
 ) -> Sent
     requires { IsRun event.now times }
@@ -48,11 +52,11 @@ fn add_event<K: Sink>(
 }
 
 /// Adds the line of a command.
-fn add_command_line<K: Sink>(
+fn add_command_line<const ROOM: usize, K: Sink>(
     tag: Tag,
     cmd: &Cmd,
     media: &MediaNames,
-    text: &mut Text,
+    text: &mut Gather<ROOM>,
     to: &mut K,
 ) -> Sent
     ensures { Adds result (text.old ++ command_line media.now tag cmd.now) text.new (K.state to.old) (K.state to.new) }
@@ -63,11 +67,11 @@ fn add_command_line<K: Sink>(
 }
 
 /// Adds the lines of commands that happen together.
-fn add_batch<K: Sink>(
+fn add_batch<const ROOM: usize, K: Sink>(
     tag: Tag,
     cmds: &CmdList,
     media: &MediaNames,
-    text: &mut Text,
+    text: &mut Gather<ROOM>,
     to: &mut K,
 ) -> Sent
     ensures { Adds result (text.old ++ batch_lines media.now tag cmds.now) text.new (K.state to.old) (K.state to.new) }
@@ -78,11 +82,11 @@ fn add_batch<K: Sink>(
 }
 
 /// Adds a line for each command.
-fn add_commands<K: Sink>(
+fn add_commands<const ROOM: usize, K: Sink>(
     tag: Tag,
     cmds: &CmdList,
     media: &MediaNames,
-    text: &mut Text,
+    text: &mut Gather<ROOM>,
     to: &mut K,
 ) -> Sent
     ensures { Adds result (text.old ++ flat_map (command_line media.now tag) cmds.now) text.new (K.state to.old) (K.state to.new) }
@@ -94,7 +98,7 @@ fn add_commands<K: Sink>(
 }
 
 /// Adds the lines of ticks.
-fn add_ticks<K: Sink>(times: u64, text: &mut Text, to: &mut K) -> Sent
+fn add_ticks<const ROOM: usize, K: Sink>(times: u64, text: &mut Gather<ROOM>, to: &mut K) -> Sent
     requires { 1 ≤ times }
     ensures { Adds result (text.old ++ tick_lines times) text.new (K.state to.old) (K.state to.new) }
 {
@@ -106,14 +110,18 @@ fn add_ticks<K: Sink>(times: u64, text: &mut Text, to: &mut K) -> Sent
 }
 
 /// Adds the line of a number of ticks.
-fn add_tick_line<K: Sink>(count: u64, text: &mut Text, to: &mut K) -> Sent
+fn add_tick_line<const ROOM: usize, K: Sink>(
+    count: u64,
+    text: &mut Gather<ROOM>,
+    to: &mut K,
+) -> Sent
     ensures { Adds result (text.old ++ tick_line count) text.new (K.state to.old) (K.state to.new) }
 {
     text.add_parts(&[b"T ", Buffer::new().format(count).as_bytes(), b"\n"], to)
 }
 
 /// Adds the line of a stop: of the server itself, whose tag has two zeros, or of a connection.
-fn add_stop<K: Sink>(tag: Tag, text: &mut Text, to: &mut K) -> Sent
+fn add_stop<const ROOM: usize, K: Sink>(tag: Tag, text: &mut Gather<ROOM>, to: &mut K) -> Sent
     ensures { Adds result (text.old ++ stop_line tag) text.new (K.state to.old) (K.state to.new) }
 {
     if is_server(tag) {
@@ -131,7 +139,12 @@ fn is_server(tag: Tag) -> bool
 }
 
 /// Adds a line of a connection, which says `words`.
-fn add_line<K: Sink>(tag: Tag, words: &[u8], text: &mut Text, to: &mut K) -> Sent
+fn add_line<const ROOM: usize, K: Sink>(
+    tag: Tag,
+    words: &[u8],
+    text: &mut Gather<ROOM>,
+    to: &mut K,
+) -> Sent
     ensures { Adds result (text.old ++ connection_line tag words.now) text.new (K.state to.old) (K.state to.new) }
 {
     add_tag(tag, text, to)?;
@@ -139,7 +152,7 @@ fn add_line<K: Sink>(tag: Tag, words: &[u8], text: &mut Text, to: &mut K) -> Sen
 }
 
 /// Adds what stands before a line of a connection.
-fn add_tag<K: Sink>(tag: Tag, text: &mut Text, to: &mut K) -> Sent
+fn add_tag<const ROOM: usize, K: Sink>(tag: Tag, text: &mut Gather<ROOM>, to: &mut K) -> Sent
     ensures { Adds result (text.old ++ tag_text tag) text.new (K.state to.old) (K.state to.new) }
 {
     text.add_parts(

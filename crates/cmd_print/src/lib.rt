@@ -14,4 +14,4 @@ mod text;
 mod word;
 
 pub use command::print;
-pub use event::print_event;
+pub use event::{add_event, print_event};

@@ -4,12 +4,15 @@ ghost use Rattle.play_outside.specs.Gathered.{Adds};
 ghost use Rattle.history_model.specs.text.Commands.{Quoted};
 ghost use Rattle.cmd_print.specs.inner.Bytes.{spaced};
 
-use crate::text::Text;
 use fixed_params::add_quoted;
-use play_outside::{Sent, Sink};
+use play_outside::{Gather, Sent, Sink};
 
 /// Adds a name in quotation marks, with its escapes, after a space.
-pub(crate) fn add_name<K: Sink>(name: &str, text: &mut Text, to: &mut K) -> Sent
+pub(crate) fn add_name<const ROOM: usize, K: Sink>(
+    name: &str,
+    text: &mut Gather<ROOM>,
+    to: &mut K,
+) -> Sent
     ensures { Adds result (text.old ++ spaced (Quoted (chars name.now) ∷ [])) text.new (K.state to.old) (K.state to.new) }
 {
     text.add(b" ", to)?;

@@ -3,19 +3,23 @@ ghost use Rattle.std.specs.Prelude.{◌≡◌, ◌∷◌, [], ◌++◌, All, map
 ghost use Rattle.std.specs.List.{flat_map};
 ghost use Rattle.amcp_text.specs.Micros.{printed_micro};
 ghost use Rattle.play_types.specs.Setting.{IsWide};
+ghost use Rattle.play_types.specs.Words.{curve_text};
 ghost use Rattle.play_outside.specs.Gathered.{Adds};
 ghost use Rattle.history_model.specs.stage.Answer.{number_count};
-ghost use Rattle.history_model.specs.text.Commands.{Plain, curve_text, flag_words, micro_word, number_word, setting_words, timing_words};
+ghost use Rattle.history_model.specs.text.Commands.{Plain, flag_words, micro_word, number_word, setting_words, timing_words};
 ghost use Rattle.cmd_print.specs.inner.Bytes.{spaced};
 
-use crate::text::Text;
 use crate::word::{add_flag, add_number, add_word};
 use fixed_params::MicroText;
-use play_outside::{Sent, Sink};
+use play_outside::{Gather, Sent, Sink};
 use play_types::{Curve, Prop, Setting};
 
 /// Adds what a setting says after its place: its property, its numbers, its timing, and whether it waits.
-pub(crate) fn add_setting<K: Sink>(setting: Setting, text: &mut Text, to: &mut K) -> Sent
+pub(crate) fn add_setting<const ROOM: usize, K: Sink>(
+    setting: Setting,
+    text: &mut Gather<ROOM>,
+    to: &mut K,
+) -> Sent
     ensures { Adds result (text.old ++ spaced (setting_words setting)) text.new (K.state to.old) (K.state to.new) }
 {
     add_word(setting.prop().as_str(), text, to)?;
@@ -25,7 +29,11 @@ pub(crate) fn add_setting<K: Sink>(setting: Setting, text: &mut Text, to: &mut K
 }
 
 /// Adds the numbers that the property of a setting has.
-fn add_numbers<K: Sink>(setting: Setting, text: &mut Text, to: &mut K) -> Sent
+fn add_numbers<const ROOM: usize, K: Sink>(
+    setting: Setting,
+    text: &mut Gather<ROOM>,
+    to: &mut K,
+) -> Sent
     ensures { Adds result (text.old ++ spaced (map micro_word (take (number_count setting.prop) setting.values))) text.new (K.state to.old) (K.state to.new) }
 {
     let values = setting.values();
@@ -36,7 +44,11 @@ fn add_numbers<K: Sink>(setting: Setting, text: &mut Text, to: &mut K) -> Sent
 }
 
 /// Adds numbers in millionths.
-fn add_micros<K: Sink>(values: &[i64], text: &mut Text, to: &mut K) -> Sent
+fn add_micros<const ROOM: usize, K: Sink>(
+    values: &[i64],
+    text: &mut Gather<ROOM>,
+    to: &mut K,
+) -> Sent
     requires { All IsWide values.now }
     ensures { Adds result (text.old ++ flat_map (λ value. 32 ∷ printed_micro value) values.now) text.new (K.state to.old) (K.state to.new) }
 {
@@ -47,7 +59,11 @@ fn add_micros<K: Sink>(values: &[i64], text: &mut Text, to: &mut K) -> Sent
 }
 
 /// Adds the duration and the curve of a setting, except for a keyer.
-fn add_timing<K: Sink>(setting: Setting, text: &mut Text, to: &mut K) -> Sent
+fn add_timing<const ROOM: usize, K: Sink>(
+    setting: Setting,
+    text: &mut Gather<ROOM>,
+    to: &mut K,
+) -> Sent
     ensures { Adds result (text.old ++ spaced (timing_words setting.prop setting)) text.new (K.state to.old) (K.state to.new) }
 {
     match setting.prop() {
@@ -59,18 +75,14 @@ fn add_timing<K: Sink>(setting: Setting, text: &mut Text, to: &mut K) -> Sent
 }
 
 /// Adds a duration in ticks and a curve.
-fn add_tween<K: Sink>(duration: u32, curve: Curve, text: &mut Text, to: &mut K) -> Sent
+fn add_tween<const ROOM: usize, K: Sink>(
+    duration: u32,
+    curve: Curve,
+    text: &mut Gather<ROOM>,
+    to: &mut K,
+) -> Sent
     ensures { Adds result (text.old ++ spaced (number_word duration ∷ Plain (curve_text curve) ∷ [])) text.new (K.state to.old) (K.state to.new) }
 {
     add_number(duration, text, to)?;
-    add_word(curve_name(curve), text, to)
-}
-
-/// Returns the word of a curve.
-pub(crate) fn curve_name(curve: Curve) -> &'static str
-    ensures { result.now ≡ curve_text curve }
-{
-    match curve {
-        Curve::Linear => "LINEAR",
-    }
+    add_word(curve.as_str(), text, to)
 }

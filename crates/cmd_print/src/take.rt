@@ -6,15 +6,18 @@ ghost use Rattle.history_model.specs.text.Commands.{Plain, capital_digits, direc
 ghost use Rattle.cmd_print.specs.inner.Bytes.{spaced};
 
 use crate::quote::add_name;
-use crate::setting::curve_name;
-use crate::text::Text;
 use crate::word::add_flag;
 use itoa::Buffer;
-use play_outside::{Sent, Sink};
+use play_outside::{Gather, Sent, Sink};
 use play_types::{Kind, MediaNames, Spec, Take, Trans};
 
 /// Adds a take: its producer, the part of a clip that is played, its transition, and whether it starts by itself.
-pub(crate) fn add_take<K: Sink>(take: Take, media: &MediaNames, text: &mut Text, to: &mut K) -> Sent
+pub(crate) fn add_take<const ROOM: usize, K: Sink>(
+    take: Take,
+    media: &MediaNames,
+    text: &mut Gather<ROOM>,
+    to: &mut K,
+) -> Sent
     ensures { Adds result (text.old ++ spaced (take_words media.now take)) text.new (K.state to.old) (K.state to.new) }
 {
     add_producer(take.spec(), media, text, to)?;
@@ -24,7 +27,12 @@ pub(crate) fn add_take<K: Sink>(take: Take, media: &MediaNames, text: &mut Text,
 }
 
 /// Adds a producer.
-fn add_producer<K: Sink>(spec: Spec, media: &MediaNames, text: &mut Text, to: &mut K) -> Sent
+fn add_producer<const ROOM: usize, K: Sink>(
+    spec: Spec,
+    media: &MediaNames,
+    text: &mut Gather<ROOM>,
+    to: &mut K,
+) -> Sent
     ensures { Adds result (text.old ++ spaced (producer_word media.now spec ∷ [])) text.new (K.state to.old) (K.state to.new) }
 {
     match spec {
@@ -78,7 +86,7 @@ fn capital_digit(number: u32) -> u8
 }
 
 /// Adds which frames of a clip are played, and whether again and again. Another producer has no frames.
-fn add_part<K: Sink>(take: Take, text: &mut Text, to: &mut K) -> Sent
+fn add_part<const ROOM: usize, K: Sink>(take: Take, text: &mut Gather<ROOM>, to: &mut K) -> Sent
     ensures { Adds result (text.old ++ spaced (part_words take.spec take)) text.new (K.state to.old) (K.state to.new) }
 {
     match take.spec() {
@@ -88,7 +96,13 @@ fn add_part<K: Sink>(take: Take, text: &mut Text, to: &mut K) -> Sent
 }
 
 /// Adds whether a clip is looped, the first frame that is played, counted from 0, and the number of frames.
-fn add_clip_part<K: Sink>(looped: bool, seek: u32, length: u32, text: &mut Text, to: &mut K) -> Sent
+fn add_clip_part<const ROOM: usize, K: Sink>(
+    looped: bool,
+    seek: u32,
+    length: u32,
+    text: &mut Gather<ROOM>,
+    to: &mut K,
+) -> Sent
     ensures { Adds result
         (text.old ++ spaced (flag_words looped (codes "LOOP")
         ++ Plain (codes "SEEK") ∷ number_word seek ∷ Plain (codes "LENGTH") ∷ number_word length ∷ []))
@@ -107,7 +121,11 @@ fn add_clip_part<K: Sink>(looped: bool, seek: u32, length: u32, text: &mut Text,
 }
 
 /// Adds a transition, unless it is a cut.
-fn add_transition<K: Sink>(trans: Trans, text: &mut Text, to: &mut K) -> Sent
+fn add_transition<const ROOM: usize, K: Sink>(
+    trans: Trans,
+    text: &mut Gather<ROOM>,
+    to: &mut K,
+) -> Sent
     ensures { Adds result (text.old ++ spaced (transition_words trans.kind trans)) text.new (K.state to.old) (K.state to.new) }
 {
     match trans.kind() {
@@ -117,7 +135,7 @@ fn add_transition<K: Sink>(trans: Trans, text: &mut Text, to: &mut K) -> Sent
 }
 
 /// Adds the kind of a transition, its duration in ticks, its curve and its direction.
-fn add_timed<K: Sink>(trans: Trans, text: &mut Text, to: &mut K) -> Sent
+fn add_timed<const ROOM: usize, K: Sink>(trans: Trans, text: &mut Gather<ROOM>, to: &mut K) -> Sent
     ensures { Adds result (text.old ++ spaced (timed_words trans.kind trans)) text.new (K.state to.old) (K.state to.new) }
 {
     text.add_parts(
@@ -127,7 +145,7 @@ fn add_timed<K: Sink>(trans: Trans, text: &mut Text, to: &mut K) -> Sent
             b" ",
             Buffer::new().format(trans.duration()).as_bytes(),
             b" ",
-            curve_name(trans.curve()).as_bytes(),
+            trans.curve().as_str().as_bytes(),
             b" ",
             direction_name(trans.leftward()).as_bytes(),
         ],

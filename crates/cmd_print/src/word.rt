@@ -1,23 +1,31 @@
 //! Words of a printed command. Each stands after a space.
 ghost use Rattle.std.specs.Prelude.{◌∷◌, ◌++◌, []};
 ghost use Rattle.play_outside.specs.Gathered.{Adds};
-ghost use Rattle.history_model.specs.text.Commands.{Plain, place_word, number_word, flag_words};
+ghost use Rattle.history_model.specs.text.Commands.{Plain, place_word, number_word, flag_words, recording_word};
 ghost use Rattle.cmd_print.specs.inner.Bytes.{spaced};
 
-use crate::text::Text;
 use itoa::Buffer;
-use play_outside::{Sent, Sink};
-use play_types::Place;
+use play_outside::{Gather, Sent, Sink};
+use play_types::{Place, RecName};
 
 /// Adds a word as it stands.
-pub(crate) fn add_word<K: Sink>(word: &str, text: &mut Text, to: &mut K) -> Sent
+pub(crate) fn add_word<const ROOM: usize, K: Sink>(
+    word: &str,
+    text: &mut Gather<ROOM>,
+    to: &mut K,
+) -> Sent
     ensures { Adds result (text.old ++ spaced (Plain word.now ∷ [])) text.new (K.state to.old) (K.state to.new) }
 {
     text.add_parts(&[b" ", word.as_bytes()], to)
 }
 
 /// Adds a word, if it is set.
-pub(crate) fn add_flag<K: Sink>(is_set: bool, word: &str, text: &mut Text, to: &mut K) -> Sent
+pub(crate) fn add_flag<const ROOM: usize, K: Sink>(
+    is_set: bool,
+    word: &str,
+    text: &mut Gather<ROOM>,
+    to: &mut K,
+) -> Sent
     ensures { Adds result (text.old ++ spaced (flag_words is_set word.now)) text.new (K.state to.old) (K.state to.new) }
 {
     if is_set {
@@ -28,14 +36,22 @@ pub(crate) fn add_flag<K: Sink>(is_set: bool, word: &str, text: &mut Text, to: &
 }
 
 /// Adds a number in digits.
-pub(crate) fn add_number<K: Sink>(number: u32, text: &mut Text, to: &mut K) -> Sent
+pub(crate) fn add_number<const ROOM: usize, K: Sink>(
+    number: u32,
+    text: &mut Gather<ROOM>,
+    to: &mut K,
+) -> Sent
     ensures { Adds result (text.old ++ spaced (number_word number ∷ [])) text.new (K.state to.old) (K.state to.new) }
 {
     text.add_parts(&[b" ", Buffer::new().format(number).as_bytes()], to)
 }
 
 /// Adds a place: its channel, a dash and its layer.
-pub(crate) fn add_place<K: Sink>(place: Place, text: &mut Text, to: &mut K) -> Sent
+pub(crate) fn add_place<const ROOM: usize, K: Sink>(
+    place: Place,
+    text: &mut Gather<ROOM>,
+    to: &mut K,
+) -> Sent
     ensures { Adds result (text.old ++ spaced (place_word place ∷ [])) text.new (K.state to.old) (K.state to.new) }
 {
     text.add_parts(
@@ -47,4 +63,15 @@ pub(crate) fn add_place<K: Sink>(place: Place, text: &mut Text, to: &mut K) -> S
         ],
         to,
     )
+}
+
+/// Adds the name of a recording.
+pub(crate) fn add_rec_name<const ROOM: usize, K: Sink>(
+    name: RecName,
+    text: &mut Gather<ROOM>,
+    to: &mut K,
+) -> Sent
+    ensures { Adds result (text.old ++ spaced (recording_word name ∷ [])) text.new (K.state to.old) (K.state to.new) }
+{
+    text.add_parts(&[b" ", name.as_bytes()], to)
 }

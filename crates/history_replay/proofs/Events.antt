@@ -1,6 +1,6 @@
 -- The lines of an event, played after others, make the event and write its answer.
 use Rattle.std.proofs.Common.{◌≡◌, ℕ, ◌+◌, ◌<◌, ◌≤◌, Bool, true, false, cond, ◌||◌, List, [], ◌∷◌, ◌++◌, map, length, refl, sym, ap, ◌∙◌, subst, arith, append_assoc, append-nil, length-append, if◌then◌else◌}
-use Rattle.std.specs.Prelude.{Some, All, codes, encode_utf8_all, flat_map}
+use Rattle.std.specs.Prelude.{None, Some, All, codes, encode_utf8_all, flat_map}
 use Rattle.std.specs.List.{list_any}
 use Rattle.std.proofs.lemmas.Bool.{lt-ltb}
 use Rattle.std.proofs.lemmas.List.Elements.{All-head, All-tail}
@@ -16,6 +16,7 @@ use Rattle.play_types.specs.declared.parsed.Parsed.{Parsed}
 use Rattle.play_types.specs.declared.parsed.Parsed.TheVariants.{Begin, Commit, Stage}
 use Rattle.play_types.specs.declared.reply.Name.TheVariants as name
 use Rattle.play_types.specs.declared.reply.Reply.TheVariants as reply
+use Rattle.history_model.specs.sessions.Request.{text_token}
 use Rattle.history_model.specs.sessions.Line.{Asks, line_meaning}
 use Rattle.history_model.specs.sessions.Session.{Local, Ask, AskBatch, asks, batch, is_open, step_commit, step_inside, step_outside, step_waiting}
 use Rattle.history_model.specs.stage.Acts.{is_refused}
@@ -33,7 +34,7 @@ use Rattle.history_replay.specs.Replay.{IsPlayout}
 use Rattle.history_replay.proofs.Printable.{IsPrintable, IsPrintableInBatch}
 use Rattle.history_replay.specs.ReplayOutput.{event_output, waiting_output}
 use Rattle.history_replay.proofs.Playing.{At, At-as, At-said, asked_more, each_tag, own_step-asks}
-use Rattle.history_replay.proofs.Spoken.{begin_asked, begin_spoken, command_asked, command_spoken, commit_asked, commit_spoken}
+use Rattle.history_replay.proofs.Spoken.{begin_asked, begin_spoken, begin_untold, command_asked, command_spoken, command_untold, commit_asked, commit_spoken, commit_untold}
 use Rattle.history_replay.proofs.Tagged.{IsSpoken}
 
 -- what the lines of a command and of a batch say
@@ -102,16 +103,16 @@ module _ (playout : Playout) (before : List PlayedLine) (events : List Event) (o
   taken : (text : List ℕ) (commands : ℕ) → is_full playout events commands ≡ false → verdict (turn_of playout events (with_memory (Said tag text)) tag) commands ≡ Taken
   taken text commands room = ap (λ (b : Bool). if b then JournalFull else Taken) room
 
-  pub At-command : (text : List ℕ) (cmd : Cmd) → list_any is_line_end text ≡ false → line_meaning playout.config playout.names (line_of_text text) ≡ Asks (Stage cmd)
+  pub At-command : (text : List ℕ) (cmd : Cmd) → list_any is_line_end text ≡ false → text_token text ≡ None → line_meaning playout.config playout.names (line_of_text text) ≡ Asks (Stage cmd)
       → is_full playout events 1 ≡ false → IsClosed playout before
       → At playout (after text) (events ++ event.Do tag cmd ∷ []) (output ++ event_output playout events (event.Do tag cmd))
   unfolding event_output
-  At-command text cmd one meant room closed =
+  At-command text cmd one untold meant room closed =
       let found = command_answer (setup_of playout) events (is_refused events (event.Do tag cmd)) cmd in
       let becomes = taken text 1 room in
       At-as playout (after text) _ _ _ _ (ap (λ v. events ++ verdict_events (event.Do tag cmd) v) becomes)
       (ap (λ v. output ++ reply_output playout tag (Some (verdict_reply (command_name cmd) found v))) becomes)
-      (At-said playout before events output h tag text (Ask cmd) one (step_closed playout tag before text (Stage cmd) meant (closed.each tag)) refl)
+      (At-said playout before events output h tag text (Ask cmd) one untold (step_closed playout tag before text (Stage cmd) meant (closed.each tag)) refl)
 
   pub closed-command : (text : List ℕ) (cmd : Cmd) → list_any is_line_end text ≡ false → line_meaning playout.config playout.names (line_of_text text) ≡ Asks (Stage cmd)
       → IsClosed playout before → IsClosed playout (after text)
@@ -123,7 +124,7 @@ module _ (playout : Playout) (before : List PlayedLine) (events : List Event) (o
   pub At-begin : IsClosed playout before → At playout (after (codes "BEGIN")) events (output ++ reply_output playout tag (Some (reply.Done name.Begin)))
   At-begin closed =
       At-as playout (after (codes "BEGIN")) (events ++ []) events _ _ (append-nil events) refl
-      (At-said playout before events output h tag (codes "BEGIN") (Local (reply.Done name.Begin)) begin_spoken.one
+      (At-said playout before events output h tag (codes "BEGIN") (Local (reply.Done name.Begin)) begin_spoken.one begin_untold
       (step_closed playout tag before (codes "BEGIN") Begin (begin_asked playout.config playout.names) (closed.each tag)) refl)
 
   pub open-begin : IsClosed playout before → IsInBatch playout (after (codes "BEGIN")) tag []
@@ -137,12 +138,12 @@ module _ (playout : Playout) (before : List PlayedLine) (events : List Event) (o
       }
 
   -- a line of a command that waits
-  module _ (text : List ℕ) (cmd : Cmd) (one : list_any is_line_end text ≡ false) (meant : line_meaning playout.config playout.names (line_of_text text) ≡ Asks (Stage cmd)) (acts : is_query cmd ≡ false) (cmds : List Cmd) (room : length cmds < MAX_BATCH_COMMANDS) (inside : IsInBatch playout before tag cmds) where
+  module _ (text : List ℕ) (cmd : Cmd) (one : list_any is_line_end text ≡ false) (untold : text_token text ≡ None) (meant : line_meaning playout.config playout.names (line_of_text text) ≡ Asks (Stage cmd)) (acts : is_query cmd ≡ false) (cmds : List Cmd) (room : length cmds < MAX_BATCH_COMMANDS) (inside : IsInBatch playout before tag cmds) where
     At-waits : At playout (after text) events (output ++ waiting_output playout tag cmd)
     At-waits =
         let step : step_waiting cmds cmd ≡ Local (reply.Done (command_name cmd)) = rw (acts, lt-ltb (length cmds) MAX_BATCH_COMMANDS room) refl in
         At-as playout (after text) (events ++ []) events _ _ (append-nil events) refl
-        (At-said playout before events output h tag text (Local (reply.Done (command_name cmd))) one
+        (At-said playout before events output h tag text (Local (reply.Done (command_name cmd))) one untold
         (step_open playout tag before text (Stage cmd) meant inside.own ∙ ap (λ waiting. step_waiting waiting cmd) inside.waiting ∙ step) refl)
 
     open-waits : IsInBatch playout (after text) tag (cmds ++ cmd ∷ [])
@@ -169,7 +170,7 @@ module _ (playout : Playout) (before : List PlayedLine) (events : List Event) (o
       let becomes = taken (codes "COMMIT") (length cmds) room in
       At-as playout (after (codes "COMMIT")) _ _ _ _ (ap (λ v. events ++ verdict_events (event.Batch tag cmds) v) becomes)
       (ap (λ v. output ++ reply_output playout tag (Some (verdict_reply name.Commit found v))) becomes)
-      (At-said playout before events output h tag (codes "COMMIT") (AskBatch cmds) commit_spoken.one
+      (At-said playout before events output h tag (codes "COMMIT") (AskBatch cmds) commit_spoken.one commit_untold
       (step_open playout tag before (codes "COMMIT") Commit (commit_asked playout.config playout.names) inside.own ∙ ap step_commit inside.waiting ∙ commit_of cmds some) refl)
 
   pub closed-commit : (cmds : List Cmd) → IsInBatch playout before tag cmds → IsClosed playout (after (codes "COMMIT"))
@@ -181,6 +182,9 @@ module _ (playout : Playout) (before : List PlayedLine) (events : List Event) (o
 module _ (playout : Playout) (known : IsPlayout playout) (cmd : Cmd) (asked : IsPrintable playout cmd) where
   pub command_line_spoken : IsSpoken (encode_utf8_all (command_text playout.names cmd))
   command_line_spoken = command_spoken playout.config playout.names known.config known.names known.texts cmd asked.by.words asked.by.ask asked.short
+
+  pub command_line_untold : text_token (encode_utf8_all (command_text playout.names cmd)) ≡ None
+  command_line_untold = command_untold playout.config playout.names known.config known.names known.texts cmd asked.by.words asked.by.ask asked.short
 
   pub command_line_asked : line_meaning playout.config playout.names (line_of_text (encode_utf8_all (command_text playout.names cmd))) ≡ Asks (Stage cmd)
   command_line_asked = command_asked playout.config playout.names known.config known.names known.texts cmd asked.by.words asked.by.ask asked.short
@@ -200,6 +204,7 @@ all_wait playout known before events output tag done (cmd ∷ cmds) each few h =
     let line = with_memory (Said tag text) in
     let first = All-head (IsPrintableInBatch playout) cmd cmds each in
     let one = (command_line_spoken playout known cmd first.asked).one in
+    let untold = command_line_untold playout known cmd first.asked in
     let meant = command_line_asked playout known cmd first.asked in
     let room : length done < MAX_BATCH_COMMANDS = omega (arith, few) in
     let few' : length (done ++ cmd ∷ []) + length cmds ≤ MAX_BATCH_COMMANDS = omega (arith, few, length-append done (cmd ∷ [])) in
@@ -211,6 +216,6 @@ all_wait playout known before events output tag done (cmd ∷ cmds) each few h =
     (all_wait playout known (before ++ line ∷ []) events (output ++ waiting_output playout tag cmd) tag (done ++ cmd ∷ []) cmds
     (All-tail (IsPrintableInBatch playout) cmd cmds each) few'
     (record {
-      at = At-waits playout before events output h.at tag text cmd one meant first.acts done room h.inside;
-      inside = open-waits playout before events output h.at tag text cmd one meant first.acts done room h.inside;
+      at = At-waits playout before events output h.at tag text cmd one untold meant first.acts done room h.inside;
+      inside = open-waits playout before events output h.at tag text cmd one untold meant first.acts done room h.inside;
     }))

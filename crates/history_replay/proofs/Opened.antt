@@ -21,6 +21,7 @@ use Rattle.play_types.specs.declared.reply.Reply.TheVariants as reply
 use Rattle.history_model.specs.commands.Command.{parsed}
 use Rattle.history_model.specs.scripts.History.{Playout}
 use Rattle.history_model.specs.scripts.Output.{reply_output}
+use Rattle.history_model.specs.sessions.Request.{requested}
 use Rattle.history_model.specs.sessions.Line.{LineMeaning, Blank, Wrong, Asks, asked_by, line_meaning, meaning_of_parsed, meaning_of_words, refusal_reply}
 use Rattle.history_model.specs.sessions.Session.{Step, Local, Skip, asked_by_line, asks, batch, is_begin, is_closing, is_given_up, is_open, line_steps, step_after, step_inside, step_of_meaning, step_outside, step_waiting}
 use Rattle.history_model.proofs.OpenBatch.{IsSameBatch, LeavesBatch, batch-begin, batch-left, batch-waits, is_open-closing, is_open-other}
@@ -180,7 +181,7 @@ module _ (playout : Playout) (tag : Tag) where
   words_quiet : (line : List ℕ) (words : Result (List (List ℕ)) TokenFault) → IsQuiet (meaning_of_words playout.config playout.names line words)
   words_quiet line (Err fault) = refl
   words_quiet line (Ok []) = tt
-  words_quiet line (Ok (word ∷ words)) = parsed_quiet line (parsed playout.config playout.names (word ∷ words))
+  words_quiet line (Ok (word ∷ words)) = parsed_quiet line (requested playout.config playout.names (word ∷ words))
 
   line_quiet : (line : Line) → IsQuiet (line_meaning playout.config playout.names line)
   unfolding line_meaning

@@ -9,11 +9,12 @@ use Rattle.play_types.specs.declared.event.Event.TheVariants as event
 use Rattle.play_types.specs.declared.event.Tag.{Tag}
 use Rattle.play_types.specs.declared.parsed.Parsed.{Parsed}
 use Rattle.history_model.specs.scripts.Memory.{with_memory}
+use Rattle.history_model.specs.sessions.Request.{text_token}
 use Rattle.history_model.specs.sessions.Line.{Asks, line_meaning, asked_by}
 use Rattle.history_model.specs.sessions.Session.{Step, asks, is_end, line_steps, step_after, step_of_meaning}
 use Rattle.history_model.specs.scripts.Line.{Ticks, Said}
 use Rattle.history_model.specs.scripts.History.{given_up_of, Playout, PlayedLine, goes_on, is_kill, said_step, same_tag, script_events, step_events, stream_of, text_by, texts_of, turn_of}
-use Rattle.history_model.specs.scripts.Output.{reply_output, script_output, step_reply, tick_output, ticks_output}
+use Rattle.history_model.specs.scripts.Output.{answer_output, reply_output, script_output, step_reply, tick_output, ticks_output}
 use Rattle.history_model.proofs.Played.{no_kill}
 use Rattle.history_model.proofs.Outputs.{goes_on-none, goes_on-snoc, script_events-none, script_events-snoc, script_output-none, script_output-snoc}
 use Rattle.history_model.proofs.Besides.{same_ended}
@@ -75,11 +76,11 @@ module _ (playout : Playout) (before : List PlayedLine) (events : List Event) (o
       ∙ ap (λ (b : Bool). cond b None (Some (own_step playout tag before text false))) (h.running tag)
       ∙ ap Some is
 
-  pub At-said : (tag : Tag) (text : List ℕ) (step : Step) → list_any is_line_end text ≡ false → own_step playout tag before text false ≡ step → is_end step ≡ false
+  pub At-said : (tag : Tag) (text : List ℕ) (step : Step) → list_any is_line_end text ≡ false → text_token text ≡ None → own_step playout tag before text false ≡ step → is_end step ≡ false
       → At playout (before ++ with_memory (Said tag text) ∷ [])
       (events ++ step_events (turn_of playout events (with_memory (Said tag text)) tag) (Some step))
       (output ++ reply_output playout tag (step_reply (turn_of playout events (with_memory (Said tag text)) tag) (Some step)))
-  At-said tag text step one is goes =
+  At-said tag text step one untold is goes =
       let line = with_memory (Said tag text) in
       let own = step_said tag text step one is in
       let said = text_by-own tag line text refl in
@@ -88,7 +89,7 @@ module _ (playout : Playout) (before : List PlayedLine) (events : List Event) (o
         made = script_events-snoc playout before line h.goes ∙ (λ i. h.made i ++ step_events (turn_of playout (h.made i) line tag) (own i));
         wrote =
             script_output-snoc playout before line h.goes
-            ∙ (λ i. h.wrote i ++ reply_output playout tag (step_reply (turn_of playout (h.made i) line tag) (own i)));
+            ∙ (λ i. h.wrote i ++ answer_output playout tag (untold i) (step_reply (turn_of playout (h.made i) line tag) (own i)));
         sides = λ other.
             each_tag (λ t. Side t (before ++ line ∷ [])) tag other (same_tag other tag) refl (Side-said tag before line text said one (h.sides tag))
             (λ differ. Side-other other before line (text_by-else tag other line text refl differ) (h.sides other));

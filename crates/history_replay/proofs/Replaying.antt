@@ -24,7 +24,7 @@ use Rattle.history_model.proofs.Besides.{same_asks}
 use Rattle.history_replay.specs.Replay.{IsPlayout}
 use Rattle.history_replay.proofs.Printable.{IsPrintable, IsPrintableInBatch}
 use Rattle.history_replay.specs.ReplayOutput.{event_output, waiting_output}
-use Rattle.history_replay.proofs.Events.{At-begin, At-command, At-commit, IsClosed, all_wait, batch_says, closed-command, closed-commit, command_line_asked, command_line_spoken, command_says, open-begin}
+use Rattle.history_replay.proofs.Events.{At-begin, At-command, At-commit, IsClosed, all_wait, batch_says, closed-command, closed-commit, command_line_asked, command_line_spoken, command_line_untold, command_says, open-begin}
 use Rattle.history_replay.proofs.Lines.{tick_says}
 use Rattle.history_replay.proofs.Playing.{At, At-full_lines, At-ticks, ticks_output-add}
 
@@ -84,9 +84,10 @@ pub Rest-command : (playout : Playout) (known : IsPlayout playout) (before : Lis
 Rest-command playout known before events output tag cmd asked room h =
     let text = encode_utf8_all (command_text playout.names cmd) in
     let one = (command_line_spoken playout known cmd asked).one in
+    let untold = command_line_untold playout known cmd asked in
     let meant = command_line_asked playout known cmd asked in
     record {
-      at = At-command playout before events output h.at tag text cmd one meant room h.closed;
+      at = At-command playout before events output h.at tag text cmd one untold meant room h.closed;
       closed = closed-command playout before events output h.at tag text cmd one meant h.closed;
     }
 

@@ -12,7 +12,7 @@ use Rattle.history_model.specs.sessions.Session.{KillServer}
 use Rattle.history_model.specs.scripts.Line.{ScriptLine, Said}
 use Rattle.history_model.specs.scripts.Line as line
 use Rattle.history_model.specs.scripts.History.{Playout, PlayedLine, ends_at, goes_on, goes_on_after, is_kill, same_tag, script_events, server, step_events, turn_of}
-use Rattle.history_model.specs.scripts.Output.{reply_output, script_output, step_reply}
+use Rattle.history_model.specs.scripts.Output.{answer_output, reply_output, script_output, step_reply}
 use Rattle.history_model.specs.text.History.{stop_line}
 use Rattle.history_model.proofs.Outputs.{script_events-snoc, script_output-snoc}
 use Rattle.history_model.specs.scripts.Memory.{with_memory}
@@ -23,7 +23,7 @@ use Rattle.history_replay.proofs.Lines.{Says-stop}
 use Rattle.history_replay.proofs.Playing.{step_said}
 use Rattle.history_replay.proofs.Replaying.{AtRest}
 use Rattle.history_replay.proofs.Says.{Says}
-use Rattle.history_replay.proofs.Spoken.{kill_asked, kill_spoken}
+use Rattle.history_replay.proofs.Spoken.{kill_asked, kill_spoken, kill_untold}
 use Rattle.history_replay.proofs.Tagged.{Says-said}
 
 -- a whole run: what it made and wrote, and whether it goes on
@@ -92,7 +92,7 @@ module _ (playout : Playout) (before : List PlayedLine) (events : List Event) (o
         made = script_events-snoc playout before kill h.at.goes ∙ (λ i. h.at.made i ++ step_events (turn_of playout (h.at.made i) kill tag) (own i));
         wrote =
             script_output-snoc playout before kill h.at.goes
-            ∙ (λ i. h.at.wrote i ++ reply_output playout tag (step_reply (turn_of playout (h.at.made i) kill tag) (own i)));
+            ∙ (λ i. h.at.wrote i ++ answer_output playout tag (kill_untold i) (step_reply (turn_of playout (h.at.made i) kill tag) (own i)));
         goes = goes_on-ends playout before kill h.at.goes (ap is_kill own);
       }
 

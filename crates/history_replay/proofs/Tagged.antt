@@ -19,6 +19,7 @@ use Rattle.history_model.specs.scripts.Line.{Said, Rejected, addressed_parts, me
 use Rattle.history_model.specs.scripts.Output.{tag_text}
 use Rattle.history_model.specs.text.History.{connection_line}
 use Rattle.history_model.specs.text.Parts.{parts_at}
+use Rattle.history_model.proofs.Cut.{parts_at_first}
 use Rattle.history_replay.specs.Replay.{IsConnection}
 use Rattle.history_replay.proofs.Digits.{none_among, plain_number-decimal}
 use Rattle.history_replay.proofs.Says.{IsLine, Says, Says-line}
@@ -43,19 +44,6 @@ pub record IsSpoken (text : List ℕ) : Type 0 where
   pub one : list_any is_line_end text ≡ false
   pub end : HasBareEnd text
   pub short : length text ≤ MAX_LINE_BYTES
-
--- a text in two parts at the first such byte
-parts_at_first : (byte : ℕ) (first last : List ℕ) → (byte == byte) ≡ true → list_any (λ c. c == byte) first ≡ false
-    → parts_at byte (first ++ byte ∷ last) ≡ Some (first, last)
-parts_at_first byte first last same none =
-    let long : length first < length (first ++ byte ∷ last) = omega (arith, length-append first (byte ∷ last)) in
-    rw (
-      position_or_len_at (λ c. c == byte) first byte last none same,
-      lt-ltb (length first) (length (first ++ byte ∷ last)) long,
-      take_at first (byte ∷ last) (length first) refl,
-      ← drop-drop 1 (length first) (first ++ byte ∷ last),
-      drop_at first (byte ∷ last) (length first) refl,
-    ) refl
 
 -- a line that begins with a digit is a connection's
 begins_with_digit : (first rest : List ℕ) → 0 < length first → are_digits first ≡ true → short_meaning (first ++ rest) ≡ said_line (addressed_parts (first ++ rest))

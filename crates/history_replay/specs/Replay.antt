@@ -77,6 +77,7 @@ NamesShortClip media cmd = elim (shape_of cmd) [
   | shape.Set setting ↦ Unit {0}
   | shape.CommitMixer channel ↦ Unit {0}
   | shape.Reset target ↦ Unit {0}
+  | shape.Record mark ↦ Unit {0}
   | shape.Ask query ↦ Unit {0}
 ]
 

@@ -13,7 +13,7 @@ use Rattle.play_session.specs.inner.BatchState.{BatchState, step_for}
 use Rattle.play_session.specs.Step.{viewed}
 use Rattle.play_session.specs.inner.Meaning.{meaning_view}
 use Rattle.play_session.specs.inner.Following.{Follows}
-use Rattle.play_session.specs.declared.meaning.Meaning.{Meaning}
+use Rattle.play_session.specs.declared.meaning.ReadLine.{ReadLine}
 use Rattle.play_session.specs.declared.step.Step.{Step}
 use Rattle.play_session.specs.declared.step.Step.TheVariants as step
 
@@ -30,9 +30,9 @@ some_command [] some = λ none. omega (arith, some)
 some_command (command ∷ commands) some = λ none. cc
 
 -- the batch of a step that asks for it is not empty
-pub followed_filled : {E : Type 0} (meaning : Result Meaning E) (found : Step) (before after : BatchState) → Follows meaning found before after → found ≡ step.AskBatch → after.commands ≢ []
-followed_filled (Ok meaning) found before after follows is =
+pub followed_filled : {E : Type 0} (read : Result ReadLine E) (found : Step) (before after : BatchState) → Follows read found before after → found ≡ step.AskBatch → after.commands ≢ []
+followed_filled (Ok read) found before after follows is =
     let given = ap (λ (f : Step). viewed f after.commands) (sym is) ∙ follows.0 in
     some_command after.commands
-    (subst IsFilledStep (sym (same_Some (model.AskBatch after.commands) (step_for before (meaning_view meaning)) given)) (step_filled before (meaning_view meaning)))
+    (subst IsFilledStep (sym (same_Some (model.AskBatch after.commands) (step_for before (meaning_view read.meaning)) given)) (step_filled before (meaning_view read.meaning)))
 followed_filled (Err fault) found before after follows is = let differ : step.AskBatch ≡ step.Local reply.NoMemory = sym is ∙ follows.0 in cc

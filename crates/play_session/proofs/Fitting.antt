@@ -22,7 +22,7 @@ use Rattle.play_session.specs.Step.{viewed}
 use Rattle.play_session.specs.inner.Meaning.{meaning_view}
 use Rattle.play_session.specs.SessionState.{SessionState}
 use Rattle.play_session.specs.inner.Following.{Follows, batch_of}
-use Rattle.play_session.specs.declared.meaning.Meaning.{Meaning}
+use Rattle.play_session.specs.declared.meaning.ReadLine.{ReadLine}
 use Rattle.play_session.specs.Session.{Fits}
 use Rattle.play_session.specs.declared.step.Step.{Step}
 use Rattle.play_session.specs.declared.step.Step.TheVariants as step
@@ -53,9 +53,9 @@ line_fits config media batch line found commands is =
     (step_given config media batch (line_meaning config media line) (line_meant config media line))
 
 -- what follows a line fits, whether the line was read or given up
-pub followed_fits : {E : Type 0} (config : ConfigView) (media : List MediaNameView) (line : Line) (meaning : Result Meaning E) (found : Step) (before after : SessionState)
-    → IfOk meaning (λ m. meaning_view m ≡ line_meaning config media line) → Follows meaning found (batch_of before) (batch_of after) → Fits config found
-followed_fits config media line (Ok meaning) found before after meant follows =
+pub followed_fits : {E : Type 0} (config : ConfigView) (media : List MediaNameView) (line : Line) (read : Result ReadLine E) (found : Step) (before after : SessionState)
+    → IfOk read (λ (r : ReadLine). meaning_view r.meaning ≡ line_meaning config media line) → Follows read found (batch_of before) (batch_of after) → Fits config found
+followed_fits config media line (Ok read) found before after meant follows =
     line_fits config media (batch_of before) line found after.batch (rw meant at follows.0)
 followed_fits config media line (Err fault) found before after meant follows = subst (Fits config) (sym follows.0) tt
 
@@ -104,10 +104,10 @@ after_meaning_aimed config media batch (Asks found) is before = by_open batch.is
     by_open false = outside_aimed config batch found before
 
 -- the commands of the batch name configured channels alone after a line, whether the line was read or given up
-pub followed_aimed : {E : Type 0} (config : ConfigView) (media : List MediaNameView) (line : Line) (meaning : Result Meaning E) (found : Step) (before after : SessionState)
-    → IfOk meaning (λ m. meaning_view m ≡ line_meaning config media line) → Follows meaning found (batch_of before) (batch_of after)
+pub followed_aimed : {E : Type 0} (config : ConfigView) (media : List MediaNameView) (line : Line) (read : Result ReadLine E) (found : Step) (before after : SessionState)
+    → IfOk read (λ (r : ReadLine). meaning_view r.meaning ≡ line_meaning config media line) → Follows read found (batch_of before) (batch_of after)
     → AreAimed config before.batch → AreAimed config after.batch
-followed_aimed config media line (Ok meaning) found before after meant follows aimed =
+followed_aimed config media line (Ok read) found before after meant follows aimed =
     subst (λ (batch : BatchState). AreAimed config batch.commands) (sym (rw meant at follows.1))
     (after_meaning_aimed config media (batch_of before) (line_meaning config media line) (line_meant config media line) aimed)
 followed_aimed config media line (Err fault) found before after meant follows aimed =

@@ -24,7 +24,7 @@ use Rattle.history_model.proofs.Sessions.{asks-append, asks-later, line_steps-la
 use Rattle.play_session.specs.SessionState.{SessionState}
 use Rattle.play_session.specs.inner.BatchState.{after_meaning, step_for}
 use Rattle.play_session.specs.inner.Following.{Follows, batch_of}
-use Rattle.play_session.specs.declared.meaning.Meaning.{Meaning}
+use Rattle.play_session.specs.declared.meaning.ReadLine.{ReadLine}
 use Rattle.play_session.specs.Step.{viewed, ends, gives_up, is_out_of_memory}
 use Rattle.play_session.specs.inner.Meaning.{meaning_view}
 use Rattle.play_session.specs.Session.{Progress, Represents, Gives, GivesStep, after_step}
@@ -40,7 +40,7 @@ pub record TookLine (before after : SessionState) (line : Line) : Type 0 where
   pub dropped : reader.Represents after.reader []
 
 -- the element after those of a list
-slice_get_after : {X : Type 0} (xs : List X) (x : X) → slice_get (xs ++ x ∷ []) (length xs) ≡ Some x
+pub slice_get_after : {X : Type 0} (xs : List X) (x : X) → slice_get (xs ++ x ∷ []) (length xs) ≡ Some x
 slice_get_after [] x = refl
 slice_get_after (y ∷ ys) x = slice_get_after ys x
 
@@ -95,11 +95,11 @@ pub record LineStep (earlier : LinesBefore) (next : NextLine) : Type 0 where
   pub asks_is : asks earlier.config earlier.media (earlier.given_up ++ next.later) (earlier.lines ++ next.line ∷ []) ≡ next.asked
 
 -- the lines whose steps a session gave
-abbrev lines_before : ConfigView → List MediaNameView → Progress → List Line → LinesBefore
+abbrev pub lines_before : ConfigView → List MediaNameView → Progress → List Line → LinesBefore
 lines_before config media progress lines = record { config = config; media = media; given_up = progress.given_up; lines = lines }
 
 -- the next line, if it is read
-abbrev line_read : LinesBefore → Line → NextLine
+abbrev pub line_read : LinesBefore → Line → NextLine
 line_read earlier line =
     let asked = asks earlier.config earlier.media earlier.given_up earlier.lines in
     let meaning = line_meaning earlier.config earlier.media line in
@@ -120,7 +120,7 @@ one_further progress later = record progress { given_up = progress.given_up ++ l
 
 -- the state after a line, for each step that the line may have
 module _ (config : ConfigView) (media : List MediaNameView) (before after : SessionState) (next : NextLine) (took : TookLine before after next.line) where
-  lines_with : (progress : Progress) (s : Represents config media before progress)
+  pub lines_with : (progress : Progress) (s : Represents config media before progress)
       → lines_of progress.stream ≡ lines_of s.before ++ next.line ∷ []
   lines_with progress s =
       ap lines_of s.parts ∙ lines_of-append s.before s.rest s.whole
@@ -290,11 +290,11 @@ Gives-read config media result before after line took told became ends_so progre
 ]
 
 -- a line was taken, and what it means was followed, or it was given up
-pub Gives-followed : {E : Type 0} (config : ConfigView) (media : List MediaNameView) (meaning : Result Meaning E) (result : Step) (before after : SessionState) (line : Line)
-    → TookLine before after line → IfOk meaning (λ m. meaning_view m ≡ line_meaning config media line) → Follows meaning result (batch_of before) (batch_of after) → after.ended ≡ ends result
+pub Gives-followed : {E : Type 0} (config : ConfigView) (media : List MediaNameView) (read : Result ReadLine E) (result : Step) (before after : SessionState) (line : Line)
+    → TookLine before after line → IfOk read (λ (r : ReadLine). meaning_view r.meaning ≡ line_meaning config media line) → Follows read result (batch_of before) (batch_of after) → after.ended ≡ ends result
     → (progress : Progress) → Represents config media before progress
     → Gives config media result after progress
-Gives-followed config media (Ok meaning) result before after line took meant follows ends_so =
+Gives-followed config media (Ok read) result before after line took meant follows ends_so =
     Gives-read config media result before after line took (rw meant at follows.0) (rw meant at follows.1) ends_so
 Gives-followed config media (Err fault) result before after line took meant follows ends_so =
     Gives-given_up config media result before after line took follows.0 follows.1 ends_so

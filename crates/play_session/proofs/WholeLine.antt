@@ -18,7 +18,7 @@ use Rattle.play_session.specs.inner.Meaning.{meaning_view}
 use Rattle.play_session.specs.Session.{Gives, IsBetweenLines, Progress, Represents, after_bytes}
 use Rattle.play_session.specs.SessionState.{SessionState}
 use Rattle.play_session.specs.inner.Following.{Follows, batch_of}
-use Rattle.play_session.specs.declared.meaning.Meaning.{Meaning}
+use Rattle.play_session.specs.declared.meaning.ReadLine.{ReadLine}
 use Rattle.play_session.specs.declared.step.Step.{Step}
 use Rattle.play_session.proofs.NextLine.{Gives-followed, TookLine}
 use Rattle.play_session.proofs.Standing.{Represents-fed}
@@ -65,12 +65,12 @@ module _ (before : SessionState) (text : List ℕ) (between : IsBetweenLines bef
   }
 
 -- the step of the line is the next one of the stream with the text and CR LF at its end
-pub Gives-whole : {E : Type 0} (config : ConfigView) (media : List MediaNameView) (meaning : Result Meaning E) (result : Step) (before after : SessionState) (text : List ℕ)
+pub Gives-whole : {E : Type 0} (config : ConfigView) (media : List MediaNameView) (read : Result ReadLine E) (result : Step) (before after : SessionState) (text : List ℕ)
     → IsBetweenLines before → list_any is_line_end text ≡ false → before.ended ≡ false → reader.Represents after.reader []
-    → IfOk meaning (λ m. meaning_view m ≡ line_meaning config media (line_of_text text)) → Follows meaning result (batch_of before) (batch_of after) → after.ended ≡ ends result
+    → IfOk read (λ (r : ReadLine). meaning_view r.meaning ≡ line_meaning config media (line_of_text text)) → Follows read result (batch_of before) (batch_of after) → after.ended ≡ ends result
     → (progress : Progress) → Represents config media before progress
     → Gives config media result after (after_bytes progress (text ++ 13 ∷ 10 ∷ []))
-Gives-whole config media meaning result before after text between one_line going dropped meant follows ends_so progress s =
-    Gives-followed config media meaning result (fed before text) after (line_of_text text) (took before text between one_line after going dropped)
+Gives-whole config media read result before after text between one_line going dropped meant follows ends_so progress s =
+    Gives-followed config media read result (fed before text) after (line_of_text text) (took before text between one_line after going dropped)
     meant follows ends_so (after_bytes progress (text ++ 13 ∷ 10 ∷ []))
     (Represents-fed config media before (fed before text) progress (text ++ 13 ∷ 10 ∷ []) s (reads before text between one_line) refl refl refl)

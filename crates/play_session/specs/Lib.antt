@@ -1,5 +1,6 @@
 pub mod SessionState
 pub mod Step
 pub mod Session
+pub mod Illegal
 pub mod Worked
 pub mod inner

@@ -1,5 +1,5 @@
 -- How far a session has come, and the steps that it gives.
-use Rattle.std.specs.Prelude.{◌≡◌, ℕ, ◌+◌, ◌<◌, true, if◌then◌else◌, List, [], ◌∷◌, ◌++◌, length, slice_get, All}
+use Rattle.std.specs.Prelude.{◌≡◌, ℕ, ◌+◌, ◌<◌, true, false, if◌then◌else◌, Option, Some, List, [], ◌∷◌, ◌++◌, length, slice_get, All}
 use Rattle.std.specs.List.{list_any}
 use Rattle.amcp_text.specs.Lines.{IsEnded, lines_of}
 use Rattle.amcp_text.specs.Reader as reader
@@ -7,6 +7,7 @@ use Rattle.play_types.specs.Config.{ConfigView}
 use Rattle.play_types.specs.Media.{MediaNameView}
 use Rattle.history_model.specs.text.Replies.{IsReplyTo}
 use Rattle.history_model.specs.commands.Channels.{IsAimed}
+use Rattle.history_model.specs.sessions.Request.{tokens}
 use Rattle.history_model.specs.sessions.Session.{is_open, batch, asks, line_steps, is_end, steps}
 use Rattle.play_session.specs.SessionState.{SessionState}
 use Rattle.play_session.specs.Step.{viewed, gives_up}
@@ -65,6 +66,12 @@ Gives config media step.Bye session progress = GivesStep config media step.Bye s
 Gives config media step.Skip session progress = GivesStep config media step.Skip session progress
 Gives config media step.NeedMore session progress =
     (length (lines_of progress.stream) ≡ progress.given) × Represents config media session progress
+
+-- the session has the token of the line whose step this is, except of a line that was given up
+pub record HasToken (result : Step) (session : SessionState) (progress : Progress) : Type 0 where
+  pub token : Option (List ℕ)
+  pub line : slice_get (tokens progress.stream) progress.given ≡ Some token
+  pub kept : gives_up result ≡ false → session.token ≡ token
 
 -- no byte of a line that has not ended is held
 abbrev pub IsBetweenLines : SessionState → Type 0

@@ -1,10 +1,11 @@
 -- Words for the worked examples: lines that are short to write, and their steps.
-use Rattle.std.specs.Prelude.{ℕ, List, [], ◌∷◌, codes}
+use Rattle.std.specs.Prelude.{ℕ, Option, List, [], ◌∷◌, codes, map}
 use Prim.Native.String.{String}
 use Rattle.amcp_text.specs.Lines.{Line, Text}
 use Rattle.play_types.specs.Config.{ChannelView, ConfigView}
 use Rattle.play_types.specs.Place.{PlaceView}
 use Rattle.history_model.specs.sessions.Session.{Step, until_end, line_steps}
+use Rattle.play_session.specs.Illegal.{illegal_word}
 
 abbrev channel : ChannelView
 channel = record { width = 1; height = 1; pairs = 0; output = codes "one.raw" }
@@ -28,3 +29,7 @@ gives lines = gives_without [] lines
 -- layer l of channel 1
 abbrev pub layer : ℕ → PlaceView
 layer l = record { channel = 1; layer = l }
+
+-- the words for which these lines are refused
+abbrev pub wrong_words : List Line → List (Option ℕ)
+wrong_words lines = map (λ one_line. illegal_word one [] one_line) lines

@@ -7,9 +7,12 @@
 
 mod batch;
 pub mod examples;
+mod illegal;
 mod meaning;
+mod request;
 mod session;
 mod step;
 
+pub use illegal::illegal_word;
 pub use session::Session;
 pub use step::Step;

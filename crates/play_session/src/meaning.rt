@@ -1,14 +1,15 @@
-//! What a line of a connection means.
-ghost use Rattle.std.specs.Prelude.{◌≡◌, ◌<◌, IfOk, Ok, length};
+//! What a line of a connection means, and the token that it has.
+ghost use Rattle.std.specs.Prelude.{◌≡◌, ◌<◌, IfOk, None, Ok};
 ghost use Rattle.std.specs.Str.{chars};
 ghost use Rattle.amcp_text.specs.Reader.{line_view};
 ghost use Rattle.amcp_text.specs.Tokens.{words_of};
 ghost use Rattle.history_model.specs.sessions.Line.{Wrong, line_meaning, meaning_of_words, refusal_reply};
+ghost use Rattle.history_model.specs.sessions.Request.{line_token, token_among, token_of_words};
 ghost use Rattle.play_types.specs.declared.reply.Reply.TheVariants.{Unknown};
 ghost use Rattle.play_session.specs.inner.Meaning.{meaning_view};
 
-use amcp_text::{LineEvent, TokenFault, WordList, tokens};
-use cmd_parse::parse;
+use crate::request::{requested, token_among};
+use amcp_text::{LineEvent, ReqToken, TokenFault, WordList, tokens};
 use play_types::{Config, MediaNames, Parsed, Refusal, Reply, Text};
 use std::alloc::{AllocError, Global};
 
@@ -23,67 +24,86 @@ pub enum Meaning {
     Asks(Parsed),
 }
 
-/// Returns what a line means with this configuration and these clips. A line that is too long, or is not UTF-8, is
-/// refused without its text.
-#[tactic(auto, unfolding(history_model::specs::sessions::Line::line_meaning))]
-pub fn meaning_of(
+/// A line that was read: the token that it has, if it has one, and what it means.
+#[derive(Debug, Drop)]
+pub struct ReadLine {
+    pub token: Option<ReqToken>,
+    pub meaning: Meaning,
+}
+
+/// Reads a line with this configuration and these clips. A line that is too long, or is not UTF-8, is refused without its
+/// text, and has no token.
+#[tactic(auto, unfolding(history_model::specs::sessions::Line::line_meaning, history_model::specs::sessions::Request::line_token))]
+pub fn read_line(
     alloc: Global,
     config: &Config,
     media: &MediaNames,
     line: LineEvent<'_>,
-) -> Result<Meaning, AllocError>
-    ensures { IfOk result
-        (λ meaning. meaning_view meaning ≡ line_meaning config.now media.now (line_view line.entry)) }
+) -> Result<ReadLine, AllocError>
+    ensures meaning { IfOk result
+        (λ read. meaning_view read.meaning ≡ line_meaning config.now media.now (line_view line.entry)) }
+    ensures token { IfOk result (λ read. read.token ≡ line_token (line_view line.entry)) }
 {
     match line {
-        LineEvent::Line(text) => meaning_of_text(alloc, config, media, text),
+        LineEvent::Line(text) => read_text(alloc, config, media, text),
         LineEvent::TooLong => unknown(alloc, ""),
         LineEvent::NotUtf8 => unknown(alloc, ""),
     }
 }
 
-/// Returns what a line of text means.
-fn meaning_of_text(
+/// Reads a line of text.
+fn read_text(
     alloc: Global,
     config: &Config,
     media: &MediaNames,
     line: &str,
-) -> Result<Meaning, AllocError>
-    ensures { IfOk result (λ meaning. meaning_view meaning
+) -> Result<ReadLine, AllocError>
+    ensures meaning { IfOk result (λ read. meaning_view read.meaning
         ≡ meaning_of_words config.now media.now (chars line.now) (words_of (chars line.now))) }
+    ensures token { IfOk result (λ read. read.token ≡ token_of_words (words_of (chars line.now))) }
 {
     match tokens(alloc, line) {
-        Ok(words) => meaning_of_words(alloc, config, media, line, &words),
+        Ok(words) => read_words(alloc, config, media, line, words),
         Err(TokenFault::OutOfMemory) => Err(AllocError),
         Err(TokenFault::OpenQuote { .. } | TokenFault::BadEscape { .. }) => unknown(alloc, line),
     }
 }
 
-/// Returns what the words of a line mean.
-fn meaning_of_words(
+/// Reads a line that has these words.
+fn read_words(
     alloc: Global,
     config: &Config,
     media: &MediaNames,
     line: &str,
-    words: &WordList,
-) -> Result<Meaning, AllocError>
-    ensures { IfOk result (λ meaning. meaning_view meaning
-        ≡ meaning_of_words config.now media.now (chars line.now) (Ok words.now)) }
+    mut words: WordList,
+) -> Result<ReadLine, AllocError>
+    ensures meaning { IfOk result (λ read. meaning_view read.meaning
+        ≡ meaning_of_words config.now media.now (chars line.now) (Ok words)) }
+    ensures token { IfOk result (λ read. read.token ≡ token_among words) }
 {
+    let token = token_among(&words);
     if words.is_empty() {
-        return Ok(Meaning::Blank);
+        return Ok(ReadLine {
+            token,
+            meaning: Meaning::Blank,
+        });
     }
-    match parse(words, config, media) {
-        Ok(asked) => Ok(Meaning::Asks(asked)),
-        Err(reason) => Ok(Meaning::Wrong(reply_to(alloc, line, reason)?)),
-    }
+    let meaning = match requested(&mut words, token, config, media) {
+        Ok(asked) => Meaning::Asks(asked),
+        Err(reason) => Meaning::Wrong(reply_to(alloc, line, reason)?),
+    };
+    Ok(ReadLine { token, meaning })
 }
 
-/// Returns the meaning of a line that is no command.
-fn unknown(alloc: Global, line: &str) -> Result<Meaning, AllocError>
-    ensures { IfOk result (λ meaning. meaning_view meaning ≡ Wrong (Unknown (chars line.now))) }
+/// Reads a line that has no words and is no command.
+fn unknown(alloc: Global, line: &str) -> Result<ReadLine, AllocError>
+    ensures meaning { IfOk result (λ read. meaning_view read.meaning ≡ Wrong (Unknown (chars line.now))) }
+    ensures token { IfOk result (λ read. read.token ≡ None) }
 {
-    Ok(Meaning::Wrong(reply_to(alloc, line, Refusal::Unknown)?))
+    Ok(ReadLine {
+        token: None,
+        meaning: Meaning::Wrong(reply_to(alloc, line, Refusal::Unknown)?),
+    })
 }
 
 /// Returns the reply to a line that is refused for this reason.

@@ -1,19 +1,20 @@
 //! The state of one connection.
-ghost use Rattle.std.specs.Prelude.{◌≡◌, ◌≢◌, ◌↔◌, ℕ, List, [], ◌∷◌, ◌++◌, take, IfOk, true, false};
+ghost use Rattle.std.specs.Prelude.{◌≡◌, ◌≢◌, ◌↔◌, ℕ, List, [], ◌∷◌, ◌++◌, take, IfOk, None, option_map, true, false};
 ghost use Rattle.std.specs.List.{list_any};
 ghost use Rattle.amcp_text.specs.Lines.{is_line_end};
 ghost use Rattle.amcp_text.specs.Reader.{taken_len};
 ghost use Rattle.play_types.specs.Config.{ConfigView};
 ghost use Rattle.play_types.specs.Media.{MediaNameView};
 ghost use Rattle.history_model.specs.commands.Channels.{AreAimed};
-ghost use Rattle.play_session.specs.Step.{ends};
-ghost use Rattle.play_session.specs.Session.{Progress, Represents, Gives, Fits, IsAsBefore, IsBetweenLines, after_bytes, at_start};
-ghost use Rattle.play_session.specs.inner.Following.{Follows, batch_of};
+ghost use Rattle.history_model.specs.sessions.Request.{text_token};
+ghost use Rattle.play_session.specs.Step.{ends, gives_up};
+ghost use Rattle.play_session.specs.Session.{Progress, Represents, Gives, HasToken, Fits, IsAsBefore, IsBetweenLines, after_bytes, at_start};
+ghost use Rattle.play_session.specs.inner.Following.{Follows, batch_of, token_read};
 
 use crate::batch::Batch;
-use crate::meaning::{Meaning, meaning_of};
+use crate::meaning::{ReadLine, read_line};
 use crate::step::Step;
-use amcp_text::{LineEvent, LineReader};
+use amcp_text::{LineEvent, LineReader, ReqToken};
 use play_types::{Cmd, Config, MediaNames, Reply};
 use std::alloc::{AllocError, Global};
 use std::marker::Model;
@@ -27,6 +28,7 @@ pub struct Session {
     reader: LineReader,
     batch: Batch,
     ended: bool,
+    token: Option<ReqToken>,
 }
 
 impl Model for Session {
@@ -34,7 +36,7 @@ impl Model for Session {
 
     ghost Value = { SessionState };
 
-    ghost view = { λ s. record { reader = s.reader; batch_open = s.batch.is_open; batch = s.batch.commands; ended = s.ended } };
+    ghost view = { λ s. record { reader = s.reader; batch_open = s.batch.is_open; batch = s.batch.commands; ended = s.ended; token = s.token } };
 }
 
 impl Session {
@@ -44,6 +46,7 @@ impl Session {
             → Represents config media session at_start) }
         ensures batch { IfOk result (λ session. session.batch ≡ []) }
         ensures ended { IfOk result (λ session. session.ended ≡ false) }
+        ensures token { IfOk result (λ session. session.token ≡ None) }
         ensures between { IfOk result IsBetweenLines }
     {
         let reader = LineReader::new(alloc)?;
@@ -52,6 +55,7 @@ impl Session {
             reader,
             batch,
             ended: false,
+            token: None,
         })
     }
 
@@ -60,11 +64,13 @@ impl Session {
         ensures represents { (config : ConfigView) (media : List MediaNameView) → Represents config media self.new at_start }
         ensures batch { self.new.batch ≡ [] }
         ensures ended { self.new.ended ≡ false }
+        ensures token { self.new.token ≡ None }
         ensures between { IsBetweenLines self.new }
     {
         self.reader.clear();
         self.batch.clear();
         self.ended = false;
+        self.token = None;
     }
 
     /// Takes the bytes of `piece` up to and with its first LF, and returns how many bytes it took: 0 exactly if a whole
@@ -75,6 +81,7 @@ impl Session {
             → Represents config media self.old progress
             → Represents config media self.new (after_bytes progress (take result piece.now)) }
         ensures same { IsAsBefore self.old self.new }
+        ensures token { self.new.token ≡ self.old.token }
     {
         self.reader.feed(piece)
     }
@@ -96,13 +103,15 @@ impl Session {
         ensures aimed { AreAimed config.now self.old.batch → AreAimed config.now self.new.batch }
         ensures filled { result ≡ Step.AskBatch → self.new.batch ≢ [] }
         ensures given_up { result ≡ Step.Local Reply.NoMemory → IsAsBefore self.old self.new }
+        ensures token { result ≢ Step.NeedMore → (progress : Progress) → Represents config.now media.now self.old progress
+            → HasToken result self.new progress }
     {
-        let meaning = match self.reader.line() {
-            Some(line) => meaning_of(alloc, config, media, line),
+        let read = match self.reader.line() {
+            Some(line) => read_line(alloc, config, media, line),
             None => return Step::NeedMore,
         };
         self.reader.next_line();
-        self.follow(meaning)
+        self.follow(read)
     }
 
     /// Takes one whole line, whose end is left out, and returns its step: as if the text and a CR LF were fed, and the
@@ -130,24 +139,33 @@ impl Session {
         ensures aimed { AreAimed config.now self.old.batch → AreAimed config.now self.new.batch }
         ensures filled { result ≡ Step.AskBatch → self.new.batch ≢ [] }
         ensures given_up { result ≡ Step.Local Reply.NoMemory → IsAsBefore self.old self.new }
+        ensures token { gives_up result ≡ false → self.new.token ≡ text_token text.now }
     {
-        let meaning = meaning_of(alloc, config, media, LineEvent::of(text));
+        let read = read_line(alloc, config, media, LineEvent::of(text));
         self.reader.clear();
-        self.follow(meaning)
+        self.follow(read)
     }
 
-    /// Does what a line of this meaning asks for, and returns its step. At an error the line is given up, out of memory.
-    fn follow(&mut self, meaning: Result<Meaning, AllocError>) -> Step
+    /// Does what a line asks for that was read, and returns its step. At an error the line is given up, out of memory.
+    fn follow(&mut self, read: Result<ReadLine, AllocError>) -> Step
         ensures reader { self.new.reader ≡ self.old.reader }
-        ensures follows { Follows meaning result (batch_of self.old) (batch_of self.new) }
+        ensures follows { Follows read result (batch_of self.old) (batch_of self.new) }
         ensures ended { self.new.ended ≡ ends result }
+        ensures token { self.new.token ≡ token_read read }
     {
-        let step = match meaning {
-            Ok(meaning) => self.batch.step(meaning),
-            Err(AllocError) => Step::Local(Reply::NoMemory),
-        };
-        self.ended = step.is_end();
-        step
+        match read {
+            Ok(read) => {
+                let step = self.batch.step(read.meaning);
+                self.token = read.token;
+                self.ended = step.is_end();
+                step
+            }
+            Err(AllocError) => {
+                self.token = None;
+                self.ended = false;
+                Step::Local(Reply::NoMemory)
+            }
+        }
     }
 
     /// Returns whether the session gave a `Kill` or a `Bye`, so that no further step may be asked for.
@@ -155,6 +173,14 @@ impl Session {
         ensures { result ≡ self.now.ended }
     {
         self.ended
+    }
+
+    /// Returns the token of the line whose step was given last, if the line has one, until the next step is asked for. It takes no
+    /// memory.
+    pub fn token(&self) -> Option<&ReqToken>
+        ensures { option_map (λ token. token.now) result ≡ self.now.token }
+    {
+        self.token.as_ref()
     }
 
     /// Returns the commands of the batch that an `AskBatch` asks for, until the next step is asked for.

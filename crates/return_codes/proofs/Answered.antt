@@ -4,7 +4,7 @@ use Rattle.play_types.specs.Config.{ConfigView}
 use Rattle.play_types.specs.Commands.{answer_reply, command_name}
 use Rattle.play_types.specs.declared.answer.Answer.{Answer}
 use Rattle.play_types.specs.declared.command.Cmd.{Cmd}
-use Rattle.play_types.specs.declared.command.Cmd.TheVariants.{Load, LoadBg, Play, PlayTake, Pause, Resume, StopLayer, ClearLayer, ClearChannel, SwapLayers, SwapChannels, Set, CommitMixer, ResetLayer, ResetChannel, Value, Info}
+use Rattle.play_types.specs.declared.command.Cmd.TheVariants.{Load, LoadBg, Play, PlayTake, Pause, Resume, StopLayer, ClearLayer, ClearChannel, SwapLayers, SwapChannels, Set, CommitMixer, ResetLayer, ResetChannel, AddFile, RemoveFile, Value, Info}
 use Rattle.play_types.specs.declared.event.Tag.{Tag}
 use Rattle.play_types.specs.declared.event.Event.{Event}
 use Rattle.play_types.specs.declared.event.Event.TheVariants as event
@@ -53,6 +53,8 @@ command_fits config setup history refused (Set setting) many = outcome_fits conf
 command_fits config setup history refused (CommitMixer channel) many = outcome_fits config name.Mixer refused
 command_fits config setup history refused (ResetLayer place) many = outcome_fits config name.Mixer refused
 command_fits config setup history refused (ResetChannel channel) many = outcome_fits config name.Mixer refused
+command_fits config setup history refused (AddFile channel recorded) many = outcome_fits config name.Add refused
+command_fits config setup history refused (RemoveFile channel) many = outcome_fits config name.Remove refused
 command_fits config setup history refused (Value place prop) many = tt
 command_fits config setup history refused Info many = many
 

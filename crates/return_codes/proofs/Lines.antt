@@ -1,18 +1,19 @@
 -- Lines in the parts in which they are sent.
 use Rattle.std.proofs.Common.{◌≡◌, ℕ, ◌+◌, true, false, refl, ap, ◌∙◌, List, [], ◌∷◌, ◌++◌, append_assoc, append-nil}
-use Rattle.std.specs.Prelude.{codes, decimal, encode_utf8_all}
+use Rattle.std.specs.Prelude.{Option, codes, decimal, encode_utf8_all}
 use Rattle.std.specs.List.{flat_map, zip, enumerate_from}
 use Rattle.std.proofs.lemmas.Grind.{flat_map-append}
 use Rattle.std.proofs.lemmas.List.Folds.{flat_map-map}
 use Rattle.amcp_text.specs.Escapes.{quoted}
 use Rattle.play_types.specs.Words.{name_text, status_text}
-use Rattle.play_types.specs.Config.{ChannelView}
+use Rattle.play_types.specs.Config.{ChannelView, ConfigView}
 use Rattle.play_types.specs.Media.{MediaNameView}
 use Rattle.play_types.specs.declared.answer.Status.{Status}
 use Rattle.play_types.specs.declared.reply.Name.{Name}
-use Rattle.history_model.specs.text.Replies.{code_line, size_text, channel_line, channel_lines, numbers_text, clip_text, media_line}
+use Rattle.play_types.specs.declared.reply.Reply.{Reply}
+use Rattle.history_model.specs.text.Replies.{code_line, size_text, channel_line, channel_lines, numbers_text, clip_text, media_line, answer_lines, reply_lines, reply_token, token_text, with_token, wrapped}
 use Rattle.return_codes.specs.declared.line.LineStyle.{LineStyle}
-use Rattle.return_codes.specs.inner.Style.{head_of, styled}
+use Rattle.return_codes.specs.inner.Style.{head_of, later, styled, styled_lines, token_of}
 
 -- a code, a name and a word
 pub code_line-parts : (code : ℕ) (name : Name) (word : List ℕ)
@@ -70,5 +71,27 @@ channel_lines-numbered style channels states =
 
 -- a list of lines between a line and an empty one
 pub listed_lines : (style : LineStyle) (first : List ℕ) (lines : List (List ℕ))
-    → flat_map (styled style) (first ∷ lines ++ [] ∷ []) ≡ styled style first ++ (flat_map (styled style) lines ++ styled style [])
-listed_lines style first lines = rw (flat_map-append (styled style) lines ([] ∷ []), append-nil (styled style [])) refl
+    → styled_lines style (first ∷ lines ++ [] ∷ []) ≡ styled style first ++ (flat_map (styled (later style)) lines ++ styled (later style) [])
+listed_lines style first lines = rw (flat_map-append (styled (later style)) lines ([] ∷ []), append-nil (styled (later style) [])) refl
+
+-- lines after the first have nothing more than each line before them
+later_lines : (style : LineStyle) (lines : List (List ℕ))
+    → flat_map (styled (later style)) lines ≡ flat_map (wrapped (flat_map (λ part. part.now) style.before.now) style.after.now) lines
+later_lines style lines =
+    ap (λ (head : List ℕ). flat_map (wrapped head style.after.now) lines) (append-nil (flat_map (λ part. part.now) style.before.now))
+
+-- the lines of a reply are its lines with the token before the first, each with what stands before it and what ends it
+pub lines_of_style : (style : LineStyle) (lines : List (List ℕ))
+    → styled_lines style lines ≡ flat_map (wrapped (flat_map (λ part. part.now) style.before.now) style.after.now) (with_token (token_of style) lines)
+lines_of_style style [] = refl
+lines_of_style style (line ∷ lines) =
+    let head = flat_map (λ part. part.now) style.before.now in
+    (λ i. (append_assoc head (token_text (token_of style)) line i ++ style.after.now) ++ later_lines style lines i)
+
+-- the lines of the reply to a line with a token, or without one
+pub lines_sent : (style : LineStyle) (config : ConfigView) (media : List MediaNameView) (token : Option (List ℕ)) (answer : Reply) → token_of style ≡ reply_token token answer
+    → styled_lines style (reply_lines config media answer)
+    ≡ flat_map (wrapped (flat_map (λ part. part.now) style.before.now) style.after.now) (answer_lines config media token answer)
+lines_sent style config media token answer is =
+    lines_of_style style (reply_lines config media answer)
+    ∙ ap (λ (t : Option (List ℕ)). flat_map (wrapped (flat_map (λ part. part.now) style.before.now) style.after.now) (with_token t (reply_lines config media answer))) is

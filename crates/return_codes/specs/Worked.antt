@@ -1,9 +1,9 @@
 -- Words for the worked examples: replies of a server of two channels, with two clips.
-use Rattle.std.specs.Prelude.{ℕ, List, [], ◌∷◌, ◌++◌, codes}
+use Rattle.std.specs.Prelude.{ℕ, Option, Some, None, List, [], ◌∷◌, ◌++◌, codes}
 use Rattle.play_types.specs.Config.{ChannelView, ConfigView}
 use Rattle.play_types.specs.Media.{MediaNameView, clip_name, unreadable_name}
 use Rattle.play_types.specs.declared.reply.Reply.{Reply}
-use Rattle.history_model.specs.text.Replies.{reply_bytes, reply_lines}
+use Rattle.history_model.specs.text.Replies.{answer_lines, reply_bytes, reply_lines}
 
 abbrev channel : ℕ → ℕ → ChannelView
 channel width height = record { width = width; height = height; pairs = 2; output = codes "out.raw" }
@@ -22,6 +22,10 @@ media =
 abbrev pub lines : Reply → List (List ℕ)
 lines answer = reply_lines two media answer
 
+-- the lines of the reply to a line with this token
+abbrev pub token_lines : List ℕ → Reply → List (List ℕ)
+token_lines token answer = answer_lines two media (Some token) answer
+
 -- the bytes of a reply
 abbrev pub bytes : Reply → List ℕ
-bytes answer = reply_bytes two media answer
+bytes answer = reply_bytes two media None answer

@@ -7,7 +7,7 @@ ghost use Rattle.play_types.specs.Answer.{micros_of, status_list_of};
 ghost use Rattle.play_types.specs.declared.answer.Status.TheVariants.{Empty, Playing};
 ghost use Rattle.play_types.specs.declared.reply.Name.TheVariants as name;
 ghost use Rattle.play_types.specs.declared.reply.Reply.TheVariants.{Done, Value, Info, Cls, Version, Unknown, Refused, NoMemory};
-ghost use Rattle.return_codes.specs.Worked.{bytes, lines};
+ghost use Rattle.return_codes.specs.Worked.{bytes, lines, token_lines};
 
 /// Replies of one line, which has a code, the name of a command and a word.
 pub fn codes()
@@ -35,4 +35,14 @@ pub fn lists()
         ≡ codes "200 INFO OK" ∷ codes "1 1280x720 PLAYING" ∷ codes "2 1x4096 EMPTY" ∷ [] ∷ [] }
     ensures names { lines Cls
         ≡ codes "200 CLS OK" ∷ codes "\"BAD\" UNREADABLE" ∷ (34 ∷ 195 ∷ 137 ∷ codes " \\\"B\\\\C\\nD\" 320x180 1000000 4096") ∷ [] ∷ [] }
+{}
+
+/// A token stands before the first line alone, and a 500 has none.
+pub fn tokens()
+    ensures one_line { token_lines (codes "a1") (Refused 503 name.Play) ≡ codes "RES a1 503 PLAY FAILED" ∷ [] }
+    ensures two_lines { token_lines (codes "d") (Unknown (codes "REQ d REQ e INFO"))
+        ≡ codes "RES d 400 ERROR" ∷ codes "REQ d REQ e INFO" ∷ [] }
+    ensures statuses { token_lines (codes "~") (Info (status_list_of (Playing ∷ Empty ∷ []) 2))
+        ≡ codes "RES ~ 200 INFO OK" ∷ codes "1 1280x720 PLAYING" ∷ codes "2 1x4096 EMPTY" ∷ [] ∷ [] }
+    ensures no_memory { token_lines (codes "a1") NoMemory ≡ codes "500 FAILED" ∷ [] }
 {}

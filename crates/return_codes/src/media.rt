@@ -32,7 +32,7 @@ pub(crate) fn add_names<K: Sink>(
 fn add_name<K: Sink>(clip: &MediaName, style: &LineStyle, text: &mut Text, to: &mut K) -> Sent
     ensures { Adds result (text.old ++ styled style.now (media_line clip.now)) text.new (K.state to.old) (K.state to.new) }
 {
-    text.add_parts(style.before, to)?;
+    style.add_head(text, to)?;
     add_quoted(clip.name().as_str(), text, to)?;
     add_clip(clip, text, to)?;
     text.add(style.after, to)

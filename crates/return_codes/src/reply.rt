@@ -1,37 +1,50 @@
 //! The lines of a reply.
-ghost use Rattle.std.specs.Prelude.{◌≡◌, ◌∷◌, ◌++◌, [], length, take, map, codes};
+ghost use Rattle.std.specs.Prelude.{◌≡◌, ◌∷◌, ◌++◌, [], length, take, map, option_map, codes};
 ghost use Rattle.std.specs.List.{flat_map};
 ghost use Rattle.play_outside.specs.Sink.{Sends};
 ghost use Rattle.play_outside.specs.Gathered.{Adds};
-ghost use Rattle.history_model.specs.text.Replies.{IsReplyTo, refusal_word, code_line, channel_lines, media_line, wrapped, reply_lines, reply_bytes};
-ghost use Rattle.return_codes.specs.inner.Style.{styled};
+ghost use Rattle.history_model.specs.text.Replies.{IsReplyTo, refusal_word, code_line, channel_lines, media_line, wrapped, answer_lines, reply_lines, reply_token, reply_bytes};
+ghost use Rattle.return_codes.specs.inner.Style.{styled, styled_lines};
 
 use crate::line::{LineStyle, Text};
 use crate::media::add_names;
 use crate::status::add_statuses;
 use crate::value::add_values;
+use amcp_text::ReqToken;
 use itoa::Buffer;
 use play_outside::{Sent, Sink};
 use play_types::{ChannelList, Config, MediaNames, Name, Reply, StatusList};
 
-/// Writes the lines of a reply, each ended by CR LF. It takes no memory, and lines of at most 4,096 bytes together are one
-/// write.
+/// Writes the lines of the reply to a line with this token, or without one, each ended by CR LF. It takes no memory, and lines of
+/// at most 4,096 bytes together are one write.
+///
+/// The first line begins with `RES `, the token and a space, if there is a token. A `NoMemory` has none.
 ///
 /// An `Info` has a status for each channel of the configuration, and a `Refused` has one of the codes 401 to 404 and 501
 /// to 503. The reply to CLS lists the names of `media`. The result is `Failed` only if `to` failed, and then a prefix of
 /// the lines was written.
-pub fn send_reply<K: Sink>(reply: &Reply, config: &Config, media: &MediaNames, to: &mut K) -> Sent
+pub fn send_reply<K: Sink>(
+    reply: &Reply,
+    token: Option<&ReqToken>,
+    config: &Config,
+    media: &MediaNames,
+    to: &mut K,
+) -> Sent
     requires { IsReplyTo config.now reply.now }
-    ensures { Sends result (reply_bytes config.now media.now reply.now) (K.state to.old) (K.state to.new) }
+    ensures { Sends result
+        (reply_bytes config.now media.now (option_map (λ token. token.now) token.entry) reply.now)
+        (K.state to.old) (K.state to.new) }
 {
-    send_reply_lines(reply, config, media, &[], b"\r\n", to)
+    send_reply_lines(reply, token, config, media, &[], b"\r\n", to)
 }
 
-/// Writes the lines of a reply, each with the parts of `before` before it and ended by `after`. It takes no memory.
+/// Writes the lines of the reply to a line with this token, or without one, each with the parts of `before` before it and ended
+/// by `after`. It takes no memory.
 ///
 /// The reply is one that `send_reply` takes, and the result is `Failed` only if `to` failed.
 pub fn send_reply_lines<'a, K: Sink>(
     reply: &Reply,
+    token: Option<&ReqToken>,
     config: &Config,
     media: &MediaNames,
     before: &'a [&'a [u8]],
@@ -40,19 +53,35 @@ pub fn send_reply_lines<'a, K: Sink>(
 ) -> Sent
     requires { IsReplyTo config.now reply.now }
     ensures { Sends result
-        (flat_map (wrapped (flat_map (λ part. part.now) before.now) after.now) (reply_lines config.now media.now reply.now))
+        (flat_map (wrapped (flat_map (λ part. part.now) before.now) after.now)
+        (answer_lines config.now media.now (option_map (λ token. token.now) token.entry) reply.now))
         (K.state to.old) (K.state to.new) }
 {
+    let style = LineStyle {
+        before,
+        token: reply_token(reply, token),
+        after,
+    };
     let mut text = Text::new();
-    add_reply(
-        reply,
-        config,
-        media,
-        &LineStyle { before, after },
-        &mut text,
-        to,
-    )?;
+    add_reply(reply, config, media, &style, &mut text, to)?;
     text.finish(to)
+}
+
+/// Returns the token that the reply to a line with this token has: `NoMemory` has none.
+fn reply_token<'a>(reply: &Reply, token: Option<&'a ReqToken>) -> Option<&'a ReqToken>
+    ensures { option_map (λ token. token.now) result
+        ≡ reply_token (option_map (λ token. token.now) token.entry) reply.now }
+{
+    match reply {
+        Reply::Done(_)
+        | Reply::Value(_)
+        | Reply::Info(_)
+        | Reply::Cls
+        | Reply::Version
+        | Reply::Unknown(_)
+        | Reply::Refused(_, _) => token,
+        Reply::NoMemory => None,
+    }
 }
 
 /// Adds the lines of a reply.
@@ -66,7 +95,7 @@ fn add_reply<K: Sink>(
 ) -> Sent
     requires { IsReplyTo config.now reply.now }
     ensures { Adds result
-        (text.old ++ flat_map (styled style.now) (reply_lines config.now media.now reply.now))
+        (text.old ++ styled_lines style.now (reply_lines config.now media.now reply.now))
         text.new (K.state to.old) (K.state to.new) }
 {
     match reply {
@@ -117,23 +146,25 @@ fn add_info<K: Sink>(
 ) -> Sent
     requires { statuses.count ≡ length channels.now }
     ensures { Adds result
-        (text.old ++ flat_map (styled style.now) (codes "200 INFO OK" ∷ channel_lines channels.now (take statuses.count statuses.channels) ++ [] ∷ []))
+        (text.old ++ styled_lines style.now (codes "200 INFO OK" ∷ channel_lines channels.now (take statuses.count statuses.channels) ++ [] ∷ []))
         text.new (K.state to.old) (K.state to.new) }
 {
+    let later = style.later();
     style.add_line(&[b"200 INFO OK"], text, to)?;
-    add_statuses(channels, statuses, style, text, to)?;
-    style.add_line(&[], text, to)
+    add_statuses(channels, statuses, &later, text, to)?;
+    later.add_line(&[], text, to)
 }
 
 /// Adds the reply to CLS: its first line, the names of the media table, and an empty line.
 fn add_cls<K: Sink>(media: &MediaNames, style: &LineStyle, text: &mut Text, to: &mut K) -> Sent
     ensures { Adds result
-        (text.old ++ flat_map (styled style.now) (codes "200 CLS OK" ∷ map media_line media.now ++ [] ∷ []))
+        (text.old ++ styled_lines style.now (codes "200 CLS OK" ∷ map media_line media.now ++ [] ∷ []))
         text.new (K.state to.old) (K.state to.new) }
 {
+    let later = style.later();
     style.add_line(&[b"200 CLS OK"], text, to)?;
-    add_names(media, style, text, to)?;
-    style.add_line(&[], text, to)
+    add_names(media, &later, text, to)?;
+    later.add_line(&[], text, to)
 }
 
 /// Returns the word for a command that was refused with this code: `ERROR` below 500, if the client is at fault, and

@@ -1,9 +1,8 @@
 //! Mixer values.
 ghost use Rattle.std.specs.Prelude.{codes, ◌∷◌, ◌++◌, []};
-ghost use Rattle.std.specs.List.{flat_map};
 ghost use Rattle.history_model.specs.text.Replies.{values_line};
 ghost use Rattle.play_outside.specs.Gathered.{Adds};
-ghost use Rattle.return_codes.specs.inner.Style.{styled};
+ghost use Rattle.return_codes.specs.inner.Style.{styled_lines};
 
 use crate::line::{LineStyle, Text};
 use fixed_params::MicroText;
@@ -18,7 +17,7 @@ pub(crate) fn add_values<K: Sink>(
     to: &mut K,
 ) -> Sent
     ensures { Adds result
-        (text.old ++ flat_map (styled style.now) (codes "201 MIXER OK" ∷ values_line micros ∷ []))
+        (text.old ++ styled_lines style.now (codes "201 MIXER OK" ∷ values_line micros ∷ []))
         text.new (K.state to.old) (K.state to.new) }
 {
     let [a, b, c, d] = micros.values();

@@ -3,17 +3,19 @@ use Rattle.std.specs.Prelude.{ℕ, ◌+◌, ◌&&◌, ◌||◌, not, Bool, true,
 use Rattle.amcp_text.specs.Numbers.{whole_number}
 use Rattle.play_types.specs.Transition.{TransView, cut, trans_of}
 use Rattle.play_types.specs.declared.transition.Kind.{Kind}
+use Rattle.play_types.specs.declared.transition.Curve.{Curve}
 use Rattle.play_types.specs.declared.transition.Curve.TheVariants.{Linear}
 use Rattle.play_types.specs.declared.transition.TheConstants.{MAX_DURATION}
 use Rattle.play_types.specs.declared.clip.TheConstants.{MAX_FRAMES}
 use Rattle.play_types.specs.declared.parsed.Refusal.{Refusal}
 use Rattle.play_types.specs.declared.parsed.Refusal.TheVariants.{Illegal}
-use Rattle.history_model.specs.commands.Line.{Line, ◌>>=◌, number_at, stands_at}
+use Rattle.history_model.specs.commands.Line.{Line, ◌>>=◌, curve_at, number_at, stands_at}
 use Rattle.history_model.specs.commands.Options as meant
 use Rattle.cmd_parse.specs.inner.Keyword.{keyword_of, is_cut}
 use Rattle.cmd_parse.specs.declared.keyword.Keyword.{Keyword}
 use Rattle.cmd_parse.specs.declared.keyword.Keyword.TheVariants.{Loop, Seek, Length, Auto, Transition}
 use Rattle.cmd_parse.specs.declared.options.Given.{Given}
+use Rattle.cmd_parse.specs.declared.options.Manner.{Manner}
 
 -- what the options say
 abbrev pub view : Given → meant.Options
@@ -52,14 +54,25 @@ is_direction_at line at =
 abbrev pub is_number_at : Line → ℕ → Bool
 is_number_at line at = is_some (option_and_then whole_number (slice_get line.words at))
 
--- the number of words from a position on that are a curve and a direction, and whether the transition goes leftward
-unfoldable pub manner_at : Line → ℕ → ℕ × Bool
-manner_at line at =
-    if stands_at line at (codes "LINEAR") then
-    (if is_direction_at line (at + 1) then (2, is_leftward_at line (at + 1)) else (1, false))
-    else if is_direction_at line at then
-    (if stands_at line (at + 1) (codes "LINEAR") then 2 else 1, is_leftward_at line at)
-    else (0, false)
+-- the curve and the direction if a curve stands at a position, with a direction after it or without one
+abbrev pub curve_first : Line → ℕ → Curve → Manner
+curve_first line at curve =
+    if is_direction_at line (at + 1) then record { words = 2; curve = curve; leftward = is_leftward_at line (at + 1) }
+    else record { words = 1; curve = curve; leftward = false }
+
+-- the curve and the direction if a direction may stand at a position, with this curve after it or without one
+abbrev pub direction_first : Line → ℕ → Option Curve → Manner
+direction_first line at curve =
+    if is_direction_at line at then
+    record { words = if is_some curve then 2 else 1; curve = unwrap_or curve Linear; leftward = is_leftward_at line at }
+    else record { words = 0; curve = Linear; leftward = false }
+
+-- the curve and the direction from a position on, and the number of words that say so
+unfoldable pub manner_at : Line → ℕ → Manner
+manner_at line at = elim (curve_at line at) [
+  | Some curve ↦ curve_first line at curve
+  | None ↦ direction_first line at (curve_at line (at + 1))
+]
 
 -- the duration of a transition, and the number of words that write it
 unfoldable pub duration_at : Line → ℕ → Kind → Result (ℕ × ℕ) Refusal
@@ -74,7 +87,7 @@ unfoldable pub transition_at : Line → ℕ → Kind → Result (TransView × �
 transition_at line at kind = do
   duration ← duration_at line at kind
   let manner = manner_at line (at + duration.1)
-  Ok (trans_of kind duration.0 Linear manner.1, duration.1 + manner.0)
+  Ok (trans_of kind duration.0 manner.curve manner.leftward, duration.1 + manner.words)
 
 -- the options with the one that begins at a position, if it was not given before, and the number of words after its
 -- first that belong to it

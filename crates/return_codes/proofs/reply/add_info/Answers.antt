@@ -3,24 +3,24 @@ use Rattle.std.specs.List.{flat_map}
 use Rattle.std.specs.Prelude.{codes, take}
 use Rattle.history_model.specs.text.Replies.{channel_lines}
 use Rattle.play_outside.proofs.Following.{added-then, added-left}
-use Rattle.return_codes.specs.inner.Style.{styled}
+use Rattle.return_codes.specs.inner.Style.{later, styled}
 use Rattle.return_codes.proofs.Lines.{listed_lines}
 use Rattle.return_codes.proofs.reply.add_info.Goals as goal
 
 pub returns-in_err-add_line : goal.returns-in_err-add_line
 returns-in_err-add_line g c =
     rw listed_lines
-    (added-left _ _ _ (styled c.args.style.now (codes "200 INFO OK")) (flat_map (styled c.args.style.now) (channel_lines c.args.channels.now (take c.args.statuses.count c.args.statuses.channels)) ++ styled c.args.style.now []) _ _ _ c.add_line.ensures c.in_err-add_line.ensures c.from_residual.ensures)
+    (added-left _ _ _ (styled c.args.style.now (codes "200 INFO OK")) (flat_map (styled (later c.args.style.now)) (channel_lines c.args.channels.now (take c.args.statuses.count c.args.statuses.channels)) ++ styled (later c.args.style.now) []) _ _ _ c.add_line.ensures c.in_err-add_line.ensures c.from_residual.ensures)
 
 pub returns-in_err-add_statuses : goal.returns-in_err-add_statuses
 returns-in_err-add_statuses g c =
     rw listed_lines
-    (added-then _ _ (styled c.args.style.now (codes "200 INFO OK")) (flat_map (styled c.args.style.now) (channel_lines c.args.channels.now (take c.args.statuses.count c.args.statuses.channels)) ++ styled c.args.style.now []) _ _ _ _ _ (rw c.in_ok-add_line.ensures at c.add_line.ensures)
-    (added-left _ _ _ (flat_map (styled c.args.style.now) (channel_lines c.args.channels.now (take c.args.statuses.count c.args.statuses.channels))) (styled c.args.style.now []) _ _ _ c.add_statuses.ensures c.in_err-add_statuses.ensures c.from_residual-in_err-add_statuses.ensures))
+    (added-then _ _ (styled c.args.style.now (codes "200 INFO OK")) (flat_map (styled (later c.args.style.now)) (channel_lines c.args.channels.now (take c.args.statuses.count c.args.statuses.channels)) ++ styled (later c.args.style.now) []) _ _ _ _ _ (rw c.in_ok-add_line.ensures at c.add_line.ensures)
+    (added-left _ _ _ (flat_map (styled (later c.args.style.now)) (channel_lines c.args.channels.now (take c.args.statuses.count c.args.statuses.channels))) (styled (later c.args.style.now) []) _ _ _ (rw c.later-later.ensures at c.add_statuses.ensures) c.in_err-add_statuses.ensures c.from_residual-in_err-add_statuses.ensures))
 
 pub returns : goal.returns
 returns g c =
     rw listed_lines
-    (added-then _ _ (styled c.args.style.now (codes "200 INFO OK")) (flat_map (styled c.args.style.now) (channel_lines c.args.channels.now (take c.args.statuses.count c.args.statuses.channels)) ++ styled c.args.style.now []) _ _ _ _ _ (rw c.in_ok-add_line.ensures at c.add_line.ensures)
-    (added-then _ _ (flat_map (styled c.args.style.now) (channel_lines c.args.channels.now (take c.args.statuses.count c.args.statuses.channels))) (styled c.args.style.now []) _ _ _ _ _ (rw c.in_ok-add_statuses.ensures at c.add_statuses.ensures)
-    c.add_line-2.ensures))
+    (added-then _ _ (styled c.args.style.now (codes "200 INFO OK")) (flat_map (styled (later c.args.style.now)) (channel_lines c.args.channels.now (take c.args.statuses.count c.args.statuses.channels)) ++ styled (later c.args.style.now) []) _ _ _ _ _ (rw c.in_ok-add_line.ensures at c.add_line.ensures)
+    (added-then _ _ (flat_map (styled (later c.args.style.now)) (channel_lines c.args.channels.now (take c.args.statuses.count c.args.statuses.channels))) (styled (later c.args.style.now) []) _ _ _ _ _ (rw (c.in_ok-add_statuses.ensures, c.later-later.ensures) at c.add_statuses.ensures)
+    (rw c.later-later.ensures at c.add_line-2.ensures)))

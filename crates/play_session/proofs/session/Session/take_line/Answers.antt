@@ -9,25 +9,26 @@ use Rattle.play_session.specs.inner.Following.{batch_of}
 use Rattle.play_session.proofs.Filled.{followed_filled}
 use Rattle.play_session.proofs.Fitting.{followed_aimed, followed_fits}
 use Rattle.play_session.proofs.WholeLine.{Gives-whole}
+use Rattle.play_session.proofs.NextToken.{token_kept}
 use Rattle.play_session.proofs.session.Session.take_line.Goals as goal
 
 pub returns-clause-gives : goal.returns-clause-gives
 returns-clause-gives c = λ between one_line progress s.
     let inside = c.self.inside in
-    let before : SessionState = record { reader = inside.reader; batch_open = inside.batch.is_open; batch = inside.batch.commands; ended = inside.ended } in
+    let before : SessionState = record { reader = inside.reader; batch_open = inside.batch.is_open; batch = inside.batch.commands; ended = inside.ended; token = inside.token } in
     let inner = subst (λ (session : SessionState). Represents c.args.config.now c.args.media.now session progress) (sym c.self.view_is) s in
     let going : before.ended ≡ _ = ap (λ (session : SessionState). session.ended) c.self.view_is ∙ c.requires in
     let dropped = subst (λ (r : ReaderState). reader.Represents r []) (sym c.follow.ensures.reader) c.clear.ensures in
-    Gives-whole c.args.config.now c.args.media.now c.meaning_of-meaning.result c.follow.result before c.follow.new.self c.args.text.now
+    Gives-whole c.args.config.now c.args.media.now c.read_line-read.result c.follow.result before c.follow.new.self c.args.text.now
     (subst (λ (session : SessionState). IsBetweenLines session) (sym c.self.view_is) between) one_line going dropped
-    (rw c.of.ensures at c.meaning_of-meaning.ensures) c.follow.ensures.follows c.follow.ensures.ended progress inner
+    (rw c.of.ensures at c.read_line-read.ensures.meaning) c.follow.ensures.follows c.follow.ensures.ended progress inner
 
 pub returns-clause-fits : goal.returns-clause-fits
 returns-clause-fits c =
     let inside = c.self.inside in
-    let before : SessionState = record { reader = inside.reader; batch_open = inside.batch.is_open; batch = inside.batch.commands; ended = inside.ended } in
-    followed_fits c.args.config.now c.args.media.now (line_of_text c.args.text.now) c.meaning_of-meaning.result c.follow.result before c.follow.new.self
-    (rw c.of.ensures at c.meaning_of-meaning.ensures) c.follow.ensures.follows
+    let before : SessionState = record { reader = inside.reader; batch_open = inside.batch.is_open; batch = inside.batch.commands; ended = inside.ended; token = inside.token } in
+    followed_fits c.args.config.now c.args.media.now (line_of_text c.args.text.now) c.read_line-read.result c.follow.result before c.follow.new.self
+    (rw c.of.ensures at c.read_line-read.ensures.meaning) c.follow.ensures.follows
 
 pub returns-clause-between : goal.returns-clause-between
 returns-clause-between c = subst (λ (r : ReaderState). reader.Represents r []) (sym c.follow.ensures.reader) c.clear.ensures
@@ -35,13 +36,20 @@ returns-clause-between c = subst (λ (r : ReaderState). reader.Represents r []) 
 pub returns-clause-aimed : goal.returns-clause-aimed
 returns-clause-aimed c = λ aimed.
     let inside = c.self.inside in
-    let before : SessionState = record { reader = inside.reader; batch_open = inside.batch.is_open; batch = inside.batch.commands; ended = inside.ended } in
+    let before : SessionState = record { reader = inside.reader; batch_open = inside.batch.is_open; batch = inside.batch.commands; ended = inside.ended; token = inside.token } in
     let inner = subst (λ (session : SessionState). AreAimed c.args.config.now session.batch) (sym c.self.view_is) aimed in
-    followed_aimed c.args.config.now c.args.media.now (line_of_text c.args.text.now) c.meaning_of-meaning.result c.follow.result before c.follow.new.self
-    (rw c.of.ensures at c.meaning_of-meaning.ensures) c.follow.ensures.follows inner
+    followed_aimed c.args.config.now c.args.media.now (line_of_text c.args.text.now) c.read_line-read.result c.follow.result before c.follow.new.self
+    (rw c.of.ensures at c.read_line-read.ensures.meaning) c.follow.ensures.follows inner
 
 pub returns-clause-filled : goal.returns-clause-filled
 returns-clause-filled c =
     let inside = c.self.inside in
-    let before : SessionState = record { reader = inside.reader; batch_open = inside.batch.is_open; batch = inside.batch.commands; ended = inside.ended } in
-    followed_filled c.meaning_of-meaning.result c.follow.result (batch_of before) (batch_of c.follow.new.self) c.follow.ensures.follows
+    let before : SessionState = record { reader = inside.reader; batch_open = inside.batch.is_open; batch = inside.batch.commands; ended = inside.ended; token = inside.token } in
+    followed_filled c.read_line-read.result c.follow.result (batch_of before) (batch_of c.follow.new.self) c.follow.ensures.follows
+
+pub returns-clause-token : goal.returns-clause-token
+returns-clause-token c =
+    let inside = c.self.inside in
+    let before : SessionState = record { reader = inside.reader; batch_open = inside.batch.is_open; batch = inside.batch.commands; ended = inside.ended; token = inside.token } in
+    token_kept c.read_line-read.result c.follow.result before c.follow.new.self (line_of_text c.args.text.now) (rw c.of.ensures at c.read_line-read.ensures.token)
+    c.follow.ensures.follows c.follow.ensures.token

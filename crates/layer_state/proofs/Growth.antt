@@ -5,7 +5,7 @@ use Rattle.std.specs.Prelude.{Option, Some, None, option_map}
 use Rattle.std.specs.Option.{ForSome}
 use Rattle.play_types.specs.Take.{TakeView}
 use Rattle.play_types.specs.declared.command.Cmd.{Cmd}
-use Rattle.play_types.specs.declared.command.Cmd.TheVariants.{Load, LoadBg, Play, PlayTake, Pause, Resume, StopLayer, ClearLayer, ClearChannel, SwapLayers, SwapChannels, Set, CommitMixer, ResetLayer, ResetChannel, Value, Info}
+use Rattle.play_types.specs.declared.command.Cmd.TheVariants.{Load, LoadBg, Play, PlayTake, Pause, Resume, StopLayer, ClearLayer, ClearChannel, SwapLayers, SwapChannels, Set, CommitMixer, ResetLayer, ResetChannel, AddFile, RemoveFile, Value, Info}
 use Rattle.history_model.specs.stage.Act.{Act}
 use Rattle.history_model.specs.stage.Life.{Foreground, Life, Outgoing, after, after_delay, after_play, delay, effect, life, run_for, shown_for, start, start_of, with_mark}
 use Rattle.layer_state.specs.Past.{IsPast, Represents}
@@ -49,6 +49,8 @@ effect-few (Set setting) s t few = few
 effect-few (CommitMixer channel) s t few = few
 effect-few (ResetLayer at) s t few = few
 effect-few (ResetChannel channel) s t few = few
+effect-few (AddFile marked name) s t few = few
+effect-few (RemoveFile marked) s t few = few
 effect-few (Value at prop) s t few = few
 effect-few Info s t few = few
 

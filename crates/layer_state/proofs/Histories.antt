@@ -4,7 +4,7 @@ use Rattle.std.specs.Prelude.{Option, Some, None, option_and_then}
 use Rattle.std.specs.List.{list_any}
 use Rattle.play_types.specs.History.{ticks}
 use Rattle.play_types.specs.declared.command.Cmd.{Cmd}
-use Rattle.play_types.specs.declared.command.Cmd.TheVariants.{Load, LoadBg, Play, PlayTake, Pause, Resume, StopLayer, ClearLayer, ClearChannel, SwapLayers, SwapChannels, Set, CommitMixer, ResetLayer, ResetChannel, Value, Info}
+use Rattle.play_types.specs.declared.command.Cmd.TheVariants.{Load, LoadBg, Play, PlayTake, Pause, Resume, StopLayer, ClearLayer, ClearChannel, SwapLayers, SwapChannels, Set, CommitMixer, ResetLayer, ResetChannel, AddFile, RemoveFile, Value, Info}
 use Rattle.play_types.specs.declared.event.Event.{Event}
 use Rattle.play_types.specs.declared.event.Event.TheVariants.{Do, Batch, Tick, Stop}
 use Rattle.history_model.specs.stage.Act.{Act, acts_of}
@@ -30,6 +30,8 @@ acts_of-past (Set setting) before t now past = (now, past)
 acts_of-past (CommitMixer channel) before t now past = (now, past)
 acts_of-past (ResetLayer place) before t now past = (now, past)
 acts_of-past (ResetChannel channel) before t now past = (now, past)
+acts_of-past (AddFile marked name) before t now past = past
+acts_of-past (RemoveFile marked) before t now past = past
 acts_of-past (Value place prop) before t now past = past
 acts_of-past Info before t now past = past
 

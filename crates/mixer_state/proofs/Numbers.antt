@@ -5,6 +5,7 @@ use Rattle.std.proofs.lemmas.Int.{ints, clamps}
 use Rattle.std.proofs.lemmas.List.Elements.{All-cons, All-get_or, All-head, All-nil, All-tail}
 use Rattle.play_types.specs.Curve.{along, IsBetween}
 use Rattle.play_types.specs.Setting.{AreValues, IsSetting, IsWide, IsWithin, SettingView, duration_of, number_at, values_of}
+use Rattle.play_types.specs.declared.transition.Curve.{Curve}
 use Rattle.play_types.specs.declared.setting.Prop.{Prop}
 use Rattle.play_types.specs.declared.setting.Prop.TheVariants.{Opacity, Fill, Clip, Volume, Keyer}
 use Rattle.play_types.specs.declared.setting.TheConstants.{MICROS_PER_UNIT}
@@ -25,92 +26,92 @@ four_numbers (a ∷ b ∷ c ∷ d ∷ x ∷ more) e = absurd (omega (arith, e))
 pub wide_at : (xs : List ℤ) (i : ℕ) → All IsWide xs → i < length xs → IsWide (number_at xs i)
 wide_at xs i wide within = All-get_or IsWide xs i (pos 0) within wide
 
-pub length-all_along : (xs ys : List ℤ) (j d : ℕ) → length xs ≡ length ys → length (all_along xs ys j d) ≡ length xs
-length-all_along [] ys j d e = refl
-length-all_along (x ∷ xs) [] j d e = absurd (omega (arith, e))
-length-all_along (x ∷ xs) (y ∷ ys) j d e =
+pub length-all_along : (curve : Curve) (xs ys : List ℤ) (j d : ℕ) → length xs ≡ length ys → length (all_along curve xs ys j d) ≡ length xs
+length-all_along curve [] ys j d e = refl
+length-all_along curve (x ∷ xs) [] j d e = absurd (omega (arith, e))
+length-all_along curve (x ∷ xs) (y ∷ ys) j d e =
     let rest : length xs ≡ length ys = omega (arith, e) in
-    omega (arith, length-all_along xs ys j d rest)
+    omega (arith, length-all_along curve xs ys j d rest)
 
 -- numbers on a way of no ticks are where they go
-pub all_along-once : (xs ys : List ℤ) (j : ℕ) → length xs ≡ length ys → all_along xs ys j 0 ≡ ys
-all_along-once [] [] j e = refl
-all_along-once [] (y ∷ ys) j e = absurd (omega (arith, e))
-all_along-once (x ∷ xs) [] j e = absurd (omega (arith, e))
-all_along-once (x ∷ xs) (y ∷ ys) j e =
+pub all_along-once : (curve : Curve) (xs ys : List ℤ) (j : ℕ) → length xs ≡ length ys → all_along curve xs ys j 0 ≡ ys
+all_along-once curve [] [] j e = refl
+all_along-once curve [] (y ∷ ys) j e = absurd (omega (arith, e))
+all_along-once curve (x ∷ xs) [] j e = absurd (omega (arith, e))
+all_along-once curve (x ∷ xs) (y ∷ ys) j e =
     let rest : length xs ≡ length ys = omega (arith, e) in
-    ap₂ (λ (v : ℤ) (vs : List ℤ). v ∷ vs) (along-end x y j 0 (omega arith)) (all_along-once xs ys j rest)
+    ap₂ (λ (v : ℤ) (vs : List ℤ). v ∷ vs) (along-end curve x y j 0 (omega arith)) (all_along-once curve xs ys j rest)
 
-pub number_at-all_along : (xs ys : List ℤ) (i j d : ℕ) → i < length xs → length xs ≡ length ys →
-    number_at (all_along xs ys j d) i ≡ along (number_at xs i) (number_at ys i) j d
-number_at-all_along [] ys i j d within e = absurd (omega (arith, within))
-number_at-all_along (x ∷ xs) [] i j d within e = absurd (omega (arith, e))
-number_at-all_along (x ∷ xs) (y ∷ ys) zero j d within e = refl
-number_at-all_along (x ∷ xs) (y ∷ ys) (suc i) j d within e =
+pub number_at-all_along : (curve : Curve) (xs ys : List ℤ) (i j d : ℕ) → i < length xs → length xs ≡ length ys →
+    number_at (all_along curve xs ys j d) i ≡ along curve (number_at xs i) (number_at ys i) j d
+number_at-all_along curve [] ys i j d within e = absurd (omega (arith, within))
+number_at-all_along curve (x ∷ xs) [] i j d within e = absurd (omega (arith, e))
+number_at-all_along curve (x ∷ xs) (y ∷ ys) zero j d within e = refl
+number_at-all_along curve (x ∷ xs) (y ∷ ys) (suc i) j d within e =
     let rest : length xs ≡ length ys = omega (arith, e) in
     let less : i < length xs = omega (arith, within) in
-    number_at-all_along xs ys i j d less rest
+    number_at-all_along curve xs ys i j d less rest
 
 -- what lies between two numbers of a range is in the range
 pub within-between : (low high a b value : ℤ) → IsWithin low high a → IsWithin low high b → IsBetween a b value → IsWithin low high value
 within-between low high a b value of_a of_b between = (omega (arith, ints, clamps), omega (arith, ints, clamps))
 
-along_within : (low high a b : ℤ) (j d : ℕ) → IsWithin low high a → IsWithin low high b → IsWithin low high (along a b j d)
-along_within low high a b j d of_a of_b = within-between low high a b (along a b j d) of_a of_b (IsBetween-along a b j d)
+along_within : (curve : Curve) (low high a b : ℤ) (j d : ℕ) → IsWithin low high a → IsWithin low high b → IsWithin low high (along curve a b j d)
+along_within curve low high a b j d of_a of_b = within-between low high a b (along curve a b j d) of_a of_b (IsBetween-along curve a b j d)
 
-pub wide_all_along : (xs ys : List ℤ) (j d : ℕ) → All IsWide xs → All IsWide ys → All IsWide (all_along xs ys j d)
-wide_all_along [] ys j d wide_xs wide_ys = All-nil IsWide
-wide_all_along (x ∷ xs) [] j d wide_xs wide_ys = All-nil IsWide
-wide_all_along (x ∷ xs) (y ∷ ys) j d wide_xs wide_ys =
-    All-cons IsWide (along x y j d) (all_along xs ys j d)
-    (along_within _ _ x y j d (All-head IsWide x xs wide_xs) (All-head IsWide y ys wide_ys))
-    (wide_all_along xs ys j d (All-tail IsWide x xs wide_xs) (All-tail IsWide y ys wide_ys))
+pub wide_all_along : (curve : Curve) (xs ys : List ℤ) (j d : ℕ) → All IsWide xs → All IsWide ys → All IsWide (all_along curve xs ys j d)
+wide_all_along curve [] ys j d wide_xs wide_ys = All-nil IsWide
+wide_all_along curve (x ∷ xs) [] j d wide_xs wide_ys = All-nil IsWide
+wide_all_along curve (x ∷ xs) (y ∷ ys) j d wide_xs wide_ys =
+    All-cons IsWide (along curve x y j d) (all_along curve xs ys j d)
+    (along_within curve _ _ x y j d (All-head IsWide x xs wide_xs) (All-head IsWide y ys wide_ys))
+    (wide_all_along curve xs ys j d (All-tail IsWide x xs wide_xs) (All-tail IsWide y ys wide_ys))
 
 -- numbers in the range of a property
-module _ (prop : Prop) (from to : List ℤ) (j d : ℕ) where
+module _ (curve : Curve) (prop : Prop) (from to : List ℤ) (j d : ℕ) where
   number_is : AreNumbers prop from → AreNumbers prop to → (i : ℕ) → i < 4 →
-      along (number_at from i) (number_at to i) j d ≡ number_at (all_along from to j d) i
+      along curve (number_at from i) (number_at to i) j d ≡ number_at (all_along curve from to j d) i
   number_is of_from of_to i within =
       let few : i < length from = omega (arith, of_from.four) in
-      sym (number_at-all_along from to i j d few (of_from.four ∙ sym of_to.four))
+      sym (number_at-all_along curve from to i j d few (of_from.four ∙ sym of_to.four))
 
   number_within : (low high : ℤ) → AreNumbers prop from → AreNumbers prop to → (i : ℕ) → i < 4 →
       IsWithin low high (number_at from i) → IsWithin low high (number_at to i) →
-      IsWithin low high (number_at (all_along from to j d) i)
+      IsWithin low high (number_at (all_along curve from to j d) i)
   number_within low high of_from of_to i within start end =
-      subst (IsWithin low high) (number_is of_from of_to i within) (along_within low high (number_at from i) (number_at to i) j d start end)
+      subst (IsWithin low high) (number_is of_from of_to i within) (along_within curve low high (number_at from i) (number_at to i) j d start end)
 
-values_along : (prop : Prop) (from to : List ℤ) (j d : ℕ) → AreNumbers prop from → AreNumbers prop to → duration_of prop d ≡ d →
-    AreValues prop (all_along from to j d)
-values_along Opacity from to j d f t e =
-    number_within Opacity from to j d _ _ f t 0 (omega arith) f.in_range t.in_range
-values_along Volume from to j d f t e =
-    number_within Volume from to j d _ _ f t 0 (omega arith) f.in_range t.in_range
-values_along Fill from to j d f t e = (
-  number_within Fill from to j d _ _ f t 0 (omega arith) f.in_range.0 t.in_range.0,
-  number_within Fill from to j d _ _ f t 1 (omega arith) f.in_range.1 t.in_range.1,
-  number_within Fill from to j d _ _ f t 2 (omega arith) f.in_range.2 t.in_range.2,
-  number_within Fill from to j d _ _ f t 3 (omega arith) f.in_range.3 t.in_range.3,
+values_along : (curve : Curve) (prop : Prop) (from to : List ℤ) (j d : ℕ) → AreNumbers prop from → AreNumbers prop to → duration_of prop d ≡ d →
+    AreValues prop (all_along curve from to j d)
+values_along curve Opacity from to j d f t e =
+    number_within curve Opacity from to j d _ _ f t 0 (omega arith) f.in_range t.in_range
+values_along curve Volume from to j d f t e =
+    number_within curve Volume from to j d _ _ f t 0 (omega arith) f.in_range t.in_range
+values_along curve Fill from to j d f t e = (
+  number_within curve Fill from to j d _ _ f t 0 (omega arith) f.in_range.0 t.in_range.0,
+  number_within curve Fill from to j d _ _ f t 1 (omega arith) f.in_range.1 t.in_range.1,
+  number_within curve Fill from to j d _ _ f t 2 (omega arith) f.in_range.2 t.in_range.2,
+  number_within curve Fill from to j d _ _ f t 3 (omega arith) f.in_range.3 t.in_range.3,
 )
-values_along Clip from to j d f t e = (
-  number_within Clip from to j d _ _ f t 0 (omega arith) f.in_range.0 t.in_range.0,
-  number_within Clip from to j d _ _ f t 1 (omega arith) f.in_range.1 t.in_range.1,
-  number_within Clip from to j d _ _ f t 2 (omega arith) f.in_range.2 t.in_range.2,
-  number_within Clip from to j d _ _ f t 3 (omega arith) f.in_range.3 t.in_range.3,
+values_along curve Clip from to j d f t e = (
+  number_within curve Clip from to j d _ _ f t 0 (omega arith) f.in_range.0 t.in_range.0,
+  number_within curve Clip from to j d _ _ f t 1 (omega arith) f.in_range.1 t.in_range.1,
+  number_within curve Clip from to j d _ _ f t 2 (omega arith) f.in_range.2 t.in_range.2,
+  number_within curve Clip from to j d _ _ f t 3 (omega arith) f.in_range.3 t.in_range.3,
 )
-values_along Keyer from to j d f t e =
+values_along curve Keyer from to j d f t e =
     let none : d ≤ j = omega (arith, e) in
-    let is : number_at to 0 ≡ number_at (all_along from to j d) 0 =
-    sym (along-end (number_at from 0) (number_at to 0) j d none) ∙ number_is Keyer from to j d f t 0 (omega arith) in
+    let is : number_at to 0 ≡ number_at (all_along curve from to j d) 0 =
+    sym (along-end curve (number_at from 0) (number_at to 0) j d none) ∙ number_is curve Keyer from to j d f t 0 (omega arith) in
     subst (λ (z : ℤ). (z ≡ pos 0) ⊎ (z ≡ MICROS_PER_UNIT)) is t.in_range
 
 -- numbers on their way are in the range in which they begin and end
-pub AreNumbers-all_along : (prop : Prop) (from to : List ℤ) (j d : ℕ) → AreNumbers prop from → AreNumbers prop to →
-    duration_of prop d ≡ d → AreNumbers prop (all_along from to j d)
-AreNumbers-all_along prop from to j d f t e = record {
-  four = length-all_along from to j d (f.four ∙ sym t.four) ∙ f.four;
-  wide = wide_all_along from to j d f.wide t.wide;
-  in_range = values_along prop from to j d f t e;
+pub AreNumbers-all_along : (curve : Curve) (prop : Prop) (from to : List ℤ) (j d : ℕ) → AreNumbers prop from → AreNumbers prop to →
+    duration_of prop d ≡ d → AreNumbers prop (all_along curve from to j d)
+AreNumbers-all_along curve prop from to j d f t e = record {
+  four = length-all_along curve from to j d (f.four ∙ sym t.four) ∙ f.four;
+  wide = wide_all_along curve from to j d f.wide t.wide;
+  in_range = values_along curve prop from to j d f t e;
 }
 
 all_four : (P : ℤ → Type 0) (a b c d : ℤ) → P a → P b → P c → P d → All P (four a b c d)
@@ -182,12 +183,12 @@ AreNumbers-setting setting is_setting e = record {
 }
 
 -- four numbers on their way, one by one
-pub all_along-four : (from to : List ℤ) (j d : ℕ) → length from ≡ 4 → length to ≡ 4 →
-    all_along from to j d
-    ≡ four (along (number_at from 0) (number_at to 0) j d) (along (number_at from 1) (number_at to 1) j d)
-    (along (number_at from 2) (number_at to 2) j d) (along (number_at from 3) (number_at to 3) j d)
-all_along-four from to j d e f =
-    ap₂ (λ (xs ys : List ℤ). all_along xs ys j d) (four_numbers from e) (four_numbers to f)
+pub all_along-four : (curve : Curve) (from to : List ℤ) (j d : ℕ) → length from ≡ 4 → length to ≡ 4 →
+    all_along curve from to j d
+    ≡ four (along curve (number_at from 0) (number_at to 0) j d) (along curve (number_at from 1) (number_at to 1) j d)
+    (along curve (number_at from 2) (number_at to 2) j d) (along curve (number_at from 3) (number_at to 3) j d)
+all_along-four curve from to j d e f =
+    ap₂ (λ (xs ys : List ℤ). all_along curve xs ys j d) (four_numbers from e) (four_numbers to f)
 
 pub four_same : {a b c d w x y z : ℤ} → a ≡ w → b ≡ x → c ≡ y → d ≡ z → four a b c d ≡ four w x y z
 four_same e f g h = cc

@@ -9,6 +9,7 @@ use Rattle.play_types.specs.Scene.{IsConfigured}
 use Rattle.play_types.specs.Setting.{SettingView, is_same_prop}
 use Rattle.play_types.specs.declared.setting.Prop.{Prop}
 use Rattle.play_types.specs.declared.command.Cmd.{Cmd}
+use Rattle.play_types.specs.declared.transition.Curve.TheVariants.{Linear}
 use Rattle.play_types.specs.declared.command.Cmd.TheVariants.{CommitMixer, ResetChannel, ResetLayer, Set, SwapChannels, SwapLayers}
 use Rattle.history_model.specs.stage.Act.{Act, act_after}
 use Rattle.history_model.specs.stage.WaitingList.{listed_acts, listed_value_at, waiting_list}
@@ -67,7 +68,7 @@ Follows place prop ticks course acts = (t : ℕ) → ticks ≤ t → numbers_at 
 
 -- a setting of another property leaves the value, and one of this property sets out from it
 tuned_value-same : (acts : List Act) (prop : Prop) (ticks t : ℕ) (setting : SettingView) → is_same_prop setting.prop prop ≡ true →
-    tuned_value (settled_act ticks setting ∷ acts) prop t ≡ all_along (tuned_value acts prop ticks) setting.values (t - ticks) setting.duration
+    tuned_value (settled_act ticks setting ∷ acts) prop t ≡ all_along setting.curve (tuned_value acts prop ticks) setting.values (t - ticks) setting.duration
 tuned_value-same acts prop ticks t setting e = rw (e, tuned_value)
 
 tuned_value-other : (acts : List Act) (prop : Prop) (ticks t : ℕ) (setting : SettingView) → is_same_prop setting.prop prop ≡ false →
@@ -90,7 +91,7 @@ module _ (place : PlaceView) (prop : Prop) (ticks : ℕ) where
         | inl h ↦ elim (cases_Bool same) [
           | inl s ↦
               ap code (cond-true (there && same) (set_out ticks setting course) course (and_from there same h s))
-              ∙ ap (λ (from : List ℤ). all_along from setting.values (t - ticks) setting.duration) (follows ticks now)
+              ∙ ap (λ (from : List ℤ). all_along setting.curve from setting.values (t - ticks) setting.duration) (follows ticks now)
               ∙ sym (ap model (cond-true there (settled_act ticks setting ∷ earlier) earlier h) ∙ tuned_value-same earlier prop ticks t setting s)
           | inr n ↦
               ap code (cond-false (there && same) (set_out ticks setting course) course (and_right there same n))
@@ -240,7 +241,7 @@ module _ (before after : MixerView) (acts : List Act) (ticks : ℕ) (represents 
 
   -- a reset sets out from four numbers, and is at the defaults at once
   reset_is : (latest : ℕ) → AreRunning latest (table_of before.tuned) → (place : PlaceView) (prop : Prop) (t : ℕ) → IsConfigured before.channels place.channel →
-      all_along (listed_value_at acts place prop ticks) (default_of prop) (t - ticks) 0 ≡ default_of prop
+      all_along Linear (listed_value_at acts place prop ticks) (default_of prop) (t - ticks) 0 ≡ default_of prop
   unfolding Follows
   reset_is latest running place prop t of_place =
       let now : ticks ≤ ticks = omega arith in
@@ -248,7 +249,7 @@ module _ (before after : MixerView) (acts : List Act) (ticks : ℕ) (represents 
       let four : length (listed_value_at acts place prop ticks) ≡ 4 =
       ap (λ (ys : List ℤ). length ys) (sym (follows place prop of_place ticks now)) ∙ numbers.four in
       let of_default = AreNumbers-default prop in
-      all_along-once (listed_value_at acts place prop ticks) (default_of prop) (t - ticks) (four ∙ sym of_default.four)
+      all_along-once Linear (listed_value_at acts place prop ticks) (default_of prop) (t - ticks) (four ∙ sym of_default.four)
 
   pub reset_layer_represents : (latest : ℕ) → AreRunning latest (table_of before.tuned) → (at : PlaceView) →
       table_of after.tuned ≡ with_entry at None (table_of before.tuned) →

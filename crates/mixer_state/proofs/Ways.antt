@@ -6,6 +6,7 @@ use Rattle.play_types.specs.Place.{PlaceView}
 use Rattle.play_types.specs.Setting.{SettingView, duration_of, is_same_prop}
 use Rattle.play_types.specs.declared.setting.Prop.{Prop}
 use Rattle.play_types.specs.declared.setting.Prop.TheVariants.{Opacity, Fill, Clip, Volume, Keyer}
+use Rattle.play_types.specs.declared.transition.Curve.TheVariants.{Linear}
 use Rattle.history_model.specs.stage.Trail.{same_place}
 use Rattle.history_model.specs.stage.Value.{default_of}
 use Rattle.mixer_state.specs.declared.course.Course.{Course}
@@ -19,12 +20,12 @@ use Rattle.mixer_state.proofs.Numbers.{AreNumbers-all_along, AreNumbers-default,
 
 -- numbers that stay are where they are
 pub numbers_at-default : (prop : Prop) (t : ℕ) → numbers_at (standing (default_of prop)) t ≡ default_of prop
-numbers_at-default prop t = all_along-once (default_of prop) (default_of prop) (t - 0) refl
+numbers_at-default prop t = all_along-once Linear (default_of prop) (default_of prop) (t - 0) refl
 
 -- the numbers of a course are in the range of the property
 pub AreNumbers-course : (prop : Prop) (ticks t : ℕ) (course : Course) → IsCourse prop ticks course → AreNumbers prop (numbers_at course t)
 AreNumbers-course prop ticks t course is_course =
-    AreNumbers-all_along prop course.from course.to (t - course.start) course.duration is_course.from is_course.to is_course.duration
+    AreNumbers-all_along course.curve prop course.from course.to (t - course.start) course.duration is_course.from is_course.to is_course.duration
 
 pub IsCourse-standing : (prop : Prop) (ticks : ℕ) → IsCourse prop ticks (standing (default_of prop))
 IsCourse-standing prop ticks = record {

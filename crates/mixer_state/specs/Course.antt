@@ -11,7 +11,7 @@ standing values = record { from = values; to = values; start = 0; duration = 0; 
 
 -- if numbers are after `t` ticks
 abbrev pub numbers_at : Course → ℕ → List ℤ
-numbers_at course t = all_along course.from course.to (t - course.start) course.duration
+numbers_at course t = all_along course.curve course.from course.to (t - course.start) course.duration
 
 -- numbers that set out anew after `ticks` ticks, from where they are to what a setting gives
 abbrev pub set_out : ℕ → SettingView → Course → Course

@@ -4,7 +4,7 @@ use Rattle.play_types.specs.Place.{PlaceView}
 use Rattle.play_types.specs.Scene.{IsConfigured}
 use Rattle.play_types.specs.declared.setting.Prop.{Prop}
 use Rattle.play_types.specs.declared.command.Cmd.{Cmd}
-use Rattle.play_types.specs.declared.command.Cmd.TheVariants.{Load, LoadBg, Play, PlayTake, Pause, Resume, StopLayer, ClearLayer, ClearChannel, SwapLayers, SwapChannels, Set, CommitMixer, ResetLayer, ResetChannel, Value, Info}
+use Rattle.play_types.specs.declared.command.Cmd.TheVariants.{Load, LoadBg, Play, PlayTake, Pause, Resume, StopLayer, ClearLayer, ClearChannel, SwapLayers, SwapChannels, Set, CommitMixer, ResetLayer, ResetChannel, AddFile, RemoveFile, Value, Info}
 use Rattle.history_model.specs.stage.Act.{Act, act_after}
 use Rattle.history_model.specs.stage.Resolved.{waiting_settings}
 use Rattle.history_model.specs.stage.Value.{value_at}
@@ -40,5 +40,7 @@ leaves_mixer (Set setting) = false
 leaves_mixer (CommitMixer channel) = false
 leaves_mixer (ResetLayer place) = false
 leaves_mixer (ResetChannel channel) = false
+leaves_mixer (AddFile marked name) = true
+leaves_mixer (RemoveFile marked) = true
 leaves_mixer (Value place prop) = true
 leaves_mixer Info = true

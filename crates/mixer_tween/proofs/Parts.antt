@@ -1,75 +1,78 @@
--- The part of its way that a tween has gone, in the arithmetic of 64 bits.
-use Rattle.std.proofs.Common.{◌≡◌, ℕ, ◌^◌, ◌<◌, ◌≤◌, ℤ, pos, ◌+ℤ◌, ◌-ℤ◌, ◌*ℤ◌, FitsSigned, to_z, of_z, w64, int_div, arith, subst, sym, ◌∙◌}
+-- The part of its way that a tween has gone, in the arithmetic of 128 bits.
+use Rattle.std.proofs.Common.{◌≡◌, ℕ, ◌*◌, ◌^◌, ◌<◌, ◌≤◌, ℤ, pos, ◌+ℤ◌, ◌-ℤ◌, ◌*ℤ◌, FitsSigned, to_z, of_z, w64, int_div, arith, subst, sym, ◌∙◌}
+use mir.Syntax.{w128}
+use Rattle.std.proofs.lemmas.Nat.{mul-lt}
+use Rattle.play_types.specs.declared.transition.Curve.{Curve}
+use Rattle.play_types.specs.declared.transition.Curve.TheVariants.{Linear, EaseInQuad, EaseOutQuad, EaseInCubic, EaseOutCubic}
 use Rattle.std.specs.Int.RustNames.{unsigned_abs}
 use Rattle.std.proofs.lemmas.Int.{ints, clamps, fits_signed_mul, quot_fits, quot_is, to_z-of_z, to_z_pos}
-use Rattle.play_types.specs.Curve.{along, IsBetween}
+use Rattle.play_types.specs.Curve.{IsBetween, whole}
 use Rattle.play_types.specs.Setting.{IsWide}
-use Rattle.play_types.proofs.Tweens.{along-part, IsBetween-along}
+use Rattle.play_types.proofs.Tweens.{IsBetween-part}
 
--- a number within minus 1000 to 1000 fits
+-- a whole way is below 2 ^ 96
+pub whole_short : (curve : Curve) (d : ℕ) → d < 2 ^ 32 → whole curve d < 2 ^ 96
+whole_short Linear d h = omega (arith, h)
+whole_short EaseInQuad d h = omega (arith, mul-lt d d (2 ^ 32) (2 ^ 32) h h)
+whole_short EaseOutQuad d h = omega (arith, mul-lt d d (2 ^ 32) (2 ^ 32) h h)
+whole_short EaseInCubic d h = mul-lt (d * d) d (2 ^ 64) (2 ^ 32) (omega (arith, mul-lt d d (2 ^ 32) (2 ^ 32) h h)) h
+whole_short EaseOutCubic d h = mul-lt (d * d) d (2 ^ 64) (2 ^ 32) (omega (arith, mul-lt d d (2 ^ 32) (2 ^ 32) h h)) h
+
+-- a way between two wide numbers
+abbrev pub IsWay : ℤ → Type 0
+IsWay way = unsigned_abs way ≤ 2000000000
+
+-- its part is in 128 bits
+pub times_fits : (way : ℤ) (p : ℕ) → IsWay way → p < 2 ^ 96 → FitsSigned w128 (way *ℤ pos p)
+times_fits way p short few = fits_signed_mul w128 way (pos p) 2000000000 (2 ^ 96) short (omega arith) (omega arith)
+
+pub way_fits : (way : ℤ) → IsWay way → FitsSigned w128 way
+way_fits way short = omega (arith, ints)
+
+-- the product, as it is computed
+pub times_is : (way : ℤ) (p : ℕ) → IsWay way → p < 2 ^ 96 →
+    to_z w128 (of_z w128 (to_z w128 (of_z w128 way) *ℤ to_z w128 p)) ≡ way *ℤ pos p
+times_is way p short few =
+    rw (to_z-of_z w128 way (way_fits way short), to_z_pos w128 p (omega arith), to_z-of_z w128 (way *ℤ pos p) (times_fits way p short few))
+
+-- the quotient, as it is computed, is the quotient of the integers
+abbrev pub computed_part : ℤ → ℕ → ℕ → ℤ
+computed_part way p q =
+    to_z w128 (of_z w128 (int_div (to_z w128 (of_z w128 (to_z w128 (of_z w128 way) *ℤ to_z w128 p))) (to_z w128 q)))
+
+pub quotient_fits : (way : ℤ) (p q : ℕ) → IsWay way → p < q → q < 2 ^ 96 → FitsSigned w128 (int_div (way *ℤ pos p) (pos q))
+quotient_fits way p q short less few = quot_fits w128 (way *ℤ pos p) (pos q) (times_fits way p short (omega arith)) (omega (arith, ints))
+
+pub part_is : (way : ℤ) (p q : ℕ) → IsWay way → p < q → q < 2 ^ 96 → computed_part way p q ≡ int_div (way *ℤ pos p) (pos q)
+part_is way p q short less few =
+    rw (times_is way p short (omega arith), to_z_pos w128 q (omega arith), to_z-of_z w128 (int_div (way *ℤ pos p) (pos q)) (quotient_fits way p q short less few))
+
+-- the divisor is above 0, and the quotient fits
+pub divides : (way : ℤ) (p q : ℕ) → IsWay way → p < q → q < 2 ^ 96 →
+    FitsSigned w128 (int_div (to_z w128 (of_z w128 (to_z w128 (of_z w128 way) *ℤ to_z w128 p))) (to_z w128 q))
+divides way p q short less few =
+    rw (times_is way p short (omega arith), to_z_pos w128 q (omega arith)) (quotient_fits way p q short less few)
+
+-- the quotient is no longer than the way, so it fits 64 bits
+pub part_short : (way : ℤ) (p q : ℕ) → IsWay way → p < q → q < 2 ^ 96 → FitsSigned w64 (computed_part way p q)
+part_short way p q short less few =
+    let between : IsBetween (pos 0) (pos 0 +ℤ way) (pos 0 +ℤ int_div (way *ℤ pos p) (pos q)) = IsBetween-part (pos 0) way p q less in
+    rw (part_is way p q short less few) (omega (arith, ints, clamps, between.0, between.1))
+
+-- the value on its way, as it is computed
+abbrev pub computed : ℤ → ℤ → ℕ → ℕ → ℤ
+computed from way p q = to_z w64 (of_z w64 from) +ℤ to_z w64 (of_z w64 (computed_part way p q))
+
 pub wide_fits : (z : ℤ) → IsWide z → FitsSigned w64 z
 wide_fits z wide = omega (arith, ints)
 
--- so does the way between two of them
-pub way_fits : (from to : ℤ) → IsWide from → IsWide to → FitsSigned w64 (to -ℤ from)
-way_fits from to low high = omega (arith, ints)
+pub computed_is : (from way : ℤ) (p q : ℕ) → IsWide from → IsWay way → p < q → q < 2 ^ 96 →
+    computed from way p q ≡ from +ℤ int_div (way *ℤ pos p) (pos q)
+computed_is from way p q wide short less few =
+    rw (to_z-of_z w64 from (wide_fits from wide), to_z-of_z w64 (computed_part way p q) (part_short way p q short less few), part_is way p q short less few)
 
-way_short : (from to : ℤ) → IsWide from → IsWide to → unsigned_abs (to -ℤ from) ≤ 2000000000
-way_short from to low high = omega (arith, ints)
-
--- and the way times the ticks of it that have passed
-pub way_times_fits : (from to : ℤ) (j d : ℕ) → IsWide from → IsWide to → j < d → d < 2 ^ 32 → FitsSigned w64 ((to -ℤ from) *ℤ pos j)
-way_times_fits from to j d low high running short =
-    fits_signed_mul w64 (to -ℤ from) (pos j) 2000000000 (2 ^ 32) (way_short from to low high) (omega arith) (omega arith)
-
--- the part of the way, as it is computed
-pub part_is : (from to : ℤ) (j d : ℕ) → IsWide from → IsWide to → j < d → d < 2 ^ 32 →
-    to_z w64 (of_z w64 (int_div (to_z w64 (of_z w64 ((to -ℤ from) *ℤ pos j))) (to_z w64 (of_z w64 (pos d)))))
-    ≡ int_div ((to -ℤ from) *ℤ pos j) (pos d)
-part_is from to j d low high running short =
-    let times : FitsSigned w64 ((to -ℤ from) *ℤ pos j) = way_times_fits from to j d low high running short in
-    quot_is w64 ((to -ℤ from) *ℤ pos j) (pos d) times (omega (arith, ints)) (quot_fits w64 ((to -ℤ from) *ℤ pos j) (pos d) times (omega (arith, ints)))
-
--- a value on its way is within minus 1000 to 1000
-pub along_wide : (from to : ℤ) (j d : ℕ) → IsWide from → IsWide to → IsWide (along from to j d)
-along_wide from to j d low high =
-    let between : IsBetween from to (along from to j d) = IsBetween-along from to j d in
-    (omega (arith, ints, clamps, between.0), omega (arith, ints, clamps, between.1))
-
--- the value on its way, as it is computed: the start, and the part of the way
-abbrev computed : ℤ → ℤ → ℕ → ℤ → ℤ
-computed from to j d =
-    to_z w64 (of_z w64 from)
-    +ℤ to_z w64 (of_z w64 (int_div (to_z w64 (of_z w64 (to_z w64 (of_z w64 (to_z w64 (of_z w64 to) -ℤ to_z w64 (of_z w64 from))) *ℤ to_z w64 j))) (to_z w64 (of_z w64 d))))
-
--- it is the value of the tween
-pub computed-along : (from to : ℤ) (j d : ℕ) (of : ℤ) → IsWide from → IsWide to → j < d → d < 2 ^ 32 → of ≡ pos d →
-    computed from to j of ≡ along from to j d
-computed-along from to j d of low high running short same =
-    let from_fits : FitsSigned w64 from = wide_fits from low in
-    let to_fits : FitsSigned w64 to = wide_fits to high in
-    let way : FitsSigned w64 (to -ℤ from) = way_fits from to low high in
-    let few : j < 2 ^ 63 = omega arith in
-    rw (
-      same,
-      to_z-of_z w64 from from_fits,
-      to_z-of_z w64 to to_fits,
-      to_z-of_z w64 (to -ℤ from) way,
-      to_z_pos w64 j few,
-      part_is from to j d low high running short,
-    )
-    (sym (along-part from to j d running))
-
--- so it fits
-pub computed_fits : (from to : ℤ) (j d : ℕ) (of : ℤ) → IsWide from → IsWide to → j < d → d < 2 ^ 32 → of ≡ pos d →
-    FitsSigned w64 (computed from to j of)
-computed_fits from to j d of low high running short same =
-    let is : computed from to j of ≡ along from to j d = computed-along from to j d of low high running short same in
-    subst (FitsSigned w64) (sym is) (wide_fits (along from to j d) (along_wide from to j d low high))
-
--- and it is kept as it is
-pub computed_kept : (from to : ℤ) (j d : ℕ) (of : ℤ) → IsWide from → IsWide to → j < d → d < 2 ^ 32 → of ≡ pos d →
-    to_z w64 (of_z w64 (computed from to j of)) ≡ along from to j d
-computed_kept from to j d of low high running short same =
-    to_z-of_z w64 (computed from to j of) (computed_fits from to j d of low high running short same)
-    ∙ computed-along from to j d of low high running short same
+pub computed_fits : (from to : ℤ) (p q : ℕ) → IsWide from → IsWide to → p < q → q < 2 ^ 96 → FitsSigned w64 (computed from (to -ℤ from) p q)
+computed_fits from to p q wide other less few =
+    let short : IsWay (to -ℤ from) = omega (arith, ints) in
+    let between : IsBetween from (from +ℤ (to -ℤ from)) (from +ℤ int_div ((to -ℤ from) *ℤ pos p) (pos q)) = IsBetween-part from (to -ℤ from) p q less in
+    rw (computed_is from (to -ℤ from) p q wide short less few) (omega (arith, ints, clamps, between.0, between.1, wide, other))

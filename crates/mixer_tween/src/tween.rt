@@ -1,6 +1,6 @@
 //! One number on its way.
-ghost use Rattle.std.specs.Prelude.{◌≡◌, ◌-◌, ◌≤◌};
-ghost use Rattle.play_types.specs.Curve.{IsBetween, along};
+ghost use Rattle.std.specs.Prelude.{◌≡◌, ◌-◌, ◌<◌, ◌≤◌};
+ghost use Rattle.play_types.specs.Curve.{IsBetween, along, gone, whole};
 ghost use Rattle.play_types.specs.Setting.{IsWide};
 
 use play_types::Curve;
@@ -24,17 +24,45 @@ impl Tween {
         requires from { IsWide self.now.from }
         requires to { IsWide self.now.to }
         ensures value { result
-            ≡ along self.now.from self.now.to (ticks - self.now.start) self.now.duration }
+            ≡ along self.now.curve self.now.from self.now.to (ticks - self.now.start) self.now.duration }
         ensures between { IsBetween self.now.from self.now.to result }
     {
-        let gone = ticks - self.start;
-        if gone >= u64::from(self.duration) {
+        let passed = ticks - self.start;
+        if passed >= u64::from(self.duration) {
             return self.to;
         }
-        match self.curve {
-            Curve::Linear => {
-                self.from + (self.to - self.from) * gone as i64 / i64::from(self.duration)
-            }
+        let gone = parts_gone(self.curve, passed as u32, self.duration);
+        let whole = all_parts(self.curve, self.duration);
+        self.from + (i128::from(self.to - self.from) * gone as i128 / whole as i128) as i64
+    }
+}
+
+/// Returns how many parts of the way are gone at a tick before the last.
+fn parts_gone(curve: Curve, tick: u32, duration: u32) -> u128
+    requires { tick < duration }
+    ensures { result ≡ gone curve tick duration }
+{
+    let (tick, duration) = (u128::from(tick), u128::from(duration));
+    match curve {
+        Curve::Linear => tick,
+        Curve::EaseInQuad => tick * tick,
+        Curve::EaseOutQuad => tick * (2 * duration - tick),
+        Curve::EaseInCubic => tick * tick * tick,
+        Curve::EaseOutCubic => {
+            let left = duration - tick;
+            duration * duration * duration - left * left * left
         }
+    }
+}
+
+/// Returns how many parts the whole way has.
+fn all_parts(curve: Curve, duration: u32) -> u128
+    ensures { result ≡ whole curve duration }
+{
+    let duration = u128::from(duration);
+    match curve {
+        Curve::Linear => duration,
+        Curve::EaseInQuad | Curve::EaseOutQuad => duration * duration,
+        Curve::EaseInCubic | Curve::EaseOutCubic => duration * duration * duration,
     }
 }

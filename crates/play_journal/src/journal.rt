@@ -97,7 +97,7 @@ impl Journal {
         if cmds.len() > room {
             return Err(PushFault::JournalFull { held: self.held });
         }
-        let event = Event::Batch(tag, batch_of(alloc, cmds)?);
+        let event = Event::Batch(tag, CmdList::copy_of(alloc, cmds)?);
         self.push_commands(alloc, event, cmds.len() as u32)?;
         Ok(())
     }
@@ -193,15 +193,4 @@ impl Journal {
     {
         self.limit
     }
-}
-
-/// Returns a list of the commands.
-fn batch_of(alloc: Global, cmds: &[Cmd]) -> Result<CmdList, AllocError>
-    ensures { IfOk result (λ list. list ≡ cmds.now) }
-{
-    let mut list = CmdList::new(alloc);
-    for cmd in cmds {
-        list.push(*cmd)?;
-    }
-    Ok(list)
 }

@@ -4,7 +4,7 @@ use Rattle.std.proofs.lemmas.Bool.{cases_Bool, cond-true, cond-false, false≢tr
 use Rattle.play_types.specs.History.{ticks}
 use Rattle.play_types.specs.declared.place.TheConstants.{MAX_CHANNELS}
 use Rattle.play_types.specs.declared.command.Cmd.{Cmd}
-use Rattle.play_types.specs.declared.command.Cmd.TheVariants.{Load, LoadBg, Play, PlayTake, Pause, Resume, StopLayer, ClearLayer, ClearChannel, SwapLayers, SwapChannels, Set, CommitMixer, ResetLayer, ResetChannel, Value, Info}
+use Rattle.play_types.specs.declared.command.Cmd.TheVariants.{Load, LoadBg, Play, PlayTake, Pause, Resume, StopLayer, ClearLayer, ClearChannel, SwapLayers, SwapChannels, Set, CommitMixer, ResetLayer, ResetChannel, AddFile, RemoveFile, Value, Info}
 use Rattle.play_types.specs.declared.event.Tag.{Tag}
 use Rattle.play_types.specs.declared.event.Event.{Event}
 use Rattle.play_types.specs.declared.event.Event.TheVariants.{Do, Batch, Stop}
@@ -37,6 +37,8 @@ AreServed-more n t (Set setting) acts h k = (h, k)
 AreServed-more n t (CommitMixer channel) acts h k = (h, k)
 AreServed-more n t (ResetLayer at) acts h k = (h, k)
 AreServed-more n t (ResetChannel channel) acts h k = (h, k)
+AreServed-more n t (AddFile marked name) acts h k = k
+AreServed-more n t (RemoveFile marked) acts h k = k
 AreServed-more n t (Value at prop) acts h k = k
 AreServed-more n t Info acts h k = k
 

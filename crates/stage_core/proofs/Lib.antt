@@ -9,6 +9,8 @@ pub mod Exchanges
 pub mod Kept
 pub mod Takes
 pub mod Mixing
+pub mod Needs
 pub mod Routed
 pub mod Statuses
+pub mod SeenLayers
 pub mod Stages

@@ -9,7 +9,7 @@ use Rattle.play_types.specs.Place.{PlaceView}
 use Rattle.play_types.specs.Scene.{IsConfigured}
 use Rattle.play_types.specs.Setting.{SettingView}
 use Rattle.play_types.specs.declared.command.Cmd.{Cmd}
-use Rattle.play_types.specs.declared.command.Cmd.TheVariants.{Load, LoadBg, Play, PlayTake, Pause, Resume, StopLayer, ClearLayer, ClearChannel, SwapLayers, SwapChannels, Set, CommitMixer, ResetLayer, ResetChannel, Value, Info}
+use Rattle.play_types.specs.declared.command.Cmd.TheVariants.{Load, LoadBg, Play, PlayTake, Pause, Resume, StopLayer, ClearLayer, ClearChannel, SwapLayers, SwapChannels, Set, CommitMixer, ResetLayer, ResetChannel, AddFile, RemoveFile, Value, Info}
 use Rattle.history_model.specs.stage.Life.{Life, effect}
 use Rattle.history_model.specs.stage.Places.{Places, changed_at, standing, with_place}
 use Rattle.history_model.specs.stage.StageState.{exchanged, exchanged_channel, live_after, placed_at, waiting_count_after}
@@ -132,6 +132,8 @@ module _ (live : LiveView) (k : ℕ) (c : IsConfigured (length live.places) k) w
   places_after (CommitMixer committed) h = refl
   places_after (ResetLayer at) h = refl
   places_after (ResetChannel reset) h = refl
+  places_after (AddFile marked name) h = refl
+  places_after (RemoveFile marked) h = refl
   places_after (Value at prop) h = refl
   places_after Info h = refl
 
@@ -169,5 +171,7 @@ waiting_after (Set setting) live n k few h c = setting_counted setting setting.d
 waiting_after (CommitMixer committed) live n k few h c = at_one live.waiting 0 0 committed k (h.0, omega (arith, h.1)) c
 waiting_after (ResetLayer at) live n k few h c = refl
 waiting_after (ResetChannel reset) live n k few h c = refl
+waiting_after (AddFile marked name) live n k few h c = refl
+waiting_after (RemoveFile marked) live n k few h c = refl
 waiting_after (Value at prop) live n k few h c = refl
 waiting_after Info live n k few h c = refl

@@ -12,7 +12,7 @@ use Rattle.play_types.specs.Take.{played}
 use Rattle.play_types.specs.declared.shape.CommandShape.{CommandShape}
 use Rattle.play_types.specs.declared.shape.CommandShape.TheVariants as shape
 use Rattle.play_types.specs.declared.command.Cmd.{Cmd}
-use Rattle.play_types.specs.declared.command.Cmd.TheVariants.{LoadBg, Play, PlayTake, SwapLayers, SwapChannels, Value, Info}
+use Rattle.play_types.specs.declared.command.Cmd.TheVariants.{LoadBg, Play, PlayTake, SwapLayers, SwapChannels, AddFile, RemoveFile, Value, Info}
 use Rattle.play_types.specs.declared.event.Event.{Event}
 use Rattle.play_types.specs.declared.event.Event.TheVariants.{Tick}
 use Rattle.play_types.proofs.Histories.{ticks-append}
@@ -64,6 +64,8 @@ module _ (leaves : (cmd : Cmd) (t : ℕ) (m : MixerView) → IsTrue (leaves_mixe
   stays_through : (cmd : Cmd) → IsTrue (leaves_mixer cmd) → (past : List Act) → Represents m past t → Represents m (acts_of t cmd ++ past) t
   stays_through (PlayTake at take) e past h =
       leaves (Play at) t m refl (act_after t (LoadBg at (played take)) ∷ past) (leaves (LoadBg at (played take)) t m refl past h)
+  stays_through (AddFile channel name) e past h = h
+  stays_through (RemoveFile channel) e past h = h
   stays_through (Value at prop) e past h = h
   stays_through Info e past h = h
   stays_through cmd e past h = leaves cmd t m e past h

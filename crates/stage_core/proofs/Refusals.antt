@@ -10,7 +10,7 @@ use Rattle.play_types.specs.Setting.{SettingView}
 use Rattle.play_types.specs.declared.place.TheConstants.{MAX_CHANNELS, MAX_LIVE_LAYERS}
 use Rattle.play_types.specs.declared.setting.TheConstants.{MAX_WAITING_SETTINGS}
 use Rattle.play_types.specs.declared.command.Cmd.{Cmd}
-use Rattle.play_types.specs.declared.command.Cmd.TheVariants.{Load, LoadBg, Play, PlayTake, Pause, Resume, StopLayer, ClearLayer, ClearChannel, SwapLayers, SwapChannels, Set, CommitMixer, ResetLayer, ResetChannel, Value, Info}
+use Rattle.play_types.specs.declared.command.Cmd.TheVariants.{Load, LoadBg, Play, PlayTake, Pause, Resume, StopLayer, ClearLayer, ClearChannel, SwapLayers, SwapChannels, Set, CommitMixer, ResetLayer, ResetChannel, AddFile, RemoveFile, Value, Info}
 use Rattle.history_model.specs.stage.Places.{Places, changed_at, is_over_limit}
 use Rattle.history_model.specs.stage.StageState.{IsWithinLimits, StageState, exchanged_channel, is_over_after, is_refused_by, live_after, placed_at, standing_at, state_after, waiting_count_after}
 use Rattle.history_model.specs.commands.Channels.{IsServed}
@@ -52,6 +52,8 @@ module _ (n : ℕ) (f g : ℕ → Places) (same : (k : ℕ) → IsConfigured n k
   live_after-same (CommitMixer committed) h = same k c
   live_after-same (ResetLayer at) h = same k c
   live_after-same (ResetChannel reset) h = same k c
+  live_after-same (AddFile marked name) h = same k c
+  live_after-same (RemoveFile marked) h = same k c
   live_after-same (Value at prop) h = same k c
   live_after-same Info h = same k c
 
@@ -72,6 +74,8 @@ length-places (Set setting) live = refl
 length-places (CommitMixer committed) live = refl
 length-places (ResetLayer at) live = refl
 length-places (ResetChannel reset) live = refl
+length-places (AddFile marked name) live = refl
+length-places (RemoveFile marked) live = refl
 length-places (Value at prop) live = refl
 length-places Info live = refl
 
@@ -97,6 +101,8 @@ length-waiting (Set setting) live =
 length-waiting (CommitMixer committed) live = length-set live.waiting (committed - 1) 0
 length-waiting (ResetLayer at) live = refl
 length-waiting (ResetChannel reset) live = refl
+length-waiting (AddFile marked name) live = refl
+length-waiting (RemoveFile marked) live = refl
 length-waiting (Value at prop) live = refl
 length-waiting Info live = refl
 
@@ -159,6 +165,8 @@ refused_true (Set setting) n live state h e =
 refused_true (CommitMixer committed) n live state h e = absurd (false≢true e)
 refused_true (ResetLayer at) n live state h e = absurd (false≢true e)
 refused_true (ResetChannel reset) n live state h e = absurd (false≢true e)
+refused_true (AddFile marked name) n live state h e = absurd (false≢true e)
+refused_true (RemoveFile marked) n live state h e = absurd (false≢true e)
 refused_true (Value at prop) n live state h e = absurd (false≢true e)
 refused_true Info n live state h e = absurd (false≢true e)
 
@@ -180,6 +188,8 @@ refused_false (Set setting) n live state h e =
 refused_false (CommitMixer committed) n live state h e = refl
 refused_false (ResetLayer at) n live state h e = refl
 refused_false (ResetChannel reset) n live state h e = refl
+refused_false (AddFile marked name) n live state h e = refl
+refused_false (RemoveFile marked) n live state h e = refl
 refused_false (Value at prop) n live state h e = refl
 refused_false Info n live state h e = refl
 

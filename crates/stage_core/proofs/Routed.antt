@@ -14,14 +14,15 @@ use Rattle.play_types.specs.declared.setting.Prop.TheVariants.{Opacity, Fill, Cl
 use Rattle.play_types.specs.declared.take.Spec.{Spec}
 use Rattle.play_types.specs.declared.take.Spec.TheVariants as spec
 use Rattle.play_types.specs.declared.command.Cmd.{Cmd}
-use Rattle.play_types.specs.declared.command.Cmd.TheVariants.{Load, LoadBg, Play, PlayTake, Pause, Resume, StopLayer, ClearLayer, ClearChannel, SwapLayers, SwapChannels, Set, CommitMixer, ResetLayer, ResetChannel, Value, Info}
+use Rattle.play_types.specs.declared.command.Cmd.TheVariants.{Load, LoadBg, Play, PlayTake, Pause, Resume, StopLayer, ClearLayer, ClearChannel, SwapLayers, SwapChannels, Set, CommitMixer, ResetLayer, ResetChannel, AddFile, RemoveFile, Value, Info}
 use Rattle.play_types.specs.declared.drawn.Drawn.{Drawn}
 use Rattle.history_model.specs.stage.Act.{Act}
 use Rattle.history_model.specs.stage.Life.{Foreground, Life, Outgoing, ready}
 use Rattle.history_model.specs.stage.Live.{state}
 use Rattle.history_model.specs.stage.Places.{ArePlaces, Places}
 use Rattle.history_model.specs.stage.Value.{value_at}
-use Rattle.history_model.specs.pictures.Scene.{drawn_place, is_one, outgoing_shown, outgoing_still}
+use Rattle.history_model.specs.pictures.Easing.{eased}
+use Rattle.history_model.specs.pictures.Scene.{drawn_place, is_one, outgoing_shown, outgoing_still, step_of}
 use Rattle.history_model.specs.pictures.StageScene.{drawn_live_place, next_shown}
 use Rattle.layer_state.specs.Shown.{old_picture_of, shown_of}
 use Rattle.route_graph.specs.Past.{KeepsForegrounds, LeadsWithin}
@@ -51,6 +52,8 @@ OfCommand-routed n (Set setting) h = tt
 OfCommand-routed n (CommitMixer channel) h = tt
 OfCommand-routed n (ResetLayer at) h = tt
 OfCommand-routed n (ResetChannel channel) h = tt
+OfCommand-routed n (AddFile marked name) h = tt
+OfCommand-routed n (RemoveFile marked) h = tt
 OfCommand-routed n (Value at prop) h = tt
 OfCommand-routed n Info h = tt
 
@@ -105,8 +108,8 @@ module _ (n : ℕ) (tick : Option (List ShownLayers)) (foregrounds : Option (Pla
         λ i. Some (record {
           still = sym (source_of_tick n tick foregrounds f.take.spec (head f.take f.shown) keeps (leads n f.take.spec h.0)) i;
           old = old_source f.old f.shown h.1 i;
-          trans = f.take.trans;
-          step = min (f.shown + 1) f.take.trans.duration;
+          trans = (eased f.take.trans (step_of f)).0;
+          step = (eased f.take.trans (step_of f)).1;
           opacity = number_at (sym (same Opacity) i) 0;
           fill = sym (same Fill) i;
           clip = sym (same Clip) i;

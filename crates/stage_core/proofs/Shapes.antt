@@ -2,10 +2,11 @@
 use Rattle.std.proofs.Common.{◌≡◌, refl, subst}
 use Rattle.play_types.specs.Shape.{shape_of}
 use Rattle.play_types.specs.declared.command.Cmd.{Cmd}
-use Rattle.play_types.specs.declared.command.Cmd.TheVariants.{Load, LoadBg, Play, PlayTake, Pause, Resume, StopLayer, ClearLayer, ClearChannel, SwapLayers, SwapChannels, Set, CommitMixer, ResetLayer, ResetChannel, Value, Info}
+use Rattle.play_types.specs.declared.command.Cmd.TheVariants.{Load, LoadBg, Play, PlayTake, Pause, Resume, StopLayer, ClearLayer, ClearChannel, SwapLayers, SwapChannels, Set, CommitMixer, ResetLayer, ResetChannel, AddFile, RemoveFile, Value, Info}
 use Rattle.play_types.specs.declared.shape.CommandShape.{CommandShape}
 use Rattle.play_types.specs.declared.shape.CommandShape.TheVariants as shape
 use Rattle.play_types.specs.declared.shape.Target.TheVariants as target
+use Rattle.play_types.specs.declared.shape.Recording.TheVariants as recording
 use Rattle.play_types.specs.declared.shape.Query.TheVariants as query
 
 -- the command is the one of this shape, if there is one alone
@@ -19,6 +20,8 @@ IsOfShape (shape.Set setting) cmd = cmd ≡ Set setting
 IsOfShape (shape.CommitMixer channel) cmd = cmd ≡ CommitMixer channel
 IsOfShape (shape.Reset (target.Layer at)) cmd = cmd ≡ ResetLayer at
 IsOfShape (shape.Reset (target.Channel channel)) cmd = cmd ≡ ResetChannel channel
+IsOfShape (shape.Record (recording.Begin channel name)) cmd = cmd ≡ AddFile channel name
+IsOfShape (shape.Record (recording.End channel)) cmd = cmd ≡ RemoveFile channel
 IsOfShape (shape.Ask (query.Value at prop)) cmd = cmd ≡ Value at prop
 IsOfShape (shape.Ask query.Status) cmd = cmd ≡ Info
 
@@ -38,6 +41,8 @@ own_shape (Set setting) = refl
 own_shape (CommitMixer channel) = refl
 own_shape (ResetLayer at) = refl
 own_shape (ResetChannel channel) = refl
+own_shape (AddFile marked name) = refl
+own_shape (RemoveFile marked) = refl
 own_shape (Value at prop) = refl
 own_shape Info = refl
 

@@ -14,7 +14,7 @@ use Rattle.play_types.specs.Scene.{IsConfigured}
 use Rattle.play_types.specs.History.{stop_at, ticks}
 use Rattle.play_types.specs.declared.place.TheConstants.{MAX_CHANNELS, MAX_LIVE_LAYERS}
 use Rattle.play_types.specs.declared.command.Cmd.{Cmd}
-use Rattle.play_types.specs.declared.command.Cmd.TheVariants.{Load, LoadBg, Play, PlayTake, Pause, Resume, StopLayer, ClearLayer, ClearChannel, SwapLayers, SwapChannels, Set, CommitMixer, ResetLayer, ResetChannel, Value, Info}
+use Rattle.play_types.specs.declared.command.Cmd.TheVariants.{Load, LoadBg, Play, PlayTake, Pause, Resume, StopLayer, ClearLayer, ClearChannel, SwapLayers, SwapChannels, Set, CommitMixer, ResetLayer, ResetChannel, AddFile, RemoveFile, Value, Info}
 use Rattle.play_types.specs.declared.answer.Answer.TheVariants as reply
 use Rattle.play_types.specs.declared.answer.Status.{Status}
 use Rattle.play_types.specs.declared.event.Tag.{Tag}
@@ -36,7 +36,7 @@ use Rattle.history_model.specs.stage.StageState.{StageState, acts_after_all, emp
 use Rattle.history_model.specs.stage.Trail.{acts_on_content, content_origin, trail}
 use Rattle.history_model.proofs.Liveness.{acts-tick}
 use Rattle.history_model.proofs.places.Histories.{places-states}
-use Rattle.history_model.proofs.stage.Histories.{ArePlaces-places, IsWithinLimits-history, acts-stop, places-tick, stage_after-start, stage_after-tick}
+use Rattle.history_model.proofs.stage.Histories.{ArePlaces-places, IsWithinLimits-history, acts-stop, places-tick, stage_after-acts, stage_after-start, stage_after-tick}
 use Rattle.history_model.proofs.stage.Shown.{last_shown-batch, last_shown-command, last_shown-start, last_shown-stop, last_shown-tick, scene-places, statuses-places}
 use Rattle.layer_state.proofs.Growth.{shown-few}
 use Rattle.layer_state.proofs.Histories.{acts-past}
@@ -48,7 +48,7 @@ use Rattle.history_model.specs.commands.Channels.{IsRouted, IsServed}
 use Rattle.stage_core.specs.LiveState.{LiveView, Channels, ShowsStage, live_with, live_with_all, live_one_tick_later, is_refused_on, is_some_over, places_of, some_is_refused_on}
 use Rattle.stage_core.specs.inner.Drawn.{drawn_next, mixed_values, scene_next, shown_layer, with_present}
 use Rattle.stage_core.specs.Kept.{AreServed, IsMixed, IsShownBefore, IsStage}
-use Rattle.stage_core.specs.inner.Settled.{CanTake}
+use Rattle.stage_core.specs.inner.Settled.{CanTake, counted, settings_of_all, waits_on}
 use Rattle.stage_core.specs.inner.Shown.{CanShow, HasOwnRoutes, HasTicksLeft}
 use Rattle.stage_core.proofs.Kept.{AllServed, IsLiveStateOf-batch_refused, IsLiveStateOf-batch_taken, IsLiveStateOf-refused, IsLiveStateOf-stop, IsLiveStateOf-taken, acts-batch_refused, acts-batch_taken, acts-refused, acts-taken, live_state_of, length-all, refused-batch, refused-command, refused_by, some_refused_by}
 use Rattle.stage_core.proofs.Exchanges.{one_within}
@@ -57,6 +57,7 @@ use Rattle.stage_core.proofs.Routed.{IsShown-routed, OfPlace-routed, drawn_place
 use Rattle.stage_core.proofs.Takes.{OfPlace}
 use Rattle.mixer_state.specs.Mixer.{IsAsBefore, MixerView}
 use Rattle.mixer_state.specs.Past.{Represents}
+use Rattle.stage_core.proofs.Needs.{settings_of_all-same}
 use Rattle.stage_core.proofs.Mixing.{can_take, can_take_all, IsMixed-as_before, IsMixed-event, IsMixed-tick}
 
 map_of_map : {X Y : Type 0} (g : X → Y) (f : ℕ → X) (first m : ℕ) → map g (map f (range_with_len first m)) ≡ map (λ k. g (f k)) (range_with_len first m)
@@ -183,6 +184,8 @@ module _ (events : List Event) (tag : Tag) (cmd : Cmd) (live saved : LiveView) (
       of_refused (CommitMixer channel) over = refl
       of_refused (ResetLayer at) over = refl
       of_refused (ResetChannel channel) over = refl
+      of_refused (AddFile marked name) over = refl
+      of_refused (RemoveFile marked) over = refl
       of_refused (Value at prop) over = absurd (false≢true over)
       of_refused Info over = absurd (false≢true over)
 
@@ -251,6 +254,17 @@ module _ (events : List Event) (live saved : LiveView) (mixer : MixerView) (rout
     mixed = IsMixed-as_before (length live.places) events mixer h.mixed after same;
     shown = h.shown;
   }
+
+  -- as many settings wait on each channel of the mixer as are counted, so it needs memory for as many as commands are counted to
+  pub needs_counted : (after : MixerView) → IsAsBefore mixer after → (cmds : List Cmd) → All (IsServed (length live.places)) cmds →
+      settings_of_all (waits_on after) cmds ≡ settings_of_all (counted live.waiting) cmds
+  needs_counted after same cmds each =
+      settings_of_all-same (length live.places) cmds (waits_on after) (counted live.waiting) each
+      (λ k c.
+      ap (λ (m : MixerView). waits_on m k) same
+      ∙ ap length (h.mixed.past.waiting k (subst (λ (n : ℕ). IsConfigured n k) (sym h.mixed.count) c))
+      ∙ sym (ap (λ (state : StageState). state.waiting k) (stage_after-acts events))
+      ∙ sym (h.live.shows.waiting k c))
 
   -- the statuses of the channels
   pub statuses-shown : (setup : Setup) → length setup.channels ≡ length live.places →

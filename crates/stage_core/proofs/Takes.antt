@@ -7,7 +7,7 @@ use Rattle.play_types.specs.declared.transition.Kind.{Kind}
 use Rattle.play_types.specs.declared.transition.Kind.TheVariants.{Cut, Mix, Push, Slide, Wipe}
 use Rattle.play_types.specs.declared.take.Spec.{Spec}
 use Rattle.play_types.specs.declared.command.Cmd.{Cmd}
-use Rattle.play_types.specs.declared.command.Cmd.TheVariants.{Load, LoadBg, Play, PlayTake, Pause, Resume, StopLayer, ClearLayer, ClearChannel, SwapLayers, SwapChannels, Set, CommitMixer, ResetLayer, ResetChannel, Value, Info}
+use Rattle.play_types.specs.declared.command.Cmd.TheVariants.{Load, LoadBg, Play, PlayTake, Pause, Resume, StopLayer, ClearLayer, ClearChannel, SwapLayers, SwapChannels, Set, CommitMixer, ResetLayer, ResetChannel, AddFile, RemoveFile, Value, Info}
 use Rattle.history_model.specs.stage.Act.{Act}
 use Rattle.history_model.specs.stage.Trail.{acts_on_content, content_origin, trail}
 use Rattle.history_model.specs.stage.Life.{Foreground, Life, Outgoing, after_delay, after_play, delay, effect, life, outgoing, ready, ready_by, run_for, shown_for, start, start_of, with_mark}
@@ -48,6 +48,8 @@ module _ (P : Spec → Type 0) where
   OfCommand (CommitMixer channel) = Unit {0}
   OfCommand (ResetLayer at) = Unit {0}
   OfCommand (ResetChannel channel) = Unit {0}
+  OfCommand (AddFile marked name) = Unit {0}
+  OfCommand (RemoveFile marked) = Unit {0}
   OfCommand (Value at prop) = Unit {0}
   OfCommand Info = Unit {0}
 
@@ -129,6 +131,8 @@ module _ (P : Spec → Type 0) where
   OfPlace-effect (CommitMixer channel) s c h = h
   OfPlace-effect (ResetLayer at) s c h = h
   OfPlace-effect (ResetChannel channel) s c h = h
+  OfPlace-effect (AddFile marked name) s c h = h
+  OfPlace-effect (RemoveFile marked) s c h = h
   OfPlace-effect (Value at prop) s c h = h
   OfPlace-effect Info s c h = h
 

@@ -76,6 +76,7 @@ is_refused_on cmd live = elim (shape_of cmd) [
   | shape.Set setting ↦ is_full_for setting live.waiting
   | shape.CommitMixer channel ↦ false
   | shape.Reset target ↦ false
+  | shape.Record mark ↦ false
   | shape.Ask query ↦ false
 ]
 
@@ -90,6 +91,7 @@ live_with cmd live = elim (shape_of cmd) [
   | shape.Set setting ↦ record live { waiting = with_setting setting live.waiting }
   | shape.CommitMixer channel ↦ record live { waiting = with_channel_item channel 0 live.waiting }
   | shape.Reset target ↦ live
+  | shape.Record mark ↦ live
   | shape.Ask query ↦ live
 ]
 

@@ -1,5 +1,6 @@
 pub mod Drawn
 pub mod Found
+pub mod Seen
 pub mod Settled
 pub mod Shown
 pub mod Target

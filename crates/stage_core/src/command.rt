@@ -37,6 +37,8 @@ pub(crate) fn layer_after(cmd: &Cmd, before: Layer) -> Layer
         | Cmd::CommitMixer(_)
         | Cmd::ResetLayer(_)
         | Cmd::ResetChannel(_)
+        | Cmd::AddFile(..)
+        | Cmd::RemoveFile(_)
         | Cmd::Value(..)
         | Cmd::Info => {}
     }

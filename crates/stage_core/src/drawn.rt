@@ -7,6 +7,7 @@ ghost use Rattle.history_model.specs.stage.Answer.{number_count};
 ghost use Rattle.mixer_state.specs.Mixer.{values_of};
 ghost use Rattle.stage_core.specs.inner.Drawn.{HasRoomFor, IsShown, drawn_shown, mixed_values, still_of, tick_past, with_drawn, with_picture_of};
 
+use crate::easing::eased;
 use layer_state::Shown;
 use mixer_state::Mixer;
 use play_types::{Drawn, MICROS_PER_UNIT, Place, Prop, Scenes, Spec, Still};
@@ -29,11 +30,12 @@ pub(crate) fn draw(
     ensures { scenes.new ≡ with_drawn place.channel (drawn_shown (mixed_values mixer.now number place) (tick_past routes.now) shown.entry.now) scenes.old }
 {
     if let Some((spec, frame)) = &shown.now {
+        let (trans, step) = eased(shown.trans, shown.step);
         let drawn = Drawn {
             still: routes.still(*spec, *frame),
             old: still_of(shown.old, routes),
-            trans: shown.trans,
-            step: shown.step,
+            trans,
+            step,
             opacity: number_of(mixer, place, Prop::Opacity, number),
             fill: numbers_of(mixer, place, Prop::Fill, number),
             clip: numbers_of(mixer, place, Prop::Clip, number),

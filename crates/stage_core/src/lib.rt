@@ -8,12 +8,17 @@
 mod channels;
 mod command;
 mod drawn;
+mod easing;
+pub mod examples;
 mod fault;
 mod live_state;
+mod needed;
 mod places;
+mod seen;
 mod settle;
 mod stage;
 mod status;
 
 pub use fault::{ApplyFault, Ended, TickFault};
+pub use seen::LayerView;
 pub use stage::Stage;

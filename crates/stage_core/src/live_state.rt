@@ -70,7 +70,7 @@ impl LiveState {
                 self.waiting[channel_index(channel)] = 0;
                 false
             }
-            CommandShape::Reset(_) | CommandShape::Ask(_) => false,
+            CommandShape::Reset(_) | CommandShape::Record(_) | CommandShape::Ask(_) => false,
         }
     }
 
@@ -140,6 +140,13 @@ impl LiveState {
         ensures routes { routes.new ≡ with_present (map (filter_map shown_layer) self.old.places) routes.old }
     {
         self.places.tick(number, mixer, routes, scenes);
+    }
+
+    /// Returns how many settings wait on each channel, channel 1 first.
+    pub(crate) fn waiting(&self) -> [usize; MAX_CHANNELS]
+        ensures { result ≡ self.now.waiting }
+    {
+        self.waiting
     }
 
     /// Returns the live places of all channels.

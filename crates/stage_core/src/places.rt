@@ -1,5 +1,5 @@
 //! The live places of a channel.
-ghost use Rattle.std.specs.Prelude.{◌≡◌, ◌+◌, ◌≤◌, [], IfOk, IfErr, filter_map, length, map};
+ghost use Rattle.std.specs.Prelude.{◌≡◌, ◌+◌, ◌≤◌, [], IfOk, IfErr, IfSome, filter_map, length, map, slice_get};
 ghost use Rattle.play_types.specs.Scene.{IsConfigured, scene_at};
 ghost use Rattle.play_types.specs.declared.place.TheConstants.{MAX_CHANNELS, MAX_LAYER, MAX_LIVE_LAYERS};
 ghost use Rattle.history_model.specs.stage.Answer.{status_of};
@@ -7,12 +7,14 @@ ghost use Rattle.history_model.specs.stage.Places.{ArePlaces, is_over_limit, one
 ghost use Rattle.route_graph.specs.Routes.{last_tick};
 ghost use Rattle.stage_core.specs.inner.Drawn.{drawn_next, mixed_values, shown_layer, tick_past, with_shown_layers};
 ghost use Rattle.stage_core.specs.inner.Found.{AreLayers, IsAt, IsGapFor};
+ghost use Rattle.stage_core.specs.inner.Seen.{seen_of};
 ghost use Rattle.stage_core.specs.inner.Shown.{CanShow};
 ghost use Rattle.history_model.specs.stage.StageHistory.{foreground_of};
 ghost use Rattle.stage_core.specs.inner.Target.{with_layers};
 
 use crate::command::is_live;
 use crate::drawn::{draw, note};
+use crate::seen::LayerView;
 use layer_state::Layer;
 use mixer_state::Mixer;
 use play_types::{MAX_LIVE_LAYERS, Place, Scenes, Status};
@@ -72,6 +74,24 @@ impl PlaceList {
             }
         }
         status
+    }
+
+    /// Returns what a status display shows of the place at position `at`, counted from 0, among those that have a foreground.
+    /// It returns `None` exactly if no more than `at` places have one.
+    pub(crate) fn seen(&self, at: u8) -> Option<LayerView>
+        ensures range { IfSome result (λ seen. at ≤ MAX_LIVE_LAYERS + 2) }
+        ensures value { result ≡ slice_get (filter_map seen_of self.now) at }
+    {
+        let mut left = at;
+        for place in &self.places {
+            if let Some(front) = place.1.front() {
+                if left == 0 {
+                    return Some(LayerView::of(place.0, front));
+                }
+                left -= 1;
+            }
+        }
+        None
     }
 
     /// Removes all places.

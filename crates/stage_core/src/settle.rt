@@ -1,62 +1,26 @@
 //! What commands make of the mixer values and of the waiting settings.
-ghost use Rattle.std.specs.Prelude.{◌≡◌, ◌+◌, ◌≤◌, ◌++◌, [], ◌∷◌, List, All, IfSome, true, false};
+ghost use Rattle.std.specs.Prelude.{◌≡◌, ◌+◌, ◌≤◌, ◌++◌, [], ◌∷◌, List, All, true, false};
 ghost use Rattle.play_types.specs.Scene.{IsConfigured};
 ghost use Rattle.play_types.specs.declared.command.Cmd.TheVariants.{Set};
 ghost use Rattle.history_model.specs.stage.Act.{Act, acts_of};
 ghost use Rattle.history_model.specs.stage.StageState.{acts_after_all};
 ghost use Rattle.mixer_state.specs.Past.{Represents};
 ghost use Rattle.history_model.specs.commands.Channels.{IsServed};
-ghost use Rattle.stage_core.specs.inner.Settled.{CanTake, settings_of, settings_of_all};
+ghost use Rattle.stage_core.specs.inner.Settled.{CanTake, settings_of, settings_of_all, waits_on};
 
 use mixer_state::{Mixer, laws};
-use play_types::{Cmd, CommandShape, MAX_WAITING_SETTINGS, Setting, Target};
+use play_types::{Cmd, CommandShape, Setting, Target};
 use std::alloc::Global;
-
-/// Returns for how many settings a mixer needs memory so that a command takes no more.
-pub(crate) fn settings_of(cmd: &Cmd) -> u32
-    ensures { result ≡ settings_of cmd.now }
-{
-    match cmd {
-        Cmd::Set(_) | Cmd::SwapLayers(..) => 1,
-        Cmd::CommitMixer(_) => MAX_WAITING_SETTINGS as u32,
-        Cmd::Load(..)
-        | Cmd::LoadBg(..)
-        | Cmd::Play(_)
-        | Cmd::PlayTake(..)
-        | Cmd::Pause(_)
-        | Cmd::Resume(_)
-        | Cmd::StopLayer(_)
-        | Cmd::ClearLayer(_)
-        | Cmd::ClearChannel(_)
-        | Cmd::SwapChannels(..)
-        | Cmd::ResetLayer(_)
-        | Cmd::ResetChannel(_)
-        | Cmd::Value(..)
-        | Cmd::Info => 0,
-    }
-}
-
-/// Returns for how many settings a mixer needs memory so that commands take no more. `None` if these are more than a
-/// mixer can be asked for.
-pub(crate) fn settings_of_all(cmds: &[Cmd]) -> Option<u32>
-    ensures { IfSome result (λ count. count ≡ settings_of_all cmds.now) }
-{
-    let mut count: u32 = 0;
-    for cmd in cmds {
-        count = count.checked_add(settings_of(cmd))?;
-    }
-    Some(count)
-}
 
 /// Lets a command that is not refused act on a mixer, which has the memory for it.
 pub(crate) fn settle(alloc: Global, mixer: &mut Mixer, cmd: &Cmd, ticks: u64)
     requires served { IsServed mixer.old.channels cmd.now }
     requires taken { CanTake (cmd.now ∷ []) ticks mixer.old }
-    requires memory { settings_of cmd.now ≤ mixer.old.spare }
+    requires memory { settings_of (waits_on mixer.old) cmd.now ≤ mixer.old.spare }
     ensures past { (acts : List Act) → Represents mixer.old acts ticks
         → Represents mixer.new (acts_of ticks cmd.now ++ acts) ticks }
     ensures channels { mixer.new.channels ≡ mixer.old.channels }
-    ensures spare { mixer.old.spare ≤ mixer.new.spare + settings_of cmd.now }
+    ensures spare { mixer.old.spare ≤ mixer.new.spare + settings_of (waits_on mixer.old) cmd.now }
 {
     laws::what_leaves_a_mixer();
     match cmd.shape() {
@@ -79,6 +43,7 @@ pub(crate) fn settle(alloc: Global, mixer: &mut Mixer, cmd: &Cmd, ticks: u64)
         CommandShape::Take(..)
         | CommandShape::Change(_)
         | CommandShape::ClearChannel(_)
+        | CommandShape::Record(_)
         | CommandShape::Ask(_) => {}
     }
 }
@@ -87,11 +52,11 @@ pub(crate) fn settle(alloc: Global, mixer: &mut Mixer, cmd: &Cmd, ticks: u64)
 fn set(alloc: Global, mixer: &mut Mixer, setting: &Setting, ticks: u64)
     requires served { IsConfigured mixer.old.channels setting.now.place.channel }
     requires taken { CanTake (Set setting.now ∷ []) ticks mixer.old }
-    requires memory { 1 ≤ mixer.old.spare }
+    requires memory { settings_of (waits_on mixer.old) (Set setting.now) ≤ mixer.old.spare }
     ensures past { (acts : List Act) → Represents mixer.old acts ticks
         → Represents mixer.new (acts_of ticks (Set setting.now) ++ acts) ticks }
     ensures channels { mixer.new.channels ≡ mixer.old.channels }
-    ensures spare { mixer.old.spare ≤ mixer.new.spare + 1 }
+    ensures spare { mixer.old.spare ≤ mixer.new.spare + settings_of (waits_on mixer.old) (Set setting.now) }
 {
     if setting.deferred() {
         if !mixer.defer(setting) {
@@ -106,7 +71,7 @@ fn set(alloc: Global, mixer: &mut Mixer, setting: &Setting, ticks: u64)
 pub(crate) fn settle_all(alloc: Global, mixer: &mut Mixer, cmds: &[Cmd], ticks: u64)
     requires served { All (IsServed mixer.old.channels) cmds.now }
     requires taken { CanTake cmds.now ticks mixer.old }
-    requires memory { settings_of_all cmds.now ≤ mixer.old.spare }
+    requires memory { settings_of_all (waits_on mixer.old) cmds.now ≤ mixer.old.spare }
     ensures past { (acts : List Act) → Represents mixer.old acts ticks
         → Represents mixer.new (acts_after_all ticks cmds.now acts) ticks }
     ensures channels { mixer.new.channels ≡ mixer.old.channels }

@@ -1,17 +1,21 @@
 //! The stage over its own journal.
-ghost use Rattle.std.specs.Prelude.{◌≡◌, ℕ, ◌+◌, ◌<◌, [], All, IfOk, IfErr, OnOk, OnErr, None, Some, false, length, map};
+ghost use Rattle.std.specs.Prelude.{◌≡◌, ℕ, ◌+◌, ◌<◌, ◌≤◌, [], All, IfOk, IfErr, IfSome, OnOk, OnErr, None, Some, false, length, map, slice_get};
 ghost use Rattle.std.specs.List.{range_with_len};
 ghost use Rattle.play_types.specs.History.{stop_at, ticks};
 ghost use Rattle.play_types.specs.declared.event.Event.TheVariants.{Batch, Do, Stop, Tick};
+ghost use Rattle.play_types.specs.declared.place.TheConstants.{MAX_LIVE_LAYERS};
 ghost use Rattle.history_model.specs.pictures.Media.{Setup};
 ghost use Rattle.history_model.specs.pictures.Scene.{scene};
 ghost use Rattle.history_model.specs.stage.Answer.{StageAnswer, answer, command_answer};
 ghost use Rattle.history_model.specs.commands.Channels.{IsServed};
+ghost use Rattle.stage_core.specs.Seen.{seen_layers};
 ghost use Rattle.stage_core.specs.Stage.{HasRoom, HasTime, IsNoTick, IsNotTaken, after_event};
 
 use crate::fault::{ApplyFault, Ended, TickFault};
 use crate::live_state::LiveState;
-use crate::settle::{settings_of, settings_of_all, settle, settle_all};
+use crate::needed::reserve_for;
+use crate::seen::LayerView;
+use crate::settle::{settle, settle_all};
 use crate::status::statuses;
 use mixer_state::Mixer;
 use play_journal::Journal;
@@ -19,6 +23,7 @@ use play_types::{Answer, Cmd, CommandShape, Config, MAX_TICKS, Query, Scenes, Ta
 use route_graph::Routes;
 use std::alloc::{AllocError, Global};
 use std::marker::Model;
+use std::slice;
 
 /// The stage of a server, with the journal of its events.
 ///
@@ -84,7 +89,8 @@ impl Stage {
         let reply = self.reply(&cmd);
         let ticks = self.journal.ticks();
         // The mixer's memory is taken before anything changes.
-        if self.mixer.reserve(alloc, settings_of(&cmd)).is_err() {
+        let waiting = self.live.waiting();
+        if reserve_for(alloc, &mut self.mixer, slice::from_ref(&cmd), waiting).is_err() {
             return Err(ApplyFault::OutOfMemory);
         }
         self.journal.push(alloc, tag, cmd)?;
@@ -119,10 +125,8 @@ impl Stage {
         self.room_for(cmds.len())?;
         let ticks = self.journal.ticks();
         // The mixer's memory is taken before anything changes.
-        let Some(settings) = settings_of_all(cmds) else {
-            return Err(ApplyFault::OutOfMemory);
-        };
-        if self.mixer.reserve(alloc, settings).is_err() {
+        let waiting = self.live.waiting();
+        if reserve_for(alloc, &mut self.mixer, cmds, waiting).is_err() {
             return Err(ApplyFault::OutOfMemory);
         }
         self.journal.push_batch(alloc, tag, cmds)?;
@@ -184,6 +188,23 @@ impl Stage {
         }
     }
 
+    /// Returns what a status display shows of a layer: of the one at position `at`, counted from 0, among the layers of a
+    /// channel that have a foreground, in rising number. It returns `None` exactly if no more than `at` layers of the
+    /// channel have a foreground. A channel that the stage lacks has no such layer.
+    ///
+    /// The layer is as the last event of the journal left it. Its foreground alone is shown: not the content that this
+    /// replaces, and no background, even if that starts at the next tick. It takes no memory.
+    pub fn seen_layer(&self, channel: u8, at: u8) -> Option<LayerView>
+        ensures range { IfSome result (λ seen. at ≤ MAX_LIVE_LAYERS + 2) }
+        ensures value { result ≡ slice_get (seen_layers self.now.journal.events channel) at }
+    {
+        let places = self.live.places();
+        if channel == 0 || usize::from(channel) > places.count() {
+            return None;
+        }
+        places.channel(channel).seen(at)
+    }
+
     /// Returns the journal.
     pub fn journal(&self) -> &Journal
         ensures { result.now ≡ self.now.journal }
@@ -228,7 +249,8 @@ impl Stage {
             | CommandShape::SwapChannels(..)
             | CommandShape::Set(_)
             | CommandShape::CommitMixer(_)
-            | CommandShape::Reset(_) => Answer::Done,
+            | CommandShape::Reset(_)
+            | CommandShape::Record(_) => Answer::Done,
         }
     }
 }

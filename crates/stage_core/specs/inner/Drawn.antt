@@ -11,6 +11,7 @@ use Rattle.play_types.specs.declared.drawn.Still.{Still}
 use Rattle.play_types.specs.declared.drawn.Still.TheVariants.{Nothing}
 use Rattle.play_types.specs.declared.drawn.Drawn.{Drawn}
 use Rattle.history_model.specs.stage.Life.{Life, ready}
+use Rattle.history_model.specs.pictures.Easing.{eased}
 use Rattle.history_model.specs.pictures.Scene.{is_one}
 use Rattle.layer_state.specs.declared.shown.Shown.{Shown}
 use Rattle.layer_state.specs.Shown.{shown_of}
@@ -34,8 +35,8 @@ abbrev pub drawn_now : (Prop → List ℤ) → Option Pictures → Shown → Pic
 drawn_now values past shown picture = record {
   still = still_by past picture.0 picture.1;
   old = still_of past shown.old;
-  trans = shown.trans;
-  step = shown.step;
+  trans = (eased shown.trans shown.step).0;
+  step = (eased shown.trans shown.step).1;
   opacity = number_at (values Opacity) 0;
   fill = values Fill;
   clip = values Clip;

@@ -1,37 +1,45 @@
 -- What a mixer needs for commands.
-use Rattle.std.specs.Prelude.{◌≡◌, ℕ, ◌+◌, false, List, [], ◌∷◌}
-use Rattle.play_types.specs.declared.setting.TheConstants.{MAX_WAITING_SETTINGS}
+use Rattle.std.specs.Prelude.{◌≡◌, ℕ, ◌+◌, false, List, [], ◌∷◌, length, if◌then◌else◌}
+use Rattle.play_types.specs.Shape.{shape_of}
 use Rattle.play_types.specs.declared.command.Cmd.{Cmd}
-use Rattle.play_types.specs.declared.command.Cmd.TheVariants.{Load, LoadBg, Play, PlayTake, Pause, Resume, StopLayer, ClearLayer, ClearChannel, SwapLayers, SwapChannels, Set, CommitMixer, ResetLayer, ResetChannel, Value, Info}
+use Rattle.play_types.specs.declared.shape.CommandShape.TheVariants as shape
 use Rattle.history_model.specs.stage.Act.{Act}
-use Rattle.history_model.specs.stage.StageState.{some_is_refused, stage_state}
-use Rattle.mixer_state.specs.Mixer.{MixerView}
+use Rattle.history_model.specs.stage.StageState.{some_is_refused, stage_state, waiting_count_after}
+use Rattle.mixer_state.specs.Mixer.{MixerView, waiting_on}
 use Rattle.mixer_state.specs.Past.{Represents}
+use Rattle.stage_core.specs.LiveState.{count_of}
 
--- for how many settings a mixer needs memory, so that a command takes no more
-abbrev pub settings_of : Cmd → ℕ
-settings_of (Load at take) = 0
-settings_of (LoadBg at take) = 0
-settings_of (Play at) = 0
-settings_of (PlayTake at take) = 0
-settings_of (Pause at) = 0
-settings_of (Resume at) = 0
-settings_of (StopLayer at) = 0
-settings_of (ClearLayer at) = 0
-settings_of (ClearChannel channel) = 0
-settings_of (SwapLayers a b transforms) = 1
-settings_of (SwapChannels a b transforms) = 0
-settings_of (Set setting) = 1
-settings_of (CommitMixer channel) = MAX_WAITING_SETTINGS
-settings_of (ResetLayer at) = 0
-settings_of (ResetChannel channel) = 0
-settings_of (Value at prop) = 0
-settings_of Info = 0
+-- how many settings wait on each channel, by a list of these numbers, and by a mixer
+abbrev pub counted : List ℕ → ℕ → ℕ
+counted waiting = λ channel. count_of channel waiting
 
--- for how many it needs memory, so that commands take no more
-abbrev pub settings_of_all : List Cmd → ℕ
-settings_of_all [] = 0
-settings_of_all (cmd ∷ cmds) = settings_of cmd + settings_of_all cmds
+abbrev pub waits_on : MixerView → ℕ → ℕ
+waits_on mixer = λ channel. length (waiting_on mixer channel)
+
+-- for how many settings a mixer needs memory, so that a command takes no more: one for a setting that starts and for a swap of
+-- mixer values, and for a commit as many as wait on its channel
+abbrev pub settings_of : (ℕ → ℕ) → Cmd → ℕ
+settings_of waiting cmd = elim (shape_of cmd) [
+  | shape.Take at take ↦ 0
+  | shape.Change at ↦ 0
+  | shape.ClearChannel channel ↦ 0
+  | shape.SwapLayers a b transforms ↦ if transforms then 1 else 0
+  | shape.SwapChannels a b transforms ↦ 0
+  | shape.Set setting ↦ if setting.deferred then 0 else 1
+  | shape.CommitMixer channel ↦ waiting channel
+  | shape.Reset target ↦ 0
+  | shape.Record mark ↦ 0
+  | shape.Ask query ↦ 0
+]
+
+-- how many settings wait on each channel after a command
+abbrev pub waiting_with : Cmd → (ℕ → ℕ) → ℕ → ℕ
+waiting_with cmd waiting = λ channel. waiting_count_after cmd channel (waiting channel)
+
+-- for how many it needs memory, so that commands take no more, each after the ones before it
+abbrev pub settings_of_all : (ℕ → ℕ) → List Cmd → ℕ
+settings_of_all waiting [] = 0
+settings_of_all waiting (cmd ∷ cmds) = settings_of waiting cmd + settings_of_all (waiting_with cmd waiting) cmds
 
 -- a mixer represents acts after which none of these commands is refused, each after the ones before it
 pub record CanTake (cmds : List Cmd) (ticks : ℕ) (mixer : MixerView) : Type 0 where

@@ -68,5 +68,6 @@ returns-in-Take-clause-past c =
       | inl take ↦ stays (ap shape_leaves_mixer take.2)
       | inr (inl change) ↦ stays (ap shape_leaves_mixer change.1)
       | inr (inr (inl clear)) ↦ stays (ap shape_leaves_mixer clear.1)
-      | inr (inr (inr ask)) ↦ stays (ap shape_leaves_mixer ask.1)
+      | inr (inr (inr (inl mark))) ↦ stays (ap shape_leaves_mixer mark.1)
+      | inr (inr (inr (inr ask))) ↦ stays (ap shape_leaves_mixer ask.1)
     ]

@@ -15,9 +15,9 @@ returns c =
     let course = c.args.self.now in
     let from_four : length course.from ≡ 4 = search rules in
     let to_four : length course.to ≡ 4 = search rules in
-    let value = λ (tween : Tween). along tween.from tween.to (c.args.ticks - tween.start) tween.duration in
+    let value = λ (tween : Tween). along tween.curve tween.from tween.to (c.args.ticks - tween.start) tween.duration in
     four_same (to_z-of_z w64 c.at.result (search rules) ∙ c.at.ensures.value ∙ ap value c.tween.ensures)
     (to_z-of_z w64 c.at-2.result (search rules) ∙ c.at-2.ensures.value ∙ ap value c.tween-2.ensures)
     (to_z-of_z w64 c.at-3.result (search rules) ∙ c.at-3.ensures.value ∙ ap value c.tween-3.ensures)
     (to_z-of_z w64 c.at-4.result (search rules) ∙ c.at-4.ensures.value ∙ ap value c.tween-4.ensures)
-    ∙ sym (all_along-four course.from course.to (c.args.ticks - course.start) course.duration from_four to_four)
+    ∙ sym (all_along-four course.curve course.from course.to (c.args.ticks - course.start) course.duration from_four to_four)

@@ -1,0 +1,55 @@
+//! What a status display shows of a layer.
+ghost use Rattle.std.specs.Prelude.{◌≡◌};
+ghost use Rattle.play_types.specs.Playhead.{head};
+ghost use Rattle.stage_core.specs.inner.Seen.{view_of};
+
+use layer_state::Front;
+use play_types::{Spec, Take};
+
+/// What a status display shows of a layer that has a foreground.
+#[derive(Clone, Copy, Debug, PartialEq, Eq)]
+pub struct LayerView {
+    /// The number of the layer.
+    pub layer: u16,
+    /// The producer of the foreground.
+    pub spec: Spec,
+    /// The frame of the clip at the playhead, counted from 0. It is 0 for another producer.
+    pub frame: u32,
+    /// How many frames of the clip are played. It is 0 for another producer.
+    pub length: u32,
+    /// Whether the foreground is paused.
+    pub paused: bool,
+}
+
+impl LayerView {
+    /// Returns what is shown of the layer of a number with this foreground.
+    pub(crate) fn of(layer: u16, front: Front) -> LayerView
+        ensures { result ≡ view_of layer front }
+    {
+        LayerView {
+            layer,
+            spec: front.take.spec(),
+            frame: frame_of(front.take, front.shown),
+            length: front.take.length(),
+            paused: front.paused,
+        }
+    }
+}
+
+/// Returns the frame that a take shows after `shown` ticks: of a clip one of those that are played, else 0.
+fn frame_of(take: Take, shown: u64) -> u32
+    ensures { result ≡ head take shown }
+{
+    match take.spec() {
+        Spec::Clip(_) => {
+            let length = u64::from(take.length());
+            let passed = if take.looped() {
+                shown % length
+            } else {
+                shown.min(length - 1)
+            };
+            take.seek() + passed as u32
+        }
+        Spec::Colour(_) | Spec::RouteChannel(_) | Spec::RouteLayer(_) => 0,
+    }
+}

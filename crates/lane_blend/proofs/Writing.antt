@@ -1,11 +1,11 @@
 -- Rows that are written byte by byte.
-use Rattle.std.proofs.Common.{◌≡◌, ℕ, ◌+◌, ◌-◌, ◌*◌, ◌/◌, ◌%◌, ◌<◌, ◌≤◌, List, length, map, get_or, refl, ap, subst, ◌∙◌, arith, inl, inr}
+use Rattle.std.proofs.Common.{◌≡◌, ℕ, ◌+◌, ◌-◌, ◌*◌, ◌/◌, ◌%◌, ◌<◌, ◌≤◌, List, ◌++◌, length, map, get_or, refl, ap, subst, ◌∙◌, arith, inl, inr}
 use Rattle.std.specs.List.{range_with_len}
 use Rattle.std.specs.Simd.Lanes.{chunk, put_chunk}
 use Rattle.std.proofs.lemmas.Bool.{cases_lt}
 use Rattle.std.proofs.lemmas.List.FromFn.{get_or-map-range_with_len, length-map-range_with_len}
 use Rattle.std.proofs.lemmas.Simd.{get_or-chunk, get_or-put_chunk_below, get_or-put_chunk_at, get_or-put_chunk_above, length-put_chunk}
-use Rattle.pixel_math.specs.Pixel.{PixelView, pixel_of, scaled}
+use Rattle.pixel_math.specs.Pixel.{PixelView, pixel_bytes, pixel_of, scaled}
 use Rattle.pixel_math.specs.Arithmetic.{over, over_byte, fade, fade_byte, key, mix, mix_byte}
 use Rattle.pixel_math.proofs.Pixels.{same_pixel}
 use Rattle.lane_blend.specs.Rows.{pixel_at, width_of, IsRow, AreLowered}
@@ -96,6 +96,14 @@ fade_at old opacity k = fade_byte (get_or old k 0) opacity
 abbrev pub mix_at : List ℕ → List ℕ → ℕ → ℕ → ℕ → ℕ
 mix_at old new j d k = mix_byte (get_or old k 0) (get_or new k 0) j d
 
+-- the byte at k of a row of one pixel
+abbrev pub filled_at : PixelView → ℕ → ℕ
+filled_at p k = get_or (pixel_bytes p) (k % 4) 0
+
+-- the bytes of four such pixels
+abbrev pub four_pixels : PixelView → List ℕ
+four_pixels p = pixel_bytes p ++ (pixel_bytes p ++ (pixel_bytes p ++ pixel_bytes p))
+
 -- a row that is written to its end has the pixels of its bytes
 row_written : (byte : ℕ → ℕ) (old new : List ℕ) (at : ℕ) → IsWrittenTo byte old new at → length old ≤ at → length old % 4 ≡ 0
     → IsRow (width_of old) (λ i. pixel_of (byte (4 * i)) (byte (4 * i + 1)) (byte (4 * i + 2)) (byte (4 * i + 3))) new
@@ -146,6 +154,14 @@ pub row_mix : (old below new : List ℕ) (j d at : ℕ) → IsWrittenTo (mix_at 
     → IsRow (width_of old) (λ i. mix (pixel_at old i) (pixel_at below i) j d) new
 row_mix old below new j d at h end whole =
     row_of_pixels (mix_at old below j d) (λ i. mix (pixel_at old i) (pixel_at below i) j d) old new at h end whole (λ i. refl)
+
+pub row_fill : (p : PixelView) (old new : List ℕ) (at : ℕ) → IsWrittenTo (filled_at p) old new at → length old ≤ at → length old % 4 ≡ 0
+    → IsRow (width_of old) (λ i. p) new
+row_fill p old new at h end whole =
+    row_of_pixels (filled_at p) (λ i. p) old new at h end whole (λ i. same_pixel _ _ (byte (4 * i) 0 (omega arith)) (byte (4 * i + 1) 1 (omega arith)) (byte (4 * i + 2) 2 (omega arith)) (byte (4 * i + 3) 3 (omega arith)))
+  where
+    byte : (k c : ℕ) → k % 4 ≡ c → filled_at p k ≡ get_or (pixel_bytes p) c 0
+    byte k c e = ap (λ (n : ℕ). get_or (pixel_bytes p) n 0) e
 
 -- none of them has a colour byte above its alpha
 pub lowered_over : (src old new : List ℕ) → IsRow (width_of old) (λ i. over (pixel_at src i) (pixel_at old i)) new → AreLowered src → AreLowered old → AreLowered new

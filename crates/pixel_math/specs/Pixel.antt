@@ -1,5 +1,5 @@
 -- What contracts see of a pixel, and how one is made.
-use Rattle.std.specs.Prelude.{ℕ, ◌+◌, ◌*◌, ◌/◌, ◌%◌, ◌<◌, ◌≤◌, min, List, [], ◌∷◌}
+use Rattle.std.specs.Prelude.{ℕ, ◌+◌, ◌*◌, ◌/◌, ◌%◌, ◌<◌, ◌≤◌, ◌==◌, min, if◌then◌else◌, List, [], ◌∷◌}
 
 -- blue, green, red and alpha, each one byte, the colours multiplied by the alpha
 pub record PixelView : Type 0 where
@@ -31,6 +31,15 @@ lowered b g r a = pixel_of (min b a) (min g a) (min r a) a
 abbrev pub scaled : ℕ → ℕ → ℕ
 scaled value by = (value * by + 127) / 255
 
+-- these bytes, each colour multiplied by the alpha
+abbrev pub multiplied : ℕ → ℕ → ℕ → ℕ → PixelView
+multiplied b g r a = pixel_of (scaled b a) (scaled g a) (scaled r a) a
+
+-- a colour byte that is multiplied by this alpha, as it is before it is multiplied: the nearest byte, and 0 if the alpha
+-- is 0
+abbrev pub straight : ℕ → ℕ → ℕ
+straight colour alpha = if alpha == 0 then 0 else (colour * 255 + alpha / 2) / alpha
+
 -- the colour 0xAARRGGBB of its four bytes
 abbrev pub colour_value : ℕ → ℕ → ℕ → ℕ → ℕ
 colour_value alpha red green blue = ((alpha * 0x100 + red) * 0x100 + green) * 0x100 + blue
@@ -53,8 +62,7 @@ blue_of value = value % 0x100
 
 -- the pixel of a colour 0xAARRGGBB, whose colours are not yet multiplied by its alpha
 abbrev pub colour_pixel : ℕ → PixelView
-colour_pixel value =
-    pixel_of (scaled (blue_of value) (alpha_of value)) (scaled (green_of value) (alpha_of value)) (scaled (red_of value) (alpha_of value)) (alpha_of value)
+colour_pixel value = multiplied (blue_of value) (green_of value) (red_of value) (alpha_of value)
 
 -- the four bytes as they stand in a frame
 abbrev pub pixel_bytes : PixelView → List ℕ

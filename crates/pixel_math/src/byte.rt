@@ -1,14 +1,28 @@
 //! The formulas on one byte.
 ghost use Rattle.std.specs.Prelude.{◌≡◌, ◌<◌, ◌≤◌};
 ghost use Rattle.pixel_math.specs.Arithmetic.{fade_byte, mix_byte, over_byte};
-ghost use Rattle.pixel_math.specs.Pixel.{scaled};
+ghost use Rattle.pixel_math.specs.Pixel.{scaled, straight};
 
 /// Multiplies `value` by `by` 255ths, rounded to the nearest byte.
-pub(crate) fn scaled(value: u8, by: u8) -> u8
+pub fn scaled(value: u8, by: u8) -> u8
     ensures value { result ≡ scaled value by }
     ensures below { result ≤ by }
 {
     ((u32::from(value) * u32::from(by) + 127) / 255) as u8
+}
+
+/// Returns the colour byte that gives `colour` if it is multiplied by `alpha`: 0 if the alpha is 0, and else the nearest
+/// byte to `colour * 255 / alpha`.
+pub fn straight(colour: u8, alpha: u8) -> u8
+    requires { colour ≤ alpha }
+    ensures value { result ≡ straight colour alpha }
+    ensures back { scaled result alpha ≡ colour }
+{
+    if alpha == 0 {
+        return 0;
+    }
+    let alpha = u32::from(alpha);
+    ((u32::from(colour) * 255 + alpha / 2) / alpha) as u8
 }
 
 /// Lays the byte `upper`, of a pixel with this alpha, over `lower`.

@@ -2,7 +2,7 @@
 //! the order blue, green, red, alpha.
 ghost use Rattle.std.specs.Prelude.{◌≡◌, ◌<◌, [], ◌∷◌};
 ghost use Rattle.pixel_math.specs.Arithmetic.{fade, key, mix, over};
-ghost use Rattle.pixel_math.specs.Pixel.{colour_pixel, lowered, pixel_bytes, pixel_of, transparent};
+ghost use Rattle.pixel_math.specs.Pixel.{colour_pixel, lowered, multiplied, pixel_bytes, pixel_of, straight, transparent};
 
 /// A colour byte above its alpha becomes the alpha.
 pub fn lowered_bytes()
@@ -18,6 +18,17 @@ pub fn colours()
     ensures quarter { colour_pixel 0x40C08020 ≡ pixel_of 8 32 48 64 }
     ensures rounded { colour_pixel 0x01FF7F80 ≡ pixel_of 1 0 1 1 }
     ensures clear { colour_pixel 0x00FFFFFF ≡ transparent }
+{}
+
+/// A straight pixel of half opacity is multiplied, and its colours are found again. A pixel without opacity has none.
+pub fn straight_colours()
+    ensures multiplied { multiplied 0 0 255 128 ≡ pixel_of 0 0 128 128 }
+    ensures whole { straight 128 128 ≡ 255 }
+    ensures rounded_up { straight 2 3 ≡ 170 }
+    ensures half_up { straight 1 2 ≡ 128 }
+    ensures rounded_down { straight 1 7 ≡ 36 }
+    ensures opaque { straight 77 255 ≡ 77 }
+    ensures clear { straight 0 0 ≡ 0 }
 {}
 
 /// A frame has blue first and alpha last.

@@ -1,11 +1,12 @@
 //! Laws of the formulas. Each is a function that does nothing, and its contract is the law.
 ghost use Rattle.std.specs.Prelude.{◌≡◌, ℕ, ◌<◌, ◌≤◌};
 ghost use Rattle.pixel_math.specs.Arithmetic.{fade, key, mix, over};
-ghost use Rattle.pixel_math.specs.Pixel.{IsPixel, PixelView, colour_pixel, colour_value, lowered, pixel_of, scaled, transparent};
+ghost use Rattle.pixel_math.specs.Pixel.{IsPixel, PixelView, colour_pixel, colour_value, lowered, multiplied, pixel_of, scaled, straight, transparent};
 
 /// What each formula gives is a pixel.
 pub fn results_are_pixels()
     ensures lowered { (b g r a : ℕ) → a < 256 → IsPixel (lowered b g r a) }
+    ensures multiplied { (b g r a : ℕ) → b < 256 → g < 256 → r < 256 → a < 256 → IsPixel (multiplied b g r a) }
     ensures colour { (value : ℕ) → IsPixel (colour_pixel value) }
     ensures over { (s d : PixelView) → IsPixel s → IsPixel d → IsPixel (over s d) }
     ensures fade { (p : PixelView) (opacity : ℕ) → opacity ≤ 1000000 → IsPixel p → IsPixel (fade p opacity) }
@@ -24,6 +25,12 @@ pub fn colour_by_alpha()
         → colour_pixel (colour_value a r g b) ≡ pixel_of (scaled b a) (scaled g a) (scaled r a) a }
     ensures opaque { (r g b : ℕ) → r < 256 → g < 256 → b < 256 → colour_pixel (colour_value 255 r g b) ≡ pixel_of b g r 255 }
     ensures clear { (r g b : ℕ) → r < 256 → g < 256 → b < 256 → colour_pixel (colour_value 0 r g b) ≡ transparent }
+{}
+
+/// The straight form of a colour byte is a byte, and gives the colour byte again if it is multiplied.
+pub fn multiplied_straight_byte()
+    ensures byte { (colour alpha : ℕ) → colour ≤ alpha → straight colour alpha < 256 }
+    ensures back { (colour alpha : ℕ) → colour ≤ alpha → alpha < 256 → scaled (straight colour alpha) alpha ≡ colour }
 {}
 
 /// A transparent pixel changes nothing, above another or below it.

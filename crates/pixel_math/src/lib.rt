@@ -12,4 +12,5 @@ pub mod laws;
 mod pixel;
 
 pub use arithmetic::{fade, key, mix, over};
+pub use byte::{scaled, straight};
 pub use pixel::Pixel;

@@ -1,6 +1,6 @@
 //! Pixels.
 ghost use Rattle.std.specs.Prelude.{◌≡◌};
-ghost use Rattle.pixel_math.specs.Pixel.{IsPixel, colour_pixel, lowered, pixel_bytes, pixel_of, transparent};
+ghost use Rattle.pixel_math.specs.Pixel.{IsPixel, colour_pixel, lowered, multiplied, pixel_bytes, pixel_of, transparent};
 
 use crate::byte::scaled;
 use std::marker::Model;
@@ -59,17 +59,24 @@ impl Pixel {
         }
     }
 
-    /// Makes the pixel of a colour `0xAARRGGBB`, whose red, green and blue are not yet multiplied by its alpha.
-    pub fn colour(value: u32) -> Pixel
-        ensures { result ≡ colour_pixel value }
+    /// Makes the pixel of these bytes, with each colour multiplied by the alpha.
+    pub fn multiplied(b: u8, g: u8, r: u8, a: u8) -> Pixel
+        ensures { result ≡ multiplied b g r a }
     {
-        let [a, r, g, b] = value.to_be_bytes();
         Pixel {
             b: scaled(b, a),
             g: scaled(g, a),
             r: scaled(r, a),
             a,
         }
+    }
+
+    /// Makes the pixel of a colour `0xAARRGGBB`, whose red, green and blue are not yet multiplied by its alpha.
+    pub fn colour(value: u32) -> Pixel
+        ensures { result ≡ colour_pixel value }
+    {
+        let [a, r, g, b] = value.to_be_bytes();
+        Pixel::multiplied(b, g, r, a)
     }
 
     /// Returns blue, green, red and alpha, the order of a frame's bytes.

@@ -2,7 +2,7 @@
 use Rattle.std.proofs.Common.{◌≡◌, ℕ, ◌+◌, ◌-◌, ◌*◌, ◌/◌, ◌%◌, ◌<◌, ◌≤◌, List, ◌++◌, length, take, drop, slice_index, refl, sym, ap, ◌∙◌, ⊎_elim, length-append, length-drop, length-take-le, arith}
 use Rattle.std.proofs.lemmas.Bool.{cases_lt}
 use Rattle.std.proofs.lemmas.List.{get_or_append_left, get_or-append_right, get_or-take, get_or-drop, get_or_past}
-use Rattle.clip_format.specs.Lowering.{IsLoweredAt}
+use Rattle.clip_format.specs.Preparing.{IsLoweredAt}
 use Rattle.play_scene.specs.Frames.{ArePixels}
 
 -- a pixel of which each byte stands in other bytes too

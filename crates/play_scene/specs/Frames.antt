@@ -5,7 +5,7 @@ use Rattle.play_types.specs.Config.{ChannelView}
 use Rattle.play_types.specs.Scene.{IsConfigured}
 use Rattle.play_types.specs.declared.geometry.Geometry.{Geometry}
 use Rattle.pixel_math.specs.Pixel.{PixelView}
-use Rattle.clip_format.specs.Lowering.{IsLoweredAt}
+use Rattle.clip_format.specs.Preparing.{IsLoweredAt}
 use Rattle.clip_format.specs.Table.{Entry}
 use Rattle.history_model.specs.pictures.Media.{no_size, pixel_of_bytes}
 use Rattle.history_model.specs.pictures.Raster.{Pictures}

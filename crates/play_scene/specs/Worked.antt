@@ -31,8 +31,8 @@ reds values = flat_map (λ value. 0 ∷ 0 ∷ value ∷ 255 ∷ []) values
 -- clip 0 has one frame of four columns, clip 1 has three frames of one pixel, and clip 2 is not readable
 abbrev pub media : List (Option ClipView)
 media =
-    Some (record { geometry = strip 4; frames = 1; bytes = reds (10 ∷ 20 ∷ 30 ∷ 40 ∷ []) })
-    ∷ Some (record { geometry = strip 1; frames = 3; bytes = reds (0 ∷ 80 ∷ 160 ∷ []) })
+    Some (record { version = 1; geometry = strip 4; frames = 1; bytes = reds (10 ∷ 20 ∷ 30 ∷ 40 ∷ []) })
+    ∷ Some (record { version = 1; geometry = strip 1; frames = 3; bytes = reds (0 ∷ 80 ∷ 160 ∷ []) })
     ∷ None
     ∷ []
 

@@ -30,7 +30,7 @@ abbrev pub tile_pictures : Pictures
 tile_pictures = record {
   setup = record {
     channels = strip 2 ∷ [];
-    clips = Some (record { geometry = raster 3 2; frames = 1; bytes = tile_bytes }) ∷ [];
+    clips = Some (record { version = 1; geometry = raster 3 2; frames = 1; bytes = tile_bytes }) ∷ [];
   };
   frames = λ channel x y. pixel_in frame_before x y;
 }

@@ -1,13 +1,15 @@
 //! Laws of the definitions in `specs/`, each the contract of a function that does nothing.
 ghost use Rattle.std.specs.Prelude.{◌≡◌, ◌∷◌, ◌++◌, ◌<◌, [], ℕ, List, length, map};
+ghost use Rattle.play_types.specs.ClipFile.{ClipView, IsClip};
 ghost use Rattle.play_types.specs.Config.{ChannelView};
 ghost use Rattle.play_types.specs.Scene.{IsConfigured};
 ghost use Rattle.play_types.specs.declared.event.Event.{Event};
 ghost use Rattle.play_types.specs.declared.event.Event.TheVariants.{Tick};
 ghost use Rattle.pixel_math.specs.Pixel.{PixelView};
+ghost use Rattle.clip_format.specs.Preparing.{AreBytes, prepared_clip, straight_clip};
 ghost use Rattle.clip_format.specs.Table.{Entry};
 ghost use Rattle.history_model.specs.pictures.Frame.{frame_pixel, pictures_after, scene_pixel};
-ghost use Rattle.history_model.specs.pictures.Media.{Setup};
+ghost use Rattle.history_model.specs.pictures.Media.{Setup, clip_pixel};
 ghost use Rattle.history_model.specs.pictures.Raster.{Pictures};
 ghost use Rattle.history_model.specs.pictures.Scene.{scene};
 ghost use Rattle.play_scene.specs.Frames.{ArePictures, FrameView, IsFrame, Shows, frame_at, pictures_of, pixel_in, with_picture, zero_frame};
@@ -21,6 +23,16 @@ pub fn pixels_of_histories()
         ArePictures (pictures_after setup history) frames entries → IsConfigured (length frames) channel →
         scene_pixel (pictures_after setup history) (frame_at channel frames).size (scene history channel) x y
         ≡ frame_pixel setup history channel x y }
+{}
+
+/// A clip that was prepared, and one that was made straight, show each pixel that the clip shows.
+pub fn pixels_of_prepared_clips()
+    ensures prepared { (clip : ClipView) (frame column row : ℕ) → IsClip clip → AreBytes clip.bytes →
+        column < clip.geometry.width → row < clip.geometry.height →
+        clip_pixel (prepared_clip clip) frame column row ≡ clip_pixel clip frame column row }
+    ensures straight { (clip : ClipView) (frame column row : ℕ) → IsClip clip → AreBytes clip.bytes →
+        column < clip.geometry.width → row < clip.geometry.height →
+        clip_pixel (straight_clip clip) frame column row ≡ clip_pixel clip frame column row }
 {}
 
 /// If the frames of the tick before give the pictures after a history, a frame into which the picture of the channel's scene

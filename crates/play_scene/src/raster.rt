@@ -1,5 +1,6 @@
 //! Pixels of clips and frames, and the columns and rows of a raster.
 ghost use Rattle.std.specs.Prelude.{◌≡◌, ◌*◌, ◌<◌, ◌^◌, slice_index};
+ghost use Rattle.play_types.specs.declared.clip.TheConstants.{MULTIPLIED};
 ghost use Rattle.history_model.specs.pictures.Media.{clip_pixel, pixel_of_bytes};
 ghost use Rattle.history_model.specs.pictures.Raster.{scaled_to};
 
@@ -16,8 +17,9 @@ pub(crate) fn scaled_to(columns: u16, width: u16, x: u16) -> u64
     (2 * u64::from(x) + 1) * u64::from(columns) / (2 * u64::from(width))
 }
 
-/// Returns the pixel of a clip at a frame, column and row: transparent if it has no such frame.
+/// Returns the pixel of a clip of version 1 at a frame, column and row: transparent if it has no such frame.
 pub(crate) fn clip_pixel(clip: &Clip, frame: u64, column: u64, row: u64) -> Pixel
+    requires version { clip.now.version ≡ MULTIPLIED }
     requires columns { column < 2 ^ 33 }
     requires rows { row < 2 ^ 33 }
     ensures { result ≡ clip_pixel clip.now frame column row }

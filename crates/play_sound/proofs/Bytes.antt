@@ -1,7 +1,8 @@
 -- The bytes of a sound, pair by pair.
-use Rattle.std.proofs.Common.{◌≡◌, ℕ, zero, suc, ◌+◌, ◌*◌, ◌<◌, List, [], ◌∷◌, ◌++◌, length, drop, refl, sym, ap, ap₂, ◌∙◌, add-one, append_assoc, append-nil, arith, length-append}
+use Rattle.std.proofs.Common.{◌≡◌, ℕ, zero, suc, ◌+◌, ◌*◌, ◌<◌, List, [], ◌∷◌, ◌++◌, length, take, drop, refl, sym, ap, ap₂, ◌∙◌, add-one, append_assoc, append-nil, arith, length-append}
 use Rattle.std.specs.Prelude.{flat_map, ℤ, pos, negsuc}
 use Rattle.std.specs.List.{range_with_len}
+use borrow.Rule.Slice.PartMut.{put_mid}
 use Rattle.std.proofs.lemmas.Grind.{flat_map-append}
 use Rattle.std.proofs.lemmas.List.{take_at, drop_all, drop_at, drop-drop}
 use Rattle.history_model.specs.scripts.Output.{sample_bytes}
@@ -81,14 +82,49 @@ bytes-all sample n out whole =
     ∙ append-nil (bytes_of_samples n sample)
 
 -- equal samples have equal bytes
-same_pieces : (f g : ℕ → ℕ → ℤ) → ((pair side : ℕ) → side < 2 → f pair side ≡ g pair side) → (pairs : List ℕ) →
-    flat_map (pair_bytes f) pairs ≡ flat_map (pair_bytes g) pairs
-same_pieces f g same [] = refl
-same_pieces f g same (pair ∷ pairs) =
+same_range : (f g : ℕ → ℕ → ℤ) (first count : ℕ) → ((pair side : ℕ) → pair < first + count → side < 2 → f pair side ≡ g pair side) →
+    flat_map (pair_bytes f) (range_with_len first count) ≡ flat_map (pair_bytes g) (range_with_len first count)
+same_range f g first zero same = refl
+same_range f g first (suc count) same =
     ap₂ (λ (xs ys : List ℕ). xs ++ ys)
-    (ap₂ (λ (a b : ℤ). flat_map sample_bytes (a ∷ b ∷ [])) (same pair 0 (omega arith)) (same pair 1 (omega arith)))
-    (same_pieces f g same pairs)
+    (ap₂ (λ (a b : ℤ). flat_map sample_bytes (a ∷ b ∷ [])) (same first 0 (omega arith) (omega arith)) (same first 1 (omega arith) (omega arith)))
+    (same_range f g (first + 1) count (λ pair side below small. same pair side (omega (arith, below)) small))
+
+pub same_bytes_below : (f g : ℕ → ℕ → ℤ) (n : ℕ) → ((pair side : ℕ) → pair < n → side < 2 → f pair side ≡ g pair side) →
+    bytes_of_samples n f ≡ bytes_of_samples n g
+same_bytes_below f g n same = same_range f g 0 n (λ pair side below small. same pair side (omega (arith, below)) small)
 
 pub same_bytes : (f g : ℕ → ℕ → ℤ) (n : ℕ) → ((pair side : ℕ) → side < 2 → f pair side ≡ g pair side) →
     bytes_of_samples n f ≡ bytes_of_samples n g
-same_bytes f g n same = same_pieces f g same (range_with_len 0 n)
+same_bytes f g n same = same_bytes_below f g n (λ pair side below small. same pair side small)
+
+-- a part of the bytes that is written
+pub put_part : (at count : ℕ) (bytes piece : List ℕ) → length piece ≡ count → put_mid at count bytes piece ≡ with_piece at piece bytes
+put_part at count bytes piece long =
+    ap (λ (l : List ℕ). take at bytes ++ (piece ++ l)) (drop-drop count at bytes ∙ ap (λ (n : ℕ). drop (at + n) bytes) (sym long))
+
+-- a row of pairs behind those before it
+pub row_behind : (sample : ℕ → ℕ → ℤ) (first count : ℕ) →
+    bytes_of_samples first sample ++ bytes_of_samples count (λ pair side. sample (first + pair) side) ≡ bytes_of_samples (first + count) sample
+row_behind sample first zero = append-nil (bytes_of_samples first sample) ∙ ap (λ (n : ℕ). bytes_of_samples n sample) (omega arith)
+row_behind sample first (suc count) =
+    let shifted : ℕ → ℕ → ℤ = λ pair side. sample (first + pair) side in
+    let done = bytes_of_samples first sample in
+    ap (λ (n : ℕ). done ++ bytes_of_samples n shifted) (sym (add-one count))
+    ∙ ap (λ (l : List ℕ). done ++ l) (bytes-more shifted count)
+    ∙ sym (append_assoc done (bytes_of_samples count shifted) (pair_bytes shifted count))
+    ∙ ap (λ (l : List ℕ). l ++ pair_bytes sample (first + count)) (row_behind sample first count)
+    ∙ sym (bytes-more sample (first + count))
+    ∙ ap (λ (n : ℕ). bytes_of_samples n sample) (omega arith)
+
+pub row_put : (sample : ℕ → ℕ → ℤ) (first count : ℕ) (out row : List ℕ) → row ≡ bytes_of_samples count (λ pair side. sample (first + pair) side) →
+    with_piece (4 * first) row (bytes_of_samples first sample ++ drop (4 * first) out) ≡ bytes_of_samples (first + count) sample ++ drop (4 * (first + count)) out
+row_put sample first count out row is =
+    let shifted : ℕ → ℕ → ℤ = λ pair side. sample (first + pair) side in
+    let done = bytes_of_samples first sample in
+    let long : length row ≡ 4 * count = ap length is ∙ length-bytes shifted count in
+    let places : 4 * first + length row ≡ 4 * (first + count) = omega (arith, long) in
+    put_behind done (drop (4 * first) out) row (4 * first) (length-bytes sample first)
+    ∙ ap₂ (λ (xs ys : List ℕ). xs ++ ys)
+    (ap (λ (l : List ℕ). done ++ l) is ∙ row_behind sample first count)
+    (drop-drop (length row) (4 * first) out ∙ ap (λ (k : ℕ). drop k out) places)

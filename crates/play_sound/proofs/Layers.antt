@@ -1,12 +1,14 @@
 -- The samples of layers: their volumes, and their sums.
-use Rattle.std.proofs.Common.{◌≡◌, ℕ, ◌+◌, ◌*◌, ◌<◌, List, [], ◌∷◌, ◌++◌, sym, subst, ap, ◌∙◌, arith}
+use Rattle.std.proofs.Common.{◌≡◌, ℕ, ◌+◌, ◌*◌, ◌<◌, ◌≤◌, Bool, true, false, List, [], ◌∷◌, ◌++◌, sym, subst, ap, ◌∙◌, arith}
 use Rattle.std.specs.Prelude.{ℤ, pos, negsuc, ◌+ℤ◌, ◌*ℤ◌, ◌≤ℤ◌, int_div, FitsSigned}
 use Rattle.std.specs.Int.{w64}
+use Rattle.std.proofs.lemmas.Bool.{le-ltb, lt-ltb}
 use Rattle.std.proofs.lemmas.Int.{ints, to_z-of_z}
 use Rattle.play_types.specs.declared.drawn.Drawn.{Drawn}
 use Rattle.play_types.specs.declared.drawn.Still.{Still}
-use Rattle.history_model.specs.pictures.Sound.{layer_sample, sample_sum}
+use Rattle.history_model.specs.pictures.Sound.{layer_sample, mixed_sample, sample_sum}
 use Rattle.play_sound.specs.inner.Ranges.{IsNear}
+use Rattle.play_sound.specs.inner.Rows.{at_volume}
 use Rattle.play_sound.proofs.Near.{near_fits, near_product, near_quotient, near_sum}
 use Rattle.play_sound.proofs.Mean.{kept, kept_product, product_is}
 
@@ -31,6 +33,9 @@ t_fits t near = near_fits t 32768 (omega arith) near
 
 v_fits : (v : ℤ) → pos 0 ≤ℤ v → v ≤ℤ pos 1000000000 → FitsSigned w64 v
 v_fits v h k = near_fits v 1000000000 (omega arith) (near_volume v h k)
+
+pub volume_is : (v : ℤ) → pos 0 ≤ℤ v → v ≤ℤ pos 1000000000 → kept v ≡ v
+volume_is v h k = to_z-of_z w64 v (v_fits v h k)
 
 pub product_fits : (t v : ℤ) → IsNear 32768 t → pos 0 ≤ℤ v → v ≤ℤ pos 1000000000 → FitsSigned w64 (kept t *ℤ kept v)
 product_fits t v near h k =
@@ -61,16 +66,24 @@ sum_more f (first ∷ layers) layer =
     ap (λ (rest : ℤ). layer_sample f first +ℤ rest) (sum_more f layers layer)
     ∙ regrouped (layer_sample f first) (sample_sum f layers) (layer_sample f layer)
 
--- the sum of the code, which has few layers
+-- sums of samples that are near
 pub near_total : (s t : ℤ) (n : ℕ) → IsNear (32768000 * n) s → IsNear 32768000 t → IsNear (32768000 * (n + 1)) (s +ℤ t)
 near_total s t n near here =
     let sum = near_sum s t (32768000 * n) 32768000 near here in
     omega (arith, sum)
 
-sum_fits : (s t : ℤ) (n : ℕ) → n < 64 → IsNear (32768000 * n) s → IsNear 32768000 t → FitsSigned w64 (s +ℤ t)
-sum_fits s t n few near here = near_fits (s +ℤ t) (32768000 * (n + 1)) (omega arith) (near_total s t n near here)
+-- a layer's sample while its transition runs, and once it is over
+abbrev before_volume : (f : Still → ℤ) (layer : Drawn) → Bool → ℤ
+before_volume f layer runs = elim runs [
+  | true ↦ mixed_sample (f layer.old) (f layer.still) layer.step layer.trans.duration
+  | false ↦ f layer.still
+]
 
-pub total_is : (s t : ℤ) (n : ℕ) → n < 64 → IsNear (32768000 * n) s → IsNear 32768000 t → kept (s +ℤ kept t) ≡ s +ℤ t
-total_is s t n few near here =
-    (λ i. kept (s +ℤ to_z-of_z w64 t (near_fits t 32768000 (omega arith) here) i))
-    ∙ to_z-of_z w64 (s +ℤ t) (sum_fits s t n few near here)
+pub sample_over : (f : Still → ℤ) (layer : Drawn) → layer.trans.duration ≤ layer.step → layer_sample f layer ≡ at_volume (f layer.still) layer.volume
+sample_over f layer over =
+    ap (λ (b : Bool). at_volume (before_volume f layer b) layer.volume) (le-ltb layer.step layer.trans.duration over)
+
+pub sample_running : (f : Still → ℤ) (layer : Drawn) → layer.step < layer.trans.duration →
+    layer_sample f layer ≡ at_volume (mixed_sample (f layer.old) (f layer.still) layer.step layer.trans.duration) layer.volume
+sample_running f layer runs =
+    ap (λ (b : Bool). at_volume (before_volume f layer b) layer.volume) (lt-ltb layer.step layer.trans.duration runs)

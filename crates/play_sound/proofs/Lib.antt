@@ -1,6 +1,9 @@
 pub mod Near
 pub mod Mean
 pub mod Layers
+pub mod Silence
+pub mod Adding
+pub mod Rows
 pub mod Stills
 pub mod Bytes
 pub mod Reading

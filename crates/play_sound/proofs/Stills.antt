@@ -1,7 +1,7 @@
 -- The clips of a media table and the frames of the tick before, as the sounds that stills give.
-use Rattle.std.proofs.Common.{◌≡◌, ℕ, zero, suc, ◌-◌, ◌<◌, ◌≤◌, Bool, true, false, List, [], ◌∷◌, length, map, get_or, slice_get, unwrap_or, Option, None, refl, sym, ap, ap₂, ◌∙◌, arith, ltb}
+use Rattle.std.proofs.Common.{◌≡◌, ℕ, zero, suc, ◌+◌, ◌*◌, ◌-◌, ◌<◌, ◌≤◌, Bool, true, false, List, [], ◌∷◌, length, map, get_or, slice_get, unwrap_or, Option, None, refl, sym, ap, ap₂, ◌∙◌, arith, inl, inr, ltb}
 use Rattle.std.specs.Prelude.{All, ℤ, pos, ◌+ℤ◌, ◌*ℤ◌, int_div}
-use Rattle.std.proofs.lemmas.Bool.{lt-ltb, ltb-true}
+use Rattle.std.proofs.lemmas.Bool.{cases_lt, le-ltb, lt-ltb, ltb-true}
 use Rattle.std.proofs.lemmas.List.Elements.{All-head, All-tail}
 use Rattle.play_types.specs.ClipFile.{ClipView}
 use Rattle.play_types.specs.declared.geometry.Geometry.{Geometry}
@@ -11,11 +11,12 @@ use Rattle.play_types.specs.declared.drawn.Still.{Still}
 use Rattle.play_types.specs.declared.drawn.Still.TheVariants.{Nothing, Colour, Frame, Channel}
 use Rattle.play_types.specs.Scene.{NamesConfigured, ShowsConfigured}
 use Rattle.clip_format.specs.Table.{Entry}
-use Rattle.history_model.specs.pictures.Media.{no_size, size}
+use Rattle.history_model.specs.pictures.Media.{no_size, sample_of_bytes, size}
 use Rattle.history_model.specs.pictures.Sound.{held_to_sample, layer_sample, mixed_sample, played_sample, sample_sum, still_sample}
 use Rattle.play_scene.specs.Frames.{FrameView, frame_at, no_frame}
 use Rattle.play_sound.specs.Sounds.{AreSounds, Sounds, sample_in, sounds_of}
 use Rattle.play_sound.specs.Sounds.{mixed_sample as mixed_at}
+use Rattle.play_sound.proofs.Silence.{silent_past}
 
 -- the size of a channel is that of its frame
 size_of_list : (frames : List FrameView) (n : ℕ) →
@@ -52,6 +53,29 @@ channel_sample frames entries channel pair side one below =
     let sized = ap (λ (g : Geometry). ltb pair g.pairs) (size_at frames (sounds_of frames entries).setup.clips channel one) in
     given (ltb pair (size (sounds_of frames entries).setup channel).pairs) (sample_in (frame_at channel frames) pair side)
     (sized ∙ lt-ltb pair (frame_at channel frames).size.pairs below)
+
+-- the samples of a channel's sound at the tick before
+not_given : (b : Bool) (one : ℤ) → b ≡ false → if_given b one ≡ pos 0
+not_given true one is = absurd (cc)
+not_given false one is = refl
+
+pub channel_sounds : (frames : List FrameView) (entries : List Entry) (channel : ℕ) → 1 ≤ channel →
+    length (frame_at channel frames).sound ≡ 4 * (frame_at channel frames).size.pairs → (pair side : ℕ) → side < 2 →
+    sample_of_bytes (frame_at channel frames).sound (4 * pair + 2 * side)
+    ≡ still_sample (sounds_of frames entries).setup (sounds_of frames entries).samples pair side (Channel channel)
+channel_sounds frames entries channel one long pair side small =
+    elim (cases_lt pair (frame_at channel frames).size.pairs) [
+      | inl below ↦ sym (channel_sample frames entries channel pair side one below)
+      | inr past ↦ beyond past
+    ]
+  where
+    beyond : (frame_at channel frames).size.pairs ≤ pair → sample_of_bytes (frame_at channel frames).sound (4 * pair + 2 * side)
+        ≡ still_sample (sounds_of frames entries).setup (sounds_of frames entries).samples pair side (Channel channel)
+    beyond past =
+        let sized = ap (λ (g : Geometry). ltb pair g.pairs) (size_at frames (sounds_of frames entries).setup.clips channel one) in
+        silent_past (frame_at channel frames).sound (4 * pair + 2 * side) (omega (arith, long, past))
+        ∙ sym (not_given (ltb pair (size (sounds_of frames entries).setup channel).pairs) (sample_in (frame_at channel frames) pair side)
+        (sized ∙ le-ltb pair (frame_at channel frames).size.pairs past))
 
 -- sounds of these frames and clips give the samples of the frames
 size-sounds : (sounds : Sounds) (frames : List FrameView) (entries : List Entry) (channel : ℕ) → AreSounds sounds frames entries → 1 ≤ channel →

@@ -24,6 +24,7 @@ sounds = record {
   setup = record {
     channels = frame_before.size ∷ [];
     clips = Some (record {
+      version = 1;
       geometry = record { width = 1; height = 1; pairs = 2 };
       frames = 1;
       bytes = 0 ∷ 0 ∷ 0 ∷ 0xFF ∷ 0xE8 ∷ 0x03 ∷ 0x18 ∷ 0xFC ∷ 0xFF ∷ 0x7F ∷ 0x00 ∷ 0x80 ∷ [];

@@ -9,5 +9,7 @@ pub mod examples;
 pub mod laws;
 mod mix;
 mod sample;
+mod sound;
+mod sums;
 
 pub use mix::mix_sound;

@@ -1,18 +1,23 @@
 //! The sound of a scene.
-ghost use Rattle.std.specs.Prelude.{◌≡◌, ◌*◌, ◌+◌, ◌<◌, ◌≤◌, ◌∷◌, [], All, length};
+ghost use Rattle.std.specs.Prelude.{◌≡◌, ◌*◌, ◌+◌, ◌/◌, ◌%◌, ◌<◌, ◌≤◌, ◌∷◌, [], All, length};
 ghost use Rattle.play_types.specs.Scene.{NamesConfigured};
 ghost use Rattle.play_types.specs.Setting.{AreValues};
 ghost use Rattle.play_types.specs.declared.setting.Prop.TheVariants.{Volume};
-ghost use Rattle.history_model.specs.pictures.Sound.{layer_sample, mixed_sample as mixed_samples, still_sample, transition_sample};
-ghost use Rattle.history_model.specs.scripts.Output.{sample_bytes};
-ghost use Rattle.play_scene.specs.Frames.{with_piece};
+ghost use Rattle.history_model.specs.pictures.Sound.{layer_sample};
 ghost use Rattle.play_sound.specs.Sounds.{AreSounds, Sounds, bytes_of_samples, mixed_sample, sounds_of};
-ghost use Rattle.play_sound.specs.inner.Ranges.{IsNear};
+ghost use Rattle.play_sound.specs.inner.Rows.{AreAdded, AreSums, still_at};
 
-use crate::sample::still_sample;
+use crate::sound::still_sound;
+use crate::sums::{add_mixed, add_samples, write_samples};
 use clip_format::MediaTable;
 use play_scene::Frames;
-use play_types::{Drawn, Geometry, MICROS_PER_UNIT, Scene};
+use play_types::{Drawn, Geometry, Scene};
+
+/// How many pairs are mixed at a time.
+const ROW_PAIRS: usize = 64;
+
+/// How many samples they have.
+const ROW_SAMPLES: usize = 2 * ROW_PAIRS;
 
 /// Writes the sound of a frame of this size that shows a scene, by the sounds of the tick before and the clips: its stereo
 /// pairs, left and right, each an `i16` in little-endian.
@@ -27,71 +32,47 @@ pub fn mix_sound(scene: &Scene, size: Geometry, prev: &Frames, media: &MediaTabl
     ensures { (sounds : Sounds) → AreSounds sounds prev.now media.now →
         out.new ≡ bytes_of_samples size.pairs (mixed_sample sounds scene.now) }
 {
-    for pair in 0..size.pairs {
-        let at = 4 * usize::from(pair);
-        put_sample(out, at, mixed_sample(scene, prev, media, pair, 0));
-        put_sample(out, at + 2, mixed_sample(scene, prev, media, pair, 1));
+    let pairs = usize::from(size.pairs);
+    let mut first = 0;
+    'rows: while first < pairs {
+        let end = (first + ROW_PAIRS).min(pairs);
+        mix_row(scene, prev, media, first, &mut out[4 * first..4 * end]);
+        first = end;
     }
 }
 
-/// Writes the two bytes of a sample from byte `at` on.
-fn put_sample(out: &mut [u8], at: usize, sample: i16)
-    requires { at + 2 ≤ length out.old }
-    ensures { out.new ≡ with_piece at (sample_bytes sample) out.old }
-{
-    out[at..at + 2].copy_from_slice(&sample.to_le_bytes());
-}
-
-/// Returns the sample of a scene at a pair, side 0 left and 1 right.
-fn mixed_sample(scene: &Scene, prev: &Frames, media: &MediaTable, pair: u16, side: u8) -> i16
-    requires side { side < 2 }
+/// Writes the pairs of the sound of a scene from pair `first` on: as many as the row has room for, at most 64. It goes over
+/// the layers once.
+fn mix_row(scene: &Scene, prev: &Frames, media: &MediaTable, first: usize, row: &mut [u8])
+    requires first { first < 65536 }
+    requires whole { length row.old % 4 ≡ 0 }
+    requires few { length row.old ≤ 2 * ROW_SAMPLES }
     requires names { All (NamesConfigured (length prev.now)) scene.now }
-    ensures { result ≡ mixed_sample (sounds_of prev.now media.now) scene.now pair side }
+    ensures { row.new ≡ bytes_of_samples (length row.old / 4)
+        (λ pair side. mixed_sample (sounds_of prev.now media.now) scene.now (first + pair) side) }
 {
-    let mut sum: i64 = 0;
+    let mut sums = [0; ROW_SAMPLES];
     for drawn in scene.drawn() {
-        sum += layer_sample(drawn, prev, media, pair, side);
+        add_layer(drawn, prev, media, first, &mut sums);
     }
-    sum.clamp(i64::from(i16::MIN), i64::from(i16::MAX)) as i16
+    write_samples(&sums, row);
 }
 
-/// Returns the sample of a layer at a pair and a side, by its volume.
-fn layer_sample(drawn: &Drawn, prev: &Frames, media: &MediaTable, pair: u16, side: u8) -> i64
-    requires side { side < 2 }
+/// Adds the samples of a layer from pair `first` on to sums, place by place: those of its still, or during a transition the
+/// means of both stills, at its volume.
+fn add_layer(drawn: &Drawn, prev: &Frames, media: &MediaTable, first: usize, sums: &mut [i64])
+    requires first { first < 65536 }
     requires names { NamesConfigured (length prev.now) drawn.now }
     requires volume { AreValues Volume (drawn.now.volume ∷ []) }
-    ensures value { result
-        ≡ layer_sample (still_sample (sounds_of prev.now media.now).setup (sounds_of prev.now media.now).samples pair side) drawn.now }
-    ensures near { IsNear 32768000 result }
+    requires sums { AreSums 63 sums.old }
+    ensures { AreAdded (λ i. layer_sample (still_at (sounds_of prev.now media.now) first i) drawn.now) sums.old sums.new }
 {
-    transition_sample(drawn, prev, media, pair, side) * drawn.volume / MICROS_PER_UNIT
-}
-
-/// Returns the sample of a layer at a pair and a side before its volume: that of its still, or during a transition the mean
-/// of both stills.
-fn transition_sample(drawn: &Drawn, prev: &Frames, media: &MediaTable, pair: u16, side: u8) -> i64
-    requires side { side < 2 }
-    requires names { NamesConfigured (length prev.now) drawn.now }
-    ensures value { result
-        ≡ transition_sample (still_sample (sounds_of prev.now media.now).setup (sounds_of prev.now media.now).samples pair side) drawn.now }
-    ensures near { IsNear 32768 result }
-{
-    let new = i64::from(still_sample(drawn.still, prev, media, pair, side));
+    let new = still_sound(drawn.still, prev, media, first);
     let duration = drawn.trans.duration();
     if drawn.step >= duration {
-        return new;
+        add_samples(new, drawn.volume, sums);
+        return;
     }
-    let old = i64::from(still_sample(drawn.old, prev, media, pair, side));
-    mean(old, new, drawn.step, duration)
-}
-
-/// Returns the mean of an old and a new sample at step `j` of `d`, the quotient taken toward zero.
-fn mean(old: i64, new: i64, j: u32, d: u32) -> i64
-    requires old { IsNear 32768 old }
-    requires new { IsNear 32768 new }
-    requires step { j < d }
-    ensures value { result ≡ mixed_samples old new j d }
-    ensures near { IsNear 32768 result }
-{
-    (old * i64::from(d - j) + new * i64::from(j)) / i64::from(d)
+    let old = still_sound(drawn.old, prev, media, first);
+    add_mixed(old, new, drawn.step, duration, drawn.volume, sums);
 }

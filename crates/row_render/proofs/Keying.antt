@@ -44,7 +44,7 @@ composed-keyer placed layer below e =
     sym (ap (λ (k : Bool). if k then under else over (keyed_pixel placed below (placed layer)) under) e)
 
 -- a transparent pixel stays transparent whatever keys it
-key-nothing : (k : ℕ) → key transparent k ≡ transparent
+pub key-nothing : (k : ℕ) → key transparent k ≡ transparent
 key-nothing k =
     let none : scaled 0 k ≡ 0 = (let no : 0 * k ≡ 0 = omega arith in ap (λ (n : ℕ). (n + 127) / 255) no) in
     same_pixel _ _ none none none none
@@ -61,7 +61,7 @@ keyed-nothing placed (next ∷ below) = by next.keyer
 under-nothing : (byte : ℕ) → over_byte 0 byte 0 ≡ byte
 under-nothing byte = omega arith
 
-over_transparent : (p : PixelView) → over transparent p ≡ p
+pub over_transparent : (p : PixelView) → over transparent p ≡ p
 over_transparent p = same_pixel _ _ (under-nothing p.b) (under-nothing p.g) (under-nothing p.r) (under-nothing p.a)
 
 -- a layer that shows nothing leaves the pixel below
@@ -102,19 +102,18 @@ written : (width : ℕ) (pixel : ℕ → PixelView) (row : List ℕ) → IsRow w
 written width pixel row is = record { nothing = λ e x. cc; shown = λ e. is }
 
 -- the row of one more layer over the rows below
-pub layer_over : (placed : ℕ → Drawn → PixelView) (width : ℕ) (layer : Drawn) (below : List Drawn) (keyed : Bool) (keys own upper old new : List ℕ) →
+pub layer_over : (placed : ℕ → Drawn → PixelView) (width : ℕ) (layer : Drawn) (below : List Drawn) (keyed : Bool) (keys own old new : List ℕ) →
     layer.keyer ≡ false → Keys placed width below keyed keys →
     IsRow width (λ x. placed x layer) own →
-    IsRow (width_of own) (λ x. keyed_pixel_by keyed (pixel_at own x) (pixel_at keys x)) upper →
     IsRow width (λ x. composed_pixel (placed x) below) old →
-    IsRow (width_of old) (λ x. over (pixel_at upper x) (pixel_at old x)) new →
+    IsRow (width_of old) (λ x. over (keyed_pixel_by keyed (pixel_at own x) (pixel_at keys x)) (pixel_at old x)) new →
     IsLaid false width (λ x. composed_pixel (placed x) (layer ∷ below)) new
-layer_over placed width layer below keyed keys own upper old new shown h made keying under laid = written width _ new (record {
+layer_over placed width layer below keyed keys own old new shown h made under laid = written width _ new (record {
   len = omega (arith, laid.len, under.len);
   pixels = λ x lt.
       laid.pixels x (omega (arith, lt, under.len))
       ∙ ap₂ over
-      (keying.pixels x (omega (arith, lt, made.len)) ∙ ap (λ (p : PixelView). keyed_pixel_by keyed p (pixel_at keys x)) (made.pixels x lt)
+      (ap (λ (p : PixelView). keyed_pixel_by keyed p (pixel_at keys x)) (made.pixels x lt)
       ∙ keyed-pixel placed width below keyed keys x (placed x layer) h lt)
       (under.pixels x lt)
       ∙ composed-more (placed x) layer below shown;

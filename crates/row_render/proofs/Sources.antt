@@ -6,7 +6,7 @@ use Rattle.play_types.specs.ClipFile.{ClipView, IsClip}
 use Rattle.play_types.specs.Geometry.{frame_bytes}
 use Rattle.pixel_math.specs.Pixel.{pixel_of}
 use Rattle.pixel_math.proofs.Pixels.{same_pixel}
-use Rattle.clip_format.specs.Lowering.{IsLoweredAt, IsLowered as IsLoweredClip}
+use Rattle.clip_format.specs.Preparing.{IsLoweredAt, IsLowered as IsLoweredClip}
 use Rattle.history_model.specs.pictures.Media.{pixel_of_bytes}
 use Rattle.history_model.specs.pictures.Raster.{scaled_to}
 use Rattle.lane_blend.specs.Rows.{IsLowered, IsRow, pixel_at, width_of}

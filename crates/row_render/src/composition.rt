@@ -1,5 +1,5 @@
 //! The rows of layers over one another.
-ghost use Rattle.std.specs.Prelude.{◌≡◌, ◌∷◌, ℕ, ◌*◌, ◌%◌, ◌<◌, false, List, length, All};
+ghost use Rattle.std.specs.Prelude.{◌≡◌, ◌∷◌, ℕ, ◌*◌, ◌%◌, ◌<◌, ◌≤◌, ◌⊎◌, false, List, length, All};
 ghost use Rattle.play_types.specs.Scene.{IsDrawn, NamesConfigured};
 ghost use Rattle.play_types.specs.declared.drawn.Drawn.{Drawn as DrawnView};
 ghost use Rattle.history_model.specs.pictures.Frame.{composed_pixel, layer_pixel, scene_pixel};
@@ -7,14 +7,15 @@ ghost use Rattle.history_model.specs.pictures.Raster.{Pictures};
 ghost use Rattle.play_scene.specs.Frames.{ArePictures};
 ghost use Rattle.lane_blend.specs.Rows.{AreLowered, IsRow, pixel_at, width_of};
 ghost use Rattle.row_render.specs.inner.Keying.{IsLaid, Keys, keyed_pixel_by};
-ghost use Rattle.pixel_math.specs.Pixel.{PixelView};
+ghost use Rattle.pixel_math.specs.Pixel.{PixelView, transparent};
+ghost use Rattle.pixel_math.specs.Arithmetic.{over};
 
 use crate::covering::hidden_layers;
 use crate::kept::Kept;
 use crate::layer::{layer_row, shows_nothing};
-use crate::scaling::fill_row;
+use crate::placing::shown_columns;
 use crate::view::View;
-use lane_blend::{key_row, over_row};
+use lane_blend::{fill_row, key_row, over_row};
 use pixel_math::Pixel;
 use play_types::{Drawn, Scene};
 
@@ -128,9 +129,29 @@ fn lay_layer(
         return false;
     }
     layer_row(view, layer, upper, rest, kept);
-    key_by(upper, keys, below.keyed);
-    over_row(upper, row);
+    let (from, to) = shown_columns(layer, view.size.width);
+    lay_columns(from, to, upper, keys, below.keyed, row);
     false
+}
+
+/// Lays the columns from `from` up to before `to` of the row `upper` over those of a row, keyed by the row of keys if it is
+/// keyed. If the other columns of `upper` are transparent, all of it is laid so.
+fn lay_columns(from: u16, to: u16, upper: &mut [u8], keys: &[u8], keyed: bool, row: &mut [u8])
+    requires order { from ≤ to }
+    requires inside { 4 * to ≤ length row.old }
+    requires upper { length upper.old ≡ length row.old }
+    requires keys { length keys.now ≡ length row.old }
+    requires whole { length row.old % 4 ≡ 0 }
+    requires lowered_upper { AreLowered upper.old }
+    requires lowered_row { AreLowered row.old }
+    ensures row { ((x : ℕ) → x < width_of row.old → (x < from) ⊎ (to ≤ x) → pixel_at upper.old x ≡ transparent) →
+        IsRow (width_of row.old) (λ x. over (keyed_pixel_by keyed (pixel_at upper.old x) (pixel_at keys.now x)) (pixel_at row.old x)) row.new }
+    ensures lowered { AreLowered row.new }
+{
+    let from = 4 * usize::from(from);
+    let to = 4 * usize::from(to);
+    key_by(&mut upper[from..to], &keys[from..to], keyed);
+    over_row(&upper[from..to], &mut row[from..to]);
 }
 
 /// Keys a row by the red of a row of keys if it is keyed.

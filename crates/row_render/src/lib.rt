@@ -14,6 +14,7 @@ mod placing;
 mod raster;
 mod rendering;
 mod room;
+mod scaled;
 mod scaling;
 mod shown;
 mod source;

@@ -1,5 +1,5 @@
 //! Where the row of a raster lies in the row of the frame.
-ghost use Rattle.std.specs.Prelude.{◌≡◌, ℕ, ◌+◌, ◌*◌, ◌/◌, ◌<◌, ◌≤◌, ◌⊎◌, ◌^◌, pos, ◌<ℤ◌, Some, true, length};
+ghost use Rattle.std.specs.Prelude.{◌≡◌, ℕ, ◌+◌, ◌*◌, ◌/◌, ◌<◌, ◌≤◌, ◌⊎◌, ◌^◌, pos, ◌<ℤ◌, None, Some, true, length};
 ghost use Rattle.play_types.specs.Scene.{IsDrawn};
 ghost use Rattle.play_types.specs.Setting.{number_at};
 ghost use Rattle.history_model.specs.pictures.Placing.{visible_column};
@@ -7,8 +7,9 @@ ghost use Rattle.lane_blend.specs.Rows.{AreLowered, IsRow, pixel_at, width_of};
 ghost use Rattle.row_render.specs.inner.Rasters.{placed_at};
 
 use crate::columns::{clear_pixel, copy_pixel};
-use crate::scaling::{fill_row, gather_row};
+use crate::scaling::gather_row;
 use crate::shown::{ShownRun, shown_run};
+use lane_blend::fill_row;
 use pixel_math::Pixel;
 use play_scene::visible_column;
 use play_types::{Drawn, MICROS_PER_UNIT};
@@ -27,6 +28,24 @@ pub(crate) fn keeps_rows(layer: &Drawn) -> bool
 {
     let whole = (0, MICROS_PER_UNIT);
     (layer.fill[1], layer.fill[3]) == whole && (layer.clip[1], layer.clip[3]) == whole
+}
+
+/// Returns columns of a frame of `width` columns outside of which a layer shows nothing: from the first number up to before the
+/// second.
+pub(crate) fn shown_columns(layer: &Drawn, width: u16) -> (u16, u16)
+    requires range { IsDrawn layer.now }
+    ensures order { result.0 ≤ result.1 }
+    ensures inside { result.1 ≤ width }
+    ensures hidden { (x : ℕ) → x < width → (x < result.0) ⊎ (result.1 ≤ x) → visible_column width layer.now.fill layer.now.clip 0 x ≡ None }
+{
+    let (fill, clip) = (layer.fill, layer.clip);
+    if fill[2] <= 0 {
+        return (0, width);
+    }
+    match shown_run(width, (fill[0], fill[2]), (clip[0], clip[2])) {
+        Some(run) => (run.from, run.to),
+        None => (0, 0),
+    }
 }
 
 /// Lays the row of a raster into the row of the frame by the columns of a layer's fill and clip. If they show no column the row

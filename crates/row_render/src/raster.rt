@@ -10,9 +10,9 @@ ghost use Rattle.lane_blend.specs.Rows.{AreLowered, IsRow, pixel_at, width_of};
 ghost use Rattle.row_render.specs.inner.Rasters.{IsOutside, IsRunOf, moving_pixel};
 
 use crate::kept::Kept;
-use crate::scaling::{fill_row, scale_columns};
 use crate::source::{plain_pixel, source_row};
 use crate::view::View;
+use lane_blend::fill_row;
 use pixel_math::Pixel;
 use play_transitions::{Column, Run, runs};
 use play_types::{Drawn, Still};
@@ -38,7 +38,7 @@ pub(crate) fn raster_row(
 {
     let (trans, step) = (layer.trans, layer.step);
     if step >= trans.duration() {
-        still_columns(view, layer.still, y, 0, row);
+        still_columns(view, layer.still, y, 0, row, kept);
         return;
     }
     fill_row(Pixel::transparent(), row);
@@ -113,18 +113,18 @@ fn moving_row(
     ensures lowered { AreLowered row.new }
 {
     match column {
-        Column::Old(first) => still_columns(view, layer.old, y, first, row),
-        Column::New(first) => still_columns(view, layer.still, y, first, row),
+        Column::Old(first) => still_columns(view, layer.old, y, first, row, kept),
+        Column::New(first) => still_columns(view, layer.still, y, first, row, kept),
         Column::Both(first) => {
-            still_columns(view, layer.old, y, first, row);
-            still_columns(view, layer.still, y, first, other);
+            still_columns(view, layer.old, y, first, row, kept);
+            still_columns(view, layer.still, y, first, other, kept);
             kept.mix_row(other, row, layer.step, layer.trans.duration());
         }
     }
 }
 
 /// Writes row `y` of a raster that shows a still, from column `first` on.
-fn still_columns(view: &View, still: Still, y: u16, first: u16, row: &mut [u8])
+fn still_columns(view: &View, still: Still, y: u16, first: u16, row: &mut [u8], kept: &mut Kept)
     requires line { y < view.now.size.height }
     requires names { ShowsConfigured (length view.now.prev.now) still }
     requires whole { length row.old % 4 ≡ 0 }
@@ -134,7 +134,7 @@ fn still_columns(view: &View, still: Still, y: u16, first: u16, row: &mut [u8])
     ensures lowered { AreLowered row.new }
 {
     match source_row(view, still, y) {
-        Some(source) => scale_columns(source, view.size.width, first, row),
+        Some(source) => kept.scale_columns(still, source, view.size.width, first, row),
         None => fill_row(plain_pixel(still), row),
     }
 }

@@ -26,7 +26,7 @@ impl RowRoom {
         ensures { IfOk result (λ room. room ≡ width) }
     {
         let rows = SpareRows::new(alloc, width)?;
-        let kept = Kept::new(alloc)?;
+        let kept = Kept::new(alloc, width)?;
         Ok(RowRoom { rows, kept })
     }
 }

@@ -4,7 +4,6 @@ ghost use Rattle.lane_blend.specs.Rows.{AreLowered, IsRow, pixel_at, width_of};
 ghost use Rattle.row_render.specs.inner.Sources.{IsPicture, scaled_pixel};
 
 use crate::columns::copy_pixel;
-use pixel_math::Pixel;
 
 /// Writes the columns from `first` on of a raster of `width` columns that shows the row of a picture.
 pub(crate) fn scale_columns(source: &[u8], width: u16, first: u16, row: &mut [u8])
@@ -27,24 +26,6 @@ pub(crate) fn scale_columns(source: &[u8], width: u16, first: u16, row: &mut [u8
             2 * u64::from(width),
             row,
         );
-    }
-}
-
-/// Writes a pixel at each column of a row.
-pub(crate) fn fill_row(pixel: Pixel, row: &mut [u8])
-    requires { length row.old % 4 ≡ 0 }
-    ensures row { IsRow (width_of row.old) (λ i. pixel) row.new }
-    ensures lowered { AreLowered row.new }
-{
-    let blue = pixel.b();
-    let green = pixel.g();
-    let red = pixel.r();
-    let alpha = pixel.a();
-    let bytes = [blue, green, red, alpha];
-    let mut x = 0;
-    'columns: while x < row.len() / 4 {
-        copy_pixel(&bytes, 0, row, x);
-        x += 1;
     }
 }
 

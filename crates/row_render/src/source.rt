@@ -2,8 +2,9 @@
 ghost use Rattle.std.specs.Prelude.{◌≡◌, ℕ, ◌+◌, ◌*◌, ◌<◌, ◌≤◌, ◌^◌, length, take, drop, IfSome, MatchOption};
 ghost use Rattle.play_types.specs.Geometry.{IsSize};
 ghost use Rattle.play_types.specs.Scene.{ShowsConfigured};
+ghost use Rattle.play_types.specs.declared.clip.TheConstants.{MULTIPLIED};
 ghost use Rattle.pixel_math.specs.Pixel.{transparent};
-ghost use Rattle.clip_format.specs.Lowering.{IsLowered};
+ghost use Rattle.clip_format.specs.Preparing.{IsLowered};
 ghost use Rattle.history_model.specs.pictures.Media.{clip_pixel};
 ghost use Rattle.history_model.specs.pictures.Raster.{Pictures, scaled_to, still_pixel};
 ghost use Rattle.play_scene.specs.Frames.{ArePictures};
@@ -50,6 +51,7 @@ pub(crate) fn source_row<'a>(view: &View<'a>, still: Still, y: u16) -> Option<&'
 /// frame.
 fn clip_row(clip: &Clip, frame: u32, height: u16, y: u16) -> Option<&[u8]>
     requires row { y < height }
+    requires version { clip.now.version ≡ MULTIPLIED }
     requires clip { IsLowered clip.now }
     ensures value { (width x : ℕ) → x < width →
         let pixel = clip_pixel clip.now frame (scaled_to clip.now.geometry.width width x) (scaled_to clip.now.geometry.height height y) in

@@ -1,5 +1,7 @@
-use Rattle.std.proofs.Common.{ℕ, refl}
-use Rattle.history_model.specs.pictures.Frame.{layer_pixel}
+use Rattle.std.proofs.Common.{ℕ, ◌<◌, refl, ◌∙◌, arith}
+use Rattle.history_model.specs.pictures.Frame.{layer_pixel, placement_of}
+use Rattle.history_model.specs.pictures.Raster.{raster_pixel}
+use Rattle.play_scene.proofs.Fills.{placed-no_column}
 use Rattle.row_render.proofs.Keying.{first_layer, hidden_over, keyer_over, layer_over}
 use Rattle.row_render.proofs.composition.lay_layer.Goals as goal
 
@@ -24,6 +26,14 @@ returns-then-below-clause-row c = λ pictures layers are keys under.
 
 pub returns-clause-row : goal.returns-clause-row
 returns-clause-row c = λ pictures layers are keys under.
-    layer_over (λ (x : ℕ). layer_pixel pictures c.args.view.now.size x c.args.view.now.y) c.args.view.now.size.width c.args.layer.now layers c.args.below.keyed c.args.keys.now
-    c.layer_row-2.new.row c.key_by-2.new.row c.args.row.now c.over_row.new.dst
-    c.if-layer.false keys (c.layer_row-2.ensures.row pictures are) c.key_by-2.ensures.row (under.shown c.if-below.false) c.over_row.ensures.row
+    let size = c.args.view.now.size in
+    let y = c.args.view.now.y in
+    let layer = c.args.layer.now in
+    let made = c.layer_row-2.ensures.row pictures are in
+    layer_over (λ (x : ℕ). layer_pixel pictures size x y) size.width layer layers c.args.below.keyed c.args.keys.now
+    c.layer_row-2.new.row c.args.row.now c.lay_columns.new.row
+    c.if-layer.false keys made (under.shown c.if-below.false)
+    (c.lay_columns.ensures.row
+    (λ x lt out.
+    let inside : x < size.width = omega (arith, lt, c.requires.row) in
+    made.pixels x inside ∙ placed-no_column size (placement_of layer) (raster_pixel pictures size layer) x y (c.shown_columns-from.ensures.hidden x inside out)))

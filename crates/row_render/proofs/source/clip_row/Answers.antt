@@ -1,8 +1,7 @@
-use Rattle.std.proofs.Common.{◌≡◌, ℕ, ◌+◌, ◌*◌, ◌<◌, List, Bool, take, drop, sym, ap, subst, ◌∙◌, lt-ltb, if◌then◌else◌, arith}
+use Rattle.std.proofs.Common.{◌≡◌, ℕ, ◌+◌, ◌*◌, ◌<◌, List, take, drop, refl, sym, ap, subst, ◌∙◌, lt-ltb, arith}
 use Rattle.play_types.specs.Geometry.{frame_bytes}
 use Rattle.play_types.specs.declared.geometry.Geometry.{Geometry}
-use Rattle.pixel_math.specs.Pixel.{transparent}
-use Rattle.history_model.specs.pictures.Media.{pixel_of_bytes}
+use Rattle.history_model.specs.pictures.Media.{clip_pixel, pixel_of_bytes}
 use Rattle.history_model.specs.pictures.Raster.{scaled_to}
 use Rattle.row_render.specs.inner.Sources.{IsPicture, scaled_pixel}
 use Rattle.row_render.proofs.Sources.{HasPicture-clip, IsPicture-row, picture_row, picture_row-shown}
@@ -25,7 +24,9 @@ returns-clause-value c = λ width x lt.
     let at = c.args.frame * frame_bytes size + 4 * (scaled_to size.height c.args.height c.args.y * size.width + scaled_to size.width width x) in
     let row = same_picture_row clip.bytes c.bytes.result.now c.picture_row.result.now size c.geometry-size.result c.args.frame c.frame_bytes.result c.from.result c.args.height c.args.y
     c.bytes.ensures.value c.geometry-size.ensures.value c.from.ensures c.frame_bytes.ensures c.picture_row.ensures in
-    ap (λ (t : Bool). if t then pixel_of_bytes clip.bytes at else transparent) (lt-ltb c.args.frame clip.frames below)
+    let shown : clip_pixel clip c.args.frame (scaled_to size.width width x) (scaled_to size.height c.args.height c.args.y) ≡ pixel_of_bytes clip.bytes at =
+    rw (lt-ltb c.args.frame clip.frames below, c.requires.version) refl in
+    shown
     ∙ picture_row-shown clip.bytes (c.args.frame * frame_bytes size) size.width size.height c.args.height c.args.y width x has c.requires.row lt
     ∙ ap (λ (l : List ℕ). scaled_pixel l width x) (sym row)
 

@@ -3,7 +3,7 @@ use Rattle.std.specs.Int.{w64}
 use Rattle.std.specs.Prelude.{ℤ}
 use Rattle.play_sound.specs.inner.Ranges.{IsNear}
 use Rattle.play_sound.proofs.Mean.{mean_is, mean_near, quotient_fits, sum_fits}
-use Rattle.play_sound.proofs.mix.mean.Goals as goal
+use Rattle.play_sound.proofs.sample.mean.Goals as goal
 
 pub overflow_add-result : goal.overflow_add-result
 overflow_add-result c =

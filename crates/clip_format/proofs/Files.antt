@@ -6,18 +6,19 @@ use Rattle.std.proofs.lemmas.Bool.{eqb-true, leb-true, eq-eqb, le-leb, lt-ltb, l
 use Rattle.std.proofs.lemmas.List.{get_or-take, get_or-drop, get_or_past, take-append-drop, drop-drop}
 use Rattle.std.proofs.lemmas.Nat.{from_be_bytes-to_be_bytes_2, from_be_bytes-to_be_bytes_4, be_bytes_2, be_bytes_4, mul-le}
 use Rattle.std.proofs.lemmas.Slice.Eq.{bytes_eq-Decides}
-use Rattle.play_types.specs.declared.clip.TheConstants.{MAX_FRAMES}
+use Rattle.play_types.specs.declared.clip.TheConstants.{MAX_FRAMES, MULTIPLIED, STRAIGHT}
 use Rattle.play_types.specs.declared.geometry.TheConstants.{MAX_SIDE, MAX_PAIRS}
 use Rattle.play_types.specs.Geometry.{frame_bytes}
 use Rattle.play_types.specs.ClipFile.{ClipView, IsClip, IsClipFile, clip_bytes}
 use Rattle.play_types.specs.declared.clip_fault.ClipFault.{ClipFault}
 use Rattle.play_types.specs.declared.clip_fault.ClipFault.TheVariants.{Short, Long}
-use Rattle.clip_format.specs.Decoding.{number_of_2, number_of_4, is_within, header_fault, header_size, header_frames, announced, clip_of}
+use Rattle.clip_format.specs.Decoding.{number_of_2, number_of_4, is_within, header_fault, header_version, header_size, header_frames, announced, clip_of}
 
 -- the fields of a header that is accepted
 pub record IsHeader (bytes : List ℕ) : Type 0 where
   pub magic : take 4 bytes ≡ codes "RCLP"
-  pub version : number_of_2 bytes 4 ≡ 1
+  pub some_version : MULTIPLIED ≤ number_of_2 bytes 4
+  pub version : number_of_2 bytes 4 ≤ STRAIGHT
   pub flags : number_of_2 bytes 6 ≡ 0
   pub some_columns : 1 ≤ number_of_2 bytes 8
   pub columns : number_of_2 bytes 8 ≤ MAX_SIDE
@@ -37,19 +38,21 @@ pub IsHeader-no_fault : (bytes : List ℕ) → header_fault bytes ≡ None → I
 unfolding header_fault
 IsHeader-no_fault bytes e =
     let a = none_first (bytes_eq (take 4 bytes) (codes "RCLP")) _ _ e in
-    let b = none_first (number_of_2 bytes 4 == 1) _ _ a.1 in
+    let b = none_first (is_within MULTIPLIED STRAIGHT (number_of_2 bytes 4)) _ _ a.1 in
     let c = none_first (number_of_2 bytes 6 == 0) _ _ b.1 in
     let d = none_first (is_within 1 MAX_SIDE (number_of_2 bytes 8)) _ _ c.1 in
     let f = none_first (is_within 1 MAX_SIDE (number_of_2 bytes 10)) _ _ d.1 in
     let g = none_first (is_within 1 MAX_FRAMES (number_of_4 bytes 12)) _ _ f.1 in
     let h = none_first (is_within 0 MAX_PAIRS (number_of_2 bytes 16)) _ _ g.1 in
     let k = none_first (number_of_2 bytes 18 == 0) _ _ h.1 in
+    let version = and_parts _ _ b.0 in
     let width = and_parts _ _ d.0 in
     let height = and_parts _ _ f.0 in
     let count = and_parts _ _ g.0 in
     let sound = and_parts _ _ h.0 in record {
       magic = (bytes_eq-Decides (take 4 bytes) (codes "RCLP")).0 a.0;
-      version = eqb-true _ _ b.0;
+      some_version = leb-true _ _ version.0;
+      version = leb-true _ _ version.1;
       flags = eqb-true _ _ c.0;
       some_columns = leb-true _ _ width.0;
       columns = leb-true _ _ width.1;
@@ -70,7 +73,7 @@ unfolding header_fault
 no_fault bytes h =
     rw (
       (bytes_eq-Decides (take 4 bytes) (codes "RCLP")).1 h.magic,
-      eq-eqb _ _ h.version,
+      is_within-true MULTIPLIED STRAIGHT _ h.some_version h.version,
       eq-eqb _ _ h.flags,
       is_within-true 1 MAX_SIDE _ h.some_columns h.columns,
       is_within-true 1 MAX_SIDE _ h.some_rows h.rows,
@@ -106,7 +109,7 @@ field_then bytes at count field rest p q =
 
 -- the clip of a file with an accepted header
 abbrev pub clip_in : List ℕ → ClipView
-clip_in bytes = record { geometry = header_size bytes; frames = header_frames bytes; bytes = drop 20 bytes }
+clip_in bytes = record { version = header_version bytes; geometry = header_size bytes; frames = header_frames bytes; bytes = drop 20 bytes }
 
 spelled : (bytes : List ℕ) → ((i : ℕ) → slice_index bytes i < 256) → 20 ≤ length bytes → IsHeader bytes → bytes ≡ clip_bytes (clip_in bytes)
 spelled bytes fits long h =
@@ -116,7 +119,7 @@ spelled bytes fits long h =
     let at_10 = field_then bytes 10 2 (to_be_bytes w16 (number_of_2 bytes 10)) _ (field_2 bytes 10 _ fits (omega arith) refl) at_12 in
     let at_8 = field_then bytes 8 2 (to_be_bytes w16 (number_of_2 bytes 8)) _ (field_2 bytes 8 _ fits (omega arith) refl) at_10 in
     let at_6 = field_then bytes 6 2 (to_be_bytes w16 0) _ (field_2 bytes 6 0 fits (omega arith) h.flags) at_8 in
-    let at_4 = field_then bytes 4 2 (to_be_bytes w16 1) _ (field_2 bytes 4 1 fits (omega arith) h.version) at_6 in
+    let at_4 = field_then bytes 4 2 (to_be_bytes w16 (number_of_2 bytes 4)) _ (field_2 bytes 4 _ fits (omega arith) refl) at_6 in
     field_then bytes 0 4 (codes "RCLP") _ h.magic at_4
 
 -- bytes with an accepted header, as many as it announces, are a clip file
@@ -124,6 +127,8 @@ pub IsClipFile-whole : (bytes : List ℕ) → ((i : ℕ) → slice_index bytes i
 IsClipFile-whole bytes fits h whole =
     let rest : length (drop 20 bytes) ≡ header_frames bytes * frame_bytes (header_size bytes) = omega (arith, length-drop 20 bytes) in record {
       ranges = record {
+        some_version = h.some_version;
+        version = h.version;
         size = record { some_columns = h.some_columns; columns = h.columns; some_rows = h.some_rows; rows = h.rows; sound = h.pairs };
         some_frames = h.some_frames;
         frames = h.frames;
@@ -162,14 +167,16 @@ clip_of-whole bytes e whole =
 -- the file of a clip is read as the clip
 pub clip_of-clip_bytes : (clip : ClipView) → IsClip clip → clip_of (clip_bytes clip) ≡ Ok clip
 clip_of-clip_bytes clip h =
+    let version : number_of_2 (clip_bytes clip) 4 ≡ clip.version = from_be_bytes-to_be_bytes_2 clip.version (omega arith) in
     let width : number_of_2 (clip_bytes clip) 8 ≡ clip.geometry.width = from_be_bytes-to_be_bytes_2 clip.geometry.width (omega arith) in
     let height : number_of_2 (clip_bytes clip) 10 ≡ clip.geometry.height = from_be_bytes-to_be_bytes_2 clip.geometry.height (omega arith) in
     let frames : number_of_4 (clip_bytes clip) 12 ≡ clip.frames = from_be_bytes-to_be_bytes_4 clip.frames (omega arith) in
     let pairs : number_of_2 (clip_bytes clip) 16 ≡ clip.geometry.pairs = from_be_bytes-to_be_bytes_2 clip.geometry.pairs (omega arith) in
-    let same : clip_in (clip_bytes clip) ≡ clip = λ i. record { geometry = record { width = width i; height = height i; pairs = pairs i }; frames = frames i; bytes = clip.bytes } in
+    let same : clip_in (clip_bytes clip) ≡ clip = λ i. record { version = version i; geometry = record { width = width i; height = height i; pairs = pairs i }; frames = frames i; bytes = clip.bytes } in
     let header : IsHeader (clip_bytes clip) = record {
       magic = refl;
-      version = refl;
+      some_version = subst (λ n. MULTIPLIED ≤ n) (sym version) h.some_version;
+      version = subst (λ n. n ≤ STRAIGHT) (sym version) h.version;
       flags = refl;
       some_columns = subst (λ n. 1 ≤ n) (sym width) h.size.some_columns;
       columns = subst (λ n. n ≤ MAX_SIDE) (sym width) h.size.columns;

@@ -1,4 +1,6 @@
 pub mod Files
 pub mod Adding
 mod Looking
-pub mod Lowered
+pub mod Frames
+pub mod Recoloured
+pub mod Prepared

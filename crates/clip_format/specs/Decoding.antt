@@ -1,7 +1,7 @@
 -- How the bytes of a clip file are read.
 use Rattle.std.specs.Prelude.{ℕ, ◌+◌, ◌-◌, ◌*◌, ◌==◌, ◌&&◌, nat_lt, nat_le, Bool, if◌then◌else◌, List, [], ◌∷◌, length, take, drop, codes, bytes_eq, Option, Some, None, Result, Ok, Err}
 use Rattle.std.specs.Int.{w16, w32, from_be_bytes}
-use Rattle.play_types.specs.declared.clip.TheConstants.{MAX_FRAMES}
+use Rattle.play_types.specs.declared.clip.TheConstants.{MAX_FRAMES, MULTIPLIED, STRAIGHT}
 use Rattle.play_types.specs.declared.geometry.TheConstants.{MAX_SIDE, MAX_PAIRS}
 use Rattle.play_types.specs.declared.geometry.Geometry.{Geometry}
 use Rattle.play_types.specs.Geometry.{frame_bytes}
@@ -21,11 +21,15 @@ number_of_4 bytes at = from_be_bytes w32 (take 4 (drop at bytes))
 abbrev pub is_within : ℕ → ℕ → ℕ → Bool
 is_within low high number = nat_le low number && nat_le number high
 
+-- the version that a header names
+abbrev pub header_version : List ℕ → ℕ
+header_version bytes = number_of_2 bytes 4
+
 -- the fields of a header, from the front: whether each is accepted, and the fault if it is not
 abbrev pub header_fields : List ℕ → List (Bool × ClipFault)
 header_fields bytes =
     (bytes_eq (take 4 bytes) (codes "RCLP"), BadMagic)
-    ∷ (number_of_2 bytes 4 == 1, BadVersion)
+    ∷ (is_within MULTIPLIED STRAIGHT (header_version bytes), BadVersion)
     ∷ (number_of_2 bytes 6 == 0, BadField 6)
     ∷ (is_within 1 MAX_SIDE (number_of_2 bytes 8), BadField 8)
     ∷ (is_within 1 MAX_SIDE (number_of_2 bytes 10), BadField 10)
@@ -62,7 +66,7 @@ clip_after bytes (Some fault) = Err fault
 clip_after bytes None =
     if nat_lt (length bytes) (announced bytes) then Err (Short (announced bytes) (length bytes))
     else (if nat_lt (announced bytes) (length bytes) then Err (Long (length bytes - announced bytes))
-    else Ok (record { geometry = header_size bytes; frames = header_frames bytes; bytes = drop 20 bytes }))
+    else Ok (record { version = header_version bytes; geometry = header_size bytes; frames = header_frames bytes; bytes = drop 20 bytes }))
 
 -- the clip of a file, or its fault: a header cut short, then the header's fields, then the length
 unfoldable pub clip_of : List ℕ → Result ClipView ClipFault

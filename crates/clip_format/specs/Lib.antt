@@ -1,5 +1,7 @@
 pub mod Decoding
-pub mod Lowering
+pub mod Recolouring
+pub mod Preparing
 pub mod Table
 pub mod Shown
+pub mod Worked
 pub mod inner

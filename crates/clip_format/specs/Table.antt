@@ -7,7 +7,8 @@ use Rattle.play_types.specs.ClipFile.{ClipView}
 use Rattle.play_types.specs.Media.{MediaNameView, clip_name, unreadable_name}
 use Rattle.play_types.specs.declared.clip_fault.ClipFault.{ClipFault}
 use Rattle.play_types.specs.declared.clip_fault.ClipFault.TheVariants.{OutOfMemory}
-use Rattle.clip_format.specs.Lowering.{IsLowered}
+use Rattle.clip_format.specs.Preparing.{IsLowered}
+use Rattle.play_types.specs.declared.clip.TheConstants.{MULTIPLIED}
 use Rattle.play_types.specs.declared.media.TheConstants.{MAX_MEDIA_NAMES}
 
 -- a name and its clip, or the fault of its file
@@ -28,12 +29,12 @@ abbrev pub IsRising : List Entry → Type 0
 IsRising [] = Unit {0}
 IsRising (entry ∷ entries) = All (λ later. IsBelow entry.name later.name) entries × IsRising entries
 
--- a clip has no colour byte above its alpha, and a fault is one of the file
+-- a clip is of version 1 and has no colour byte above its alpha, and a fault is one of the file
 abbrev pub IsReady : Result ClipView ClipFault → Type 0
-IsReady (Ok clip) = IsLowered clip
+IsReady (Ok clip) = (clip.version ≡ MULTIPLIED) × IsLowered clip
 IsReady (Err fault) = fault ≢ OutOfMemory
 
--- the entries of a table: at most 4,294,967,295, their names rising, and their clips lowered
+-- the entries of a table: at most 4,294,967,295, their names rising, and their clips ready
 pub record IsMediaTable (entries : List Entry) : Type 0 where
   pub few : length entries ≤ MAX_MEDIA_NAMES
   pub rising : IsRising entries

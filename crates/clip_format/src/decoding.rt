@@ -2,6 +2,7 @@
 ghost use Rattle.std.specs.Prelude.{◌≡◌, ◌≢◌, ◌≤◌, length, drop, Ok, Err, IfOk, IfErr};
 ghost use Rattle.play_types.specs.ClipFile.{ClipView, IsClipFile};
 ghost use Rattle.clip_format.specs.Decoding.{clip_of};
+ghost use Rattle.clip_format.specs.Preparing.{AreBytes};
 ghost use Rattle.clip_format.specs.inner.FileClip.{file_clip};
 
 use crate::header::{HEADER_LEN, Header, announced_len, fault_of, numbers_in};
@@ -14,18 +15,20 @@ use play_types::{ByteList, Clip, ClipFault};
 pub fn decode(bytes: Vec<u8>) -> Result<Clip, ClipFault>
     ensures exact { result ≡ clip_of bytes.items }
     ensures is_file { IfOk result (λ clip. IsClipFile bytes.items clip) }
+    ensures of_bytes { IfOk result (λ clip. AreBytes clip.bytes) }
     ensures each_file { (clip : ClipView) → IsClipFile bytes.items clip → result ≡ Ok clip }
     ensures takes_no_memory { IfErr result (λ fault. fault ≢ ClipFault.OutOfMemory) }
 {
     let header = read_header(bytes.as_slice())?;
     let frames = ByteList::new(after_header(bytes));
-    Ok(Clip::new(header.size, header.frames, frames).unwrap())
+    Ok(Clip::new(header.version, header.size, header.frames, frames).unwrap())
 }
 
 /// Reads the header of a clip file, or tells why the bytes are none.
 fn read_header(bytes: &[u8]) -> Result<Header, ClipFault>
     ensures clip { IfOk result (λ header. clip_of bytes.now ≡ Ok (file_clip header bytes.now)) }
     ensures is_file { IfOk result (λ header. IsClipFile bytes.now (file_clip header bytes.now)) }
+    ensures of_bytes { IfOk result (λ header. AreBytes bytes.now) }
     ensures fault { IfErr result (λ fault. clip_of bytes.now ≡ Err fault) }
     ensures of_file { IfErr result (λ fault. fault ≢ ClipFault.OutOfMemory) }
 {

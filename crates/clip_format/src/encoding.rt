@@ -14,6 +14,6 @@ pub fn encode<K: Sink>(clip: &Clip, to: &mut K) -> Sent
     ensures written { Sends result (clip_bytes clip.now) (K.state to.old) (K.state to.new) }
     ensures reads_back { clip_of (clip_bytes clip.now) ≡ Ok clip.now }
 {
-    let header = header_of(clip.geometry(), clip.frames());
+    let header = header_of(clip);
     send_parts(&[&header, clip.bytes()], to)
 }

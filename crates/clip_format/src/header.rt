@@ -2,9 +2,11 @@
 ghost use Rattle.std.specs.Prelude.{◌≡◌, ◌≢◌, ◌+◌, ◌≤◌, None, length, IfSome};
 ghost use Rattle.play_types.specs.ClipFile.{header_bytes};
 ghost use Rattle.play_types.specs.declared.clip.TheConstants.{MAX_FRAMES};
-ghost use Rattle.clip_format.specs.Decoding.{announced, header_fault, header_frames, header_size, is_within, number_of_2, number_of_4};
+ghost use Rattle.clip_format.specs.Decoding.{announced, header_fault, header_frames, header_size, header_version, is_within, number_of_2, number_of_4};
 
-use play_types::{ClipFault, Geometry, MAX_FRAMES, MAX_PAIRS, MAX_SIDE};
+use play_types::{
+    Clip, ClipFault, Geometry, MAX_FRAMES, MAX_PAIRS, MAX_SIDE, MULTIPLIED, STRAIGHT,
+};
 
 /// The length of a header, in bytes.
 pub(crate) const HEADER_LEN: usize = 20;
@@ -12,20 +14,23 @@ pub(crate) const HEADER_LEN: usize = 20;
 /// What a header says of its clip.
 #[derive(Clone, Copy)]
 pub(crate) struct Header {
+    pub(crate) version: u16,
     pub(crate) size: Geometry,
     pub(crate) frames: u32,
 }
 
 /// Returns the header of a clip.
-pub(crate) fn header_of(size: Geometry, frames: u32) -> [u8; HEADER_LEN]
-    ensures { result ≡ header_bytes size frames }
+pub(crate) fn header_of(clip: &Clip) -> [u8; HEADER_LEN]
+    ensures { result ≡ header_bytes clip.now.version clip.now.geometry clip.now.frames }
 {
+    let size = clip.geometry();
+    let [v0, v1] = clip.version().to_be_bytes();
     let [w0, w1] = size.width.to_be_bytes();
     let [h0, h1] = size.height.to_be_bytes();
-    let [f0, f1, f2, f3] = frames.to_be_bytes();
+    let [f0, f1, f2, f3] = clip.frames().to_be_bytes();
     let [p0, p1] = size.pairs.to_be_bytes();
     [
-        b'R', b'C', b'L', b'P', 0, 1, 0, 0, w0, w1, h0, h1, f0, f1, f2, f3, p0, p1, 0, 0,
+        b'R', b'C', b'L', b'P', v0, v1, 0, 0, w0, w1, h0, h1, f0, f1, f2, f3, p0, p1, 0, 0,
     ]
 }
 
@@ -39,7 +44,7 @@ pub(crate) fn fault_of(bytes: &[u8]) -> Option<ClipFault>
     if &bytes[..4] != b"RCLP".as_slice() {
         return Some(ClipFault::BadMagic);
     }
-    if u16_at(bytes, 4) != 1 {
+    if !(MULTIPLIED..=STRAIGHT).contains(&u16_at(bytes, 4)) {
         return Some(ClipFault::BadVersion);
     }
     if u16_at(bytes, 6) != 0 {
@@ -63,12 +68,13 @@ pub(crate) fn fault_of(bytes: &[u8]) -> Option<ClipFault>
     None
 }
 
-/// Returns the size and the number of frames that a header names.
+/// Returns the version, the size and the number of frames that a header names.
 pub(crate) fn numbers_in(bytes: &[u8]) -> Header
     requires { 20 ≤ length bytes.now }
-    ensures { result ≡ record { size = header_size bytes.now; frames = header_frames bytes.now } }
+    ensures { result ≡ record { version = header_version bytes.now; size = header_size bytes.now; frames = header_frames bytes.now } }
 {
     Header {
+        version: u16_at(bytes, 4),
         size: Geometry {
             width: u16_at(bytes, 8),
             height: u16_at(bytes, 10),

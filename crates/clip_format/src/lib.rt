@@ -4,9 +4,12 @@
 //! back as the clip. Each fault of a file is told exactly, in the order in which the format names them.
 //!
 //! The [`MediaTable`] keeps clips under their names, in rising order of the names' bytes, and a fault under the name of a
-//! file that is no clip. No pixel of its clips has a colour byte above its alpha.
+//! file that is no clip. Its clips are of version 1, and no pixel of them has a colour byte above its alpha.
 //!
-//! [`laws`] has what holds of clip files and of lowered clips, [`examples`] worked files.
+//! [`straight_clip`] makes a clip of version 2, whose colours are not multiplied by the alpha, that shows what the clip
+//! shows.
+//!
+//! [`laws`] has what holds of clip files, of prepared clips and of straight ones, [`examples`] worked files.
 #![tactic(auto)]
 
 mod decoding;
@@ -14,8 +17,10 @@ mod encoding;
 pub mod examples;
 mod header;
 pub mod laws;
+mod straight;
 mod table;
 
 pub use decoding::decode;
 pub use encoding::encode;
+pub use straight::straight_clip;
 pub use table::MediaTable;

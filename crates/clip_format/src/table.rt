@@ -1,8 +1,9 @@
 //! The clips by name.
 ghost use Rattle.std.specs.Prelude.{◌≡◌, ◌==◌, ◌<◌, ◌∷◌, ◌++◌, [], length, IfOk, IfSome, IsOkAnd, OnOk, OnErr, option_copied};
 ghost use Rattle.std.specs.Str.{chars};
-ghost use Rattle.clip_format.specs.Lowering.{IsLowered};
+ghost use Rattle.clip_format.specs.Preparing.{IsLowered};
 ghost use Rattle.clip_format.specs.Table.{IsAbove, IsMediaTable, IsReady, clip_at, media_name, media_names};
+ghost use Rattle.play_types.specs.declared.clip.TheConstants.{MULTIPLIED};
 ghost use Rattle.play_types.specs.declared.media.TheConstants.{MAX_MEDIA_NAMES};
 
 use indexmap::IndexMap;
@@ -13,7 +14,8 @@ use std::marker::Model;
 /// Names in rising order of their bytes, each with its clip, or with the fault of a file that is no clip. A clip's
 /// number is its position, from 0.
 ///
-/// It has at most 4,294,967,295 entries, and no pixel of a clip has a colour byte above its alpha.
+/// It has at most 4,294,967,295 entries. Its clips are of version 1, and no pixel of them has a colour byte above its
+/// alpha.
 #[derive(Drop)]
 pub struct MediaTable {
     clips: IndexMap<String, Result<Clip, ClipFault>>,
@@ -71,6 +73,7 @@ impl MediaTable {
     /// Returns the clip of a number: `None` exactly if no entry has this number, or its file is no clip.
     pub fn clip(&self, id: u32) -> Option<&Clip>
         ensures value { option_copied result ≡ clip_at self.now id }
+        ensures version { IfSome result (λ clip. clip.now.version ≡ MULTIPLIED) }
         ensures lowered { IfSome result (λ clip. IsLowered clip.now) }
     {
         let (_, clip) = self.clips.get_index(id as usize)?;

@@ -1,9 +1,9 @@
 -- Clip files among the files of a folder.
-use Rattle.std.proofs.Common.{◌≡◌, ℕ, ◌+◌, ◌<◌, List, [], ◌∷◌, ◌++◌, length, map, take, drop, get_or, sym, ap, ◌∙◌, append-nil, take_all, string_bytes, String, arith}
+use Rattle.std.proofs.Common.{◌≡◌, ℕ, ◌+◌, ◌<◌, List, [], ◌∷◌, ◌++◌, length, map, take, get_or, sym, ap, ◌∙◌, string_bytes, String}
 use Rattle.std.specs.Prelude.{Option}
 use Rattle.std.specs.Global.{Global}
 use Rattle.std.specs.List.{cons_option}
-use Rattle.std.proofs.lemmas.List.{map-append, take_more, drop_all}
+use Rattle.std.proofs.lemmas.List.{map-append, take_more}
 use Rattle.std.proofs.lemmas.List.Elements.{filter_map-append}
 use Rattle.clip_store.specs.Listing.{Found, clip_file, clip_files}
 
@@ -16,8 +16,3 @@ clip_files-more listed i item found within at is =
     ∙ ap clip_files (map-append string_bytes (take i listed) (item ∷ []))
     ∙ filter_map-append clip_file (map string_bytes (take i listed)) (string_bytes item ∷ [])
     ∙ ap (λ (f : Option Found). clip_files (map string_bytes (take i listed)) ++ cons_option f []) (sym is)
-
--- a list that was written back whole
-pub written_back : {X : Type 0} (new old : List X) (len : ℕ) → length new ≡ length old → length old ≡ len → take len (new ++ drop (length new) old) ≡ new
-written_back new old len same size =
-    ap (λ (rest : _). take len (new ++ rest)) (drop_all (length new) old (omega arith)) ∙ ap (take len) (append-nil new) ∙ take_all len new (omega arith)

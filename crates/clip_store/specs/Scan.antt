@@ -7,7 +7,7 @@ use Rattle.play_outside.specs.Folder.{bytes_at}
 use Rattle.play_types.specs.ClipFile.{ClipView}
 use Rattle.play_types.specs.declared.clip_fault.ClipFault.{ClipFault}
 use Rattle.clip_format.specs.Decoding.{clip_of}
-use Rattle.clip_format.specs.Lowering.{lowered_clip}
+use Rattle.clip_format.specs.Preparing.{prepared_clip}
 use Rattle.clip_format.specs.Table.{Entry}
 use Rattle.clip_store.specs.declared.reading.TheConstants.{MAX_MEDIA_BYTES}
 use Rattle.clip_store.specs.declared.fault.ScanFault.{ScanFault}
@@ -18,9 +18,9 @@ use Rattle.clip_store.specs.Listing.{Found, clip_files, sorted, first_twice}
 abbrev pub bytes_of : List ℕ → Files → Found → List ℕ
 bytes_of folder files found = unwrap_or (bytes_at folder found.file files) []
 
--- what the table keeps: the clip with its pixels lowered, or the fault
+-- what the table keeps: the clip of version 1 with its pixels prepared, or the fault
 abbrev pub kept_clip : Result ClipView ClipFault → Result ClipView ClipFault
-kept_clip (Ok clip) = Ok (lowered_clip clip)
+kept_clip (Ok clip) = Ok (prepared_clip clip)
 kept_clip (Err fault) = Err fault
 
 -- the entry of a clip file

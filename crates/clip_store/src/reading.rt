@@ -7,8 +7,8 @@ ghost use Rattle.clip_store.specs.inner.Orders.{IsStrict};
 ghost use Rattle.clip_store.specs.Scan.{Answers, kept_clip, table_of};
 
 use crate::fault::ScanFault;
-use crate::lowering::lowered;
 use crate::names::ClipFile;
+use crate::preparing::prepared;
 use clip_format::{MediaTable, decode};
 use play_outside::MediaDir;
 use play_types::{Clip, ClipFault, Text};
@@ -43,11 +43,11 @@ pub(crate) fn read_all<R: Threads + Sync, M: MediaDir>(
     Ok(table)
 }
 
-/// Returns the clip of a file with its pixels lowered, or why the file is none.
+/// Returns the clip of a file with its pixels prepared, or why the file is none.
 fn ready_clip<R: Threads + Sync>(rt: &R, bytes: Vec<u8>) -> Result<Clip, ClipFault>
     ensures value { result ≡ kept_clip (clip_of bytes.items) }
     ensures ready { IsReady result }
 {
     let clip = decode(bytes)?;
-    Ok(lowered(rt, clip))
+    Ok(prepared(rt, clip))
 }

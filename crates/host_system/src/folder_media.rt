@@ -3,8 +3,10 @@ ghost use Rattle.std.specs.Prelude.{◌≡◌, None};
 ghost use Rattle.play_outside.specs.Folder.{Misses};
 ghost use Rattle.host_system.specs.inner.Faults.{fault_of};
 
+use crate::clip_count::{ClipCount, Progress};
 use crate::complaint::{complain, complain_of_file};
 use crate::read_fault::ReadFault;
+use crate::unreadable::Unreadable;
 use play_outside::{FileFault, MediaDir};
 use std::alloc::Global;
 use std::fs;
@@ -12,23 +14,25 @@ use std::io::{Eprint, Error, ErrorKind, Read};
 use std::rt::Files;
 
 /// Reads configurations and media from the regular files of the system, and says on standard error which file or folder
-/// could not be read. It does not tell what it holds.
+/// could not be read, why a file is no clip, and how many clips are read. It does not tell what it holds.
 #[derive(Drop)]
 pub struct FolderMedia<R> {
     rt: R,
     program: &'static str,
+    clips: ClipCount,
     faults: u64,
 }
 
 impl<R: Files + Eprint + AllocGlobal + Clone + Drop> FolderMedia<R> {
-    /// Returns the files of the system. No read of them has failed yet. What is said of a failure begins with the name of
-    /// the program.
-    pub fn new(rt: R, program: &'static str) -> FolderMedia<R>
+    /// Returns the files of the system. No read of them has failed yet. What is said begins with the name of the program,
+    /// and of the clips that are read as much is said as `progress` allows.
+    pub fn new(rt: R, program: &'static str, progress: Progress) -> FolderMedia<R>
         ensures { ⟦<FolderMedia<R> as MediaDir>⟧.state result ≡ record { files = None; faults = 0 } }
     {
         FolderMedia {
             rt,
             program,
+            clips: ClipCount::new(progress),
             faults: 0,
         }
     }
@@ -63,7 +67,11 @@ impl<R: Files + Eprint + AllocGlobal + Clone + Drop> MediaDir for FolderMedia<R>
     /// Lists the names of all that lies in a folder, folders and links too. A name that is not UTF-8 is passed over.
     fn names(&mut self, alloc: Global, folder: &str) -> Result<Vec<String>, FileFault> {
         match list_names(&self.rt, alloc, folder) {
-            Ok(names) => Ok(names),
+            Ok(names) => {
+                self.clips
+                    .begin(&self.rt, self.program, folder, names.as_slice());
+                Ok(names)
+            }
             Err(fault) => {
                 complain(&self.rt, self.program, folder, &fault);
                 Err(self.missed(fault))
@@ -71,11 +79,19 @@ impl<R: Files + Eprint + AllocGlobal + Clone + Drop> MediaDir for FolderMedia<R>
         }
     }
 
-    /// Reads a file of a folder.
+    /// Reads a file of a folder. If it is no clip, standard error says why.
     fn bytes(&mut self, alloc: Global, folder: &str, name: &str) -> Result<Vec<u8>, FileFault> {
         match read_file_in(&self.rt, alloc, folder, name) {
-            Ok(bytes) => Ok(bytes),
+            Ok(bytes) => {
+                if let Some(why) = Unreadable::find(alloc, bytes.as_slice()) {
+                    self.clips.end_line(&self.rt);
+                    complain_of_file(&self.rt, self.program, folder, name, &why);
+                }
+                self.clips.add(&self.rt, self.program, folder);
+                Ok(bytes)
+            }
             Err(fault) => {
+                self.clips.end_line(&self.rt);
                 complain_of_file(&self.rt, self.program, folder, name, &fault);
                 Err(self.missed(fault))
             }

@@ -2,14 +2,21 @@
 //!
 //! `words_of` gives the words after the program's own name, or a `WordsFault`, which is the fault of a run. `FolderMedia`
 //! meets `MediaDir` of `play_outside`: it counts the reads that failed, and does not tell what it holds. What is said of a
-//! failure on standard error begins with the name of the program.
+//! failure on standard error, of a clip that is unreadable and of how many clips are read, begins with the name of the
+//! program. `ProgramFile` tells from which sources the running program was built.
 #![tactic(auto)]
 
+mod clip_count;
 mod complaint;
 mod folder_media;
+mod grouped;
+mod program_file;
 mod read_fault;
+mod unreadable;
 mod words;
 
+pub use clip_count::Progress;
 pub use complaint::complain;
 pub use folder_media::FolderMedia;
+pub use program_file::ProgramFile;
 pub use words::{WordsFault, words_of};

@@ -14,7 +14,7 @@ use Rattle.clip_store.specs.declared.fault.ScanFault.{ScanFault}
 use Rattle.clip_store.specs.declared.fault.ScanFault.TheVariants as scan
 use Rattle.server_setup.specs.declared.setup.ServerSetup.{ServerSetup}
 use Rattle.server_setup.specs.declared.fault.RunFault.{RunFault}
-use Rattle.server_setup.specs.declared.fault.RunFault.TheVariants.{Usage, ConfigText, ConfigKey, BadLine, InputTooLong, MediaTwice, MediaTotal, Device, OutOfMemory}
+use Rattle.server_setup.specs.declared.fault.RunFault.TheVariants.{Usage, ConfigText, ConfigKey, BadLine, InputTooLong, Plan, PlanEnd, Clip, MediaTwice, MediaTotal, Device, OutOfMemory}
 use Rattle.server_setup.specs.Fault.{fault_of_config, fault_of_file, fault_of_scan}
 use Rattle.server_setup.specs.Setup.{Scans, SetsUp}
 use Rattle.server_setup.specs.inner.Reading.{ReadsMedia}
@@ -54,6 +54,9 @@ shown_from path bytes config (Err (ConfigKey name)) before after held accepted s
 shown_from path bytes config (Err Usage) before after held accepted shows = absurd shows
 shown_from path bytes config (Err (BadLine line)) before after held accepted shows = absurd shows
 shown_from path bytes config (Err InputTooLong) before after held accepted shows = absurd shows
+shown_from path bytes config (Err (Plan number)) before after held accepted shows = absurd shows
+shown_from path bytes config (Err PlanEnd) before after held accepted shows = absurd shows
+shown_from path bytes config (Err (Clip fault)) before after held accepted shows = absurd shows
 
 -- the clips of a configuration that is accepted
 pub shown : (path bytes : List ℕ) (config : ConfigView) (result : Result ServerSetup RunFault) (before state after : FolderState) → IsHeld (config_at path) bytes before.files → state ≡ before
@@ -73,6 +76,9 @@ kept_but_device path (Err OutOfMemory) before after sets other = sets
 kept_but_device path (Err Usage) before after sets other = absurd sets
 kept_but_device path (Err (BadLine line)) before after sets other = absurd sets
 kept_but_device path (Err InputTooLong) before after sets other = absurd sets
+kept_but_device path (Err (Plan number)) before after sets other = absurd sets
+kept_but_device path (Err PlanEnd) before after sets other = absurd sets
+kept_but_device path (Err (Clip fault)) before after sets other = absurd sets
 
 -- no result changes what is held
 pub files_kept : (path : List ℕ) (result : Result ServerSetup RunFault) (before after : FolderState) → SetsUp path result before after → after.files ≡ before.files
@@ -86,6 +92,9 @@ files_kept path (Err OutOfMemory) before after sets = ap (λ (s : FolderState). 
 files_kept path (Err Usage) before after sets = absurd sets
 files_kept path (Err (BadLine line)) before after sets = absurd sets
 files_kept path (Err InputTooLong) before after sets = absurd sets
+files_kept path (Err (Plan number)) before after sets = absurd sets
+files_kept path (Err PlanEnd) before after sets = absurd sets
+files_kept path (Err (Clip fault)) before after sets = absurd sets
 
 -- the fault of a folder that gave no table, handed on
 pub handed_on : (config : ConfigView) (fault : ScanFault) (result : Result ServerSetup RunFault) (before after : FolderState) → Scans config (Err fault) before after

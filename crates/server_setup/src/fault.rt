@@ -1,15 +1,16 @@
 //! The faults of a run.
 ghost use Rattle.std.specs.Prelude.{◌≡◌, ◌∷◌, ◌++◌, [], IfOk, MatchOption, string_bytes};
 ghost use Rattle.play_outside.specs.Sink.{Sends};
-ghost use Rattle.server_setup.specs.Fault.{HasDetail, fault_line, fault_of_config, fault_of_file, fault_of_scan, status_of};
-ghost use Rattle.server_setup.specs.inner.Detail.{detail_of};
+ghost use Rattle.server_setup.specs.Fault.{HasDetail, fault_line, fault_of_clip, fault_of_config, fault_of_file, fault_of_scan, status_of};
+ghost use Rattle.server_setup.specs.inner.Detail.{detail_of, second_of};
 ghost use Rattle.server_setup.specs.declared.fault.RunFault.TheVariants.{OutOfMemory};
 
+use crate::clip_line;
 use clip_store::ScanFault;
 use config_file::ConfigFault;
 use itoa::Buffer;
 use play_outside::{FileFault, Sent, Sink, send_parts};
-use play_types::Text;
+use play_types::{ClipFault, Text};
 use std::alloc::{AllocError, Global};
 use std::error::Error;
 use std::fmt;
@@ -25,8 +26,15 @@ pub enum RunFault {
     ConfigKey(Text),
     /// The line of a script with this number, counted from 1, is none that a script may have.
     BadLine(u64),
-    /// The script has more than 4,294,967,296 bytes.
+    /// The script has more than 4,294,967,296 bytes, or the clip that is read has more than 1,073,741,824, or the cue sheet
+    /// has more than 268,435,456.
     InputTooLong,
+    /// The line of a cue sheet with this number, counted from 1, is its first faulty one.
+    Plan(u32),
+    /// The cue sheet has no END.
+    PlanEnd,
+    /// The input is no clip.
+    Clip(ClipFault),
     /// Two clip files have this name.
     MediaTwice(Text),
     /// The clip files are too large: this sum of their lengths, in bytes, is above 1,073,741,824.
@@ -38,8 +46,8 @@ pub enum RunFault {
 }
 
 impl RunFault {
-    /// Returns the exit status: 1 for the command line, 2 for the configuration and the script, 3 for the clips, 4 for a
-    /// device and 5 for memory.
+    /// Returns the exit status: 1 for the command line, 2 for the configuration, the script, the cue sheet and the clip that
+    /// is read, 3 for the clips of the folder, 4 for a device and 5 for memory.
     pub fn status(&self) -> u8
         ensures { result ≡ status_of self.now }
     {
@@ -48,7 +56,10 @@ impl RunFault {
             RunFault::ConfigText
             | RunFault::ConfigKey(_)
             | RunFault::BadLine(_)
-            | RunFault::InputTooLong => 2,
+            | RunFault::InputTooLong
+            | RunFault::Plan(_)
+            | RunFault::PlanEnd => 2,
+            RunFault::Clip(fault) => clip_line::status(*fault),
             RunFault::MediaTwice(_) | RunFault::MediaTotal(_) => 3,
             RunFault::Device => 4,
             RunFault::OutOfMemory => 5,
@@ -60,8 +71,12 @@ impl RunFault {
         ensures { Sends result (fault_line self.now) (K.state to.old) (K.state to.new) }
     {
         let mut digits = Buffer::new();
+        let mut more_digits = Buffer::new();
         let detail = self.detail(&mut digits);
-        send_both(self.label(), detail, to)
+        match self.second(&mut more_digits) {
+            Some(second) => send_numbers(self.label(), detail, second, to),
+            None => send_both(self.label(), detail, to),
+        }
     }
 
     /// Returns the line without its line feed, if it has neither a name nor a number.
@@ -71,11 +86,14 @@ impl RunFault {
         match self {
             RunFault::ConfigKey(_)
             | RunFault::BadLine(_)
+            | RunFault::Plan(_)
             | RunFault::MediaTwice(_)
             | RunFault::MediaTotal(_) => None,
+            RunFault::Clip(fault) => clip_line::short(*fault),
             RunFault::Usage
             | RunFault::ConfigText
             | RunFault::InputTooLong
+            | RunFault::PlanEnd
             | RunFault::Device
             | RunFault::OutOfMemory => Some(self.label()),
         }
@@ -86,15 +104,20 @@ impl RunFault {
         ensures { IfOk result (λ line. string_bytes line ++ 10 ∷ [] ≡ fault_line self.now) }
     {
         let mut digits = Buffer::new();
+        let mut more_digits = Buffer::new();
         let detail = self.detail(&mut digits);
         let mut line = String::from_str(alloc, self.label())?;
         line.push_str(detail)?;
+        if let Some(second) = self.second(&mut more_digits) {
+            line.push_str(" ")?;
+            line.push_str(second)?;
+        }
         Ok(line)
     }
 
-    /// Returns what stands in the line before the name or the number that it ends with: all of it if it has none.
+    /// Returns what stands in the line before its name or its numbers: all of it if it has none.
     fn label(&self) -> &'static str
-        ensures { result.now ++ detail_of self.now ++ 10 ∷ [] ≡ fault_line self.now }
+        ensures { result.now ++ detail_of self.now ++ second_of self.now ++ 10 ∷ [] ≡ fault_line self.now }
     {
         match self {
             RunFault::Usage => "E usage",
@@ -102,6 +125,9 @@ impl RunFault {
             RunFault::ConfigKey(_) => "E config key ",
             RunFault::BadLine(_) => "E line ",
             RunFault::InputTooLong => "E input too long",
+            RunFault::Plan(_) => "E plan ",
+            RunFault::PlanEnd => "E plan end",
+            RunFault::Clip(fault) => clip_line::label(*fault),
             RunFault::MediaTwice(_) => "E media twice ",
             RunFault::MediaTotal(_) => "E media total ",
             RunFault::Device => "E device",
@@ -109,20 +135,59 @@ impl RunFault {
         }
     }
 
-    /// Returns the name or the number that the line ends with, and nothing if it has none. `digits` is room for a number.
+    /// Returns the name or the first number of the line, and nothing if it has none. `digits` is room for a number.
     fn detail<'a>(&'a self, digits: &'a mut Buffer) -> &'a str
         ensures { result.now ≡ detail_of self.entry.now }
     {
         match self {
             RunFault::ConfigKey(name) | RunFault::MediaTwice(name) => name.as_str(),
             RunFault::BadLine(number) | RunFault::MediaTotal(number) => digits.format(*number),
+            RunFault::Plan(number) => digits.format(*number),
+            RunFault::Clip(fault) => clip_line::first_number(*fault, digits),
             RunFault::Usage
             | RunFault::ConfigText
             | RunFault::InputTooLong
+            | RunFault::PlanEnd
             | RunFault::Device
             | RunFault::OutOfMemory => "",
         }
     }
+
+    /// Returns the second number of the line, if it has one. `digits` is room for it.
+    fn second<'a>(&'a self, digits: &'a mut Buffer) -> Option<&'a str>
+        ensures { MatchOption result (second_of self.entry.now ≡ []) (λ number. 32 ∷ number.now ≡ second_of self.entry.now) }
+    {
+        match self {
+            RunFault::Clip(fault) => clip_line::second_number(*fault, digits),
+            RunFault::Usage
+            | RunFault::ConfigText
+            | RunFault::ConfigKey(_)
+            | RunFault::BadLine(_)
+            | RunFault::InputTooLong
+            | RunFault::Plan(_)
+            | RunFault::PlanEnd
+            | RunFault::MediaTwice(_)
+            | RunFault::MediaTotal(_)
+            | RunFault::Device
+            | RunFault::OutOfMemory => None,
+        }
+    }
+}
+
+/// Writes a line with two numbers, which a blank parts.
+fn send_numbers<'a, K: Sink>(label: &'a str, first: &'a str, second: &'a str, to: &mut K) -> Sent
+    ensures { Sends result (label.now ++ first.now ++ 32 ∷ second.now ++ 10 ∷ []) (K.state to.old) (K.state to.new) }
+{
+    send_parts(
+        &[
+            label.as_bytes(),
+            first.as_bytes(),
+            b" ",
+            second.as_bytes(),
+            b"\n",
+        ],
+        to,
+    )
 }
 
 /// Writes a line that has two parts.
@@ -142,7 +207,15 @@ impl fmt::Display for RunFault {
                 write!(f, "the key {key} of the configuration is refused")
             }
             RunFault::BadLine(number) => write!(f, "line {number} is none that a script may have"),
-            RunFault::InputTooLong => write!(f, "the script has more than 4,294,967,296 bytes"),
+            RunFault::InputTooLong => write!(f, "the input has more bytes than are read"),
+            RunFault::Plan(number) => {
+                write!(
+                    f,
+                    "line {number} is none that may stand there in a cue sheet"
+                )
+            }
+            RunFault::PlanEnd => write!(f, "the cue sheet has no END"),
+            RunFault::Clip(fault) => write!(f, "the input is no clip: {fault}"),
             RunFault::MediaTwice(name) => {
                 let name = name.as_str();
                 write!(f, "two clip files have the name {name}")
@@ -180,6 +253,21 @@ impl From<ConfigFault> for RunFault {
             ConfigFault::NotToml => RunFault::ConfigText,
             ConfigFault::Key(name) => RunFault::ConfigKey(name),
             ConfigFault::OutOfMemory => RunFault::OutOfMemory,
+        }
+    }
+}
+
+impl From<ClipFault> for RunFault {
+    ghost from_gives = { λ error fault. fault ≡ fault_of_clip error };
+
+    fn from(error: ClipFault) -> RunFault {
+        match error {
+            ClipFault::BadMagic
+            | ClipFault::BadVersion
+            | ClipFault::BadField { .. }
+            | ClipFault::Short { .. }
+            | ClipFault::Long { .. } => RunFault::Clip(error),
+            ClipFault::OutOfMemory => RunFault::OutOfMemory,
         }
     }
 }

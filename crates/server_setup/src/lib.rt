@@ -5,6 +5,7 @@
 //! `fault_of_files` in `specs/`.
 #![tactic(auto)]
 
+mod clip_line;
 mod fault;
 pub mod laws;
 mod setup;

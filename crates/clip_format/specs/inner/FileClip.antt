@@ -5,4 +5,4 @@ use Rattle.clip_format.specs.declared.header.Header.{Header}
 
 -- the clip of a file with this header
 abbrev pub file_clip : Header → List ℕ → ClipView
-file_clip header bytes = record { geometry = header.size; frames = header.frames; bytes = drop 20 bytes }
+file_clip header bytes = record { version = header.version; geometry = header.size; frames = header.frames; bytes = drop 20 bytes }

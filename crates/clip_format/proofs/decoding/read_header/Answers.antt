@@ -35,3 +35,6 @@ returns-clause-is_file c =
     let header = IsHeader-no_fault bytes (sym c.in_default.ensures.value) in
     subst (λ (h : Header). IsClipFile bytes (file_clip h bytes)) (sym c.numbers_in.ensures)
     (IsClipFile-whole bytes (λ i. omega (arith, c.type_inv.bytes i)) header whole)
+
+pub returns-clause-of_bytes : goal.returns-clause-of_bytes
+returns-clause-of_bytes c = λ k. omega (arith, c.type_inv.bytes k)

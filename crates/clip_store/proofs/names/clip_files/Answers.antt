@@ -1,7 +1,7 @@
 use Rattle.std.proofs.Common.{◌≡◌, length, ◌∙◌, ap, sym, subst, IsPermutation}
 use Rattle.clip_store.specs.inner.Kept.{file_view, file_views}
 use Rattle.clip_store.specs.Listing.{sorted}
-use Rattle.clip_store.proofs.ClipFiles.{written_back}
+use Rattle.clip_format.proofs.Frames.{written_back}
 use Rattle.clip_store.proofs.Sorting.{sorted-views}
 use Rattle.clip_store.proofs.names.clip_files.Goals as goal
 

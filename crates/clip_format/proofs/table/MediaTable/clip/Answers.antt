@@ -7,7 +7,13 @@ pub returns-in-Ok-clause-lowered : goal.returns-in-Ok-clause-lowered
 returns-in-Ok-clause-lowered c =
     let at = entry_at c.self.inside.clips.entries c.args.self.now c.args.id (c.in_ok-clip.field-0-0.now, c.in_ok-clip.clip.now) c.self.view_is c.in_ok-clip.ensures.entry in
     let table = subst IsMediaTable c.self.view_is c.self.invariant in
-    subst IsReady c.in-Ok.is (ready_at c.args.self.now c.args.id _ table at)
+    (subst IsReady c.in-Ok.is (ready_at c.args.self.now c.args.id _ table at)).1
+
+pub returns-in-Ok-clause-version : goal.returns-in-Ok-clause-version
+returns-in-Ok-clause-version c =
+    let at = entry_at c.self.inside.clips.entries c.args.self.now c.args.id (c.in_ok-clip.field-0-0.now, c.in_ok-clip.clip.now) c.self.view_is c.in_ok-clip.ensures.entry in
+    let table = subst IsMediaTable c.self.view_is c.self.invariant in
+    (subst IsReady c.in-Ok.is (ready_at c.args.self.now c.args.id _ table at)).0
 
 pub returns-in-Err-clause-value : goal.returns-in-Err-clause-value
 returns-in-Err-clause-value c =

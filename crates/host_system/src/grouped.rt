@@ -1,0 +1,41 @@
+//! Numbers as a person reads them.
+
+use std::fmt;
+
+/// How many groups of three digits a number has at most.
+const GROUPS: u32 = 7;
+
+/// A number that is written with a comma between each three digits and the next, as `92,160,020`.
+#[derive(Clone, Copy)]
+pub(crate) struct Grouped(pub(crate) u64);
+
+impl fmt::Display for Grouped {
+    fn fmt<W: fmt::Write>(&self, f: &mut fmt::Formatter<W>) -> fmt::Result {
+        let mut has_begun = false;
+        for place in 0..GROUPS {
+            let group = group_at(self.0, place);
+            if has_begun {
+                write!(f, ",{group:03}")?;
+            } else if group > 0 || place + 1 == GROUPS {
+                write!(f, "{group}")?;
+                has_begun = true;
+            }
+        }
+        Ok(())
+    }
+}
+
+/// Returns the three digits of a number at a place, as a number. At place 0 are those of the quintillions, and at the last
+/// place those below a thousand.
+fn group_at(number: u64, place: u32) -> u64 {
+    let thousands = match place {
+        0 => number / 1_000_000_000_000_000_000,
+        1 => number / 1_000_000_000_000_000,
+        2 => number / 1_000_000_000_000,
+        3 => number / 1_000_000_000,
+        4 => number / 1_000_000,
+        5 => number / 1_000,
+        _ => number,
+    };
+    thousands % 1_000
+}

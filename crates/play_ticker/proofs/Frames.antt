@@ -1,7 +1,7 @@
 -- Ticks and frames, as a history grows.
-use Rattle.std.proofs.Common.{◌≡◌, ◌≢◌, ℕ, zero, suc, ◌+◌, ◌-◌, ◌<◌, ◌≤◌, Bool, true, false, cond, List, [], ◌∷◌, ◌++◌, length, take, get_or, refl, sym, ap, subst, ◌∙◌, arith, length-append, append_assoc}
+use Rattle.std.proofs.Common.{◌≡◌, ℕ, suc, ◌+◌, ◌≤◌, Bool, true, false, cond, List, [], ◌∷◌, ◌++◌, length, take, refl, sym, ap, ◌∙◌, arith, length-append, append_assoc}
 use Rattle.std.specs.List.{flat_map}
-use Rattle.std.proofs.lemmas.List.{append-nil, nil_from_length, take-append-le, take_at, get_or_push}
+use Rattle.std.proofs.lemmas.List.{append-nil, nil_from_length, take-append-le, take_at}
 use Rattle.std.proofs.lemmas.Grind.{flat_map-append}
 use mathlib.Core.List.{IsPrefix}
 use Rattle.play_types.specs.History.{ticks}
@@ -11,7 +11,7 @@ use Rattle.play_types.proofs.Histories.{ticks-append}
 use Rattle.history_model.specs.pictures.Media.{Setup}
 use Rattle.stage_lock.specs.Own.{is_own, made_by, positions}
 use Rattle.stage_lock.proofs.Positions.{made_by-append, positions-append}
-use Rattle.play_ticker.specs.Frames.{before_last_tick, frames_text, is_tick, raw_frame, tick_positions}
+use Rattle.play_ticker.specs.Frames.{frames_text, is_tick, raw_frame, tick_positions}
 
 -- there are as many positions as ticks
 pub positions_count : (k : ℕ) (xs : List Event) → length (positions is_tick k xs) ≡ ticks xs
@@ -144,35 +144,3 @@ frames_text-tick setup channel history =
     append-nil (f (length history)) ∙ ap (λ (h : List Event). raw_frame setup h channel) (take_at history (Tick ∷ []) (length history) refl) in
     ap (flat_map f) (tick_positions-tick history) ∙ flat_map-append f (tick_positions history) (length history ∷ [])
     ∙ (λ i. frames_front setup channel history (Tick ∷ []) history 0 (omega arith) i ++ last i)
-
--- a position is no greater than the length
-position_within : (xs : List Event) (k n : ℕ) → get_or (positions is_tick k xs) n 0 ≤ k + length xs
-position_within [] k n = omega arith
-position_within (x ∷ xs) k n = go (is_tick x) n (λ m. position_within xs (suc k) m)
-  where
-    go : (b : Bool) (n : ℕ) → ((m : ℕ) → get_or (positions is_tick (suc k) xs) m 0 ≤ suc k + length xs)
-        → get_or (cond b (k ∷ positions is_tick (suc k) xs) (positions is_tick (suc k) xs)) n 0 ≤ k + suc (length xs)
-    go true zero rec = omega arith
-    go true (suc n) rec = omega (arith, rec n)
-    go false n rec = omega (arith, rec n)
-
--- a history without further ticks has the same last tick
-pub before_last_tick-quiet : (seen history : List Event) → GoesOn seen history → before_last_tick history ≡ before_last_tick seen
-unfolding before_last_tick
-before_last_tick-quiet seen history on =
-    let last : List ℕ → ℕ = λ ps. get_or ps (length ps - 1) 0 in
-    let within : last (tick_positions seen) ≤ length seen = omega (arith, position_within seen 0 (length (tick_positions seen) - 1)) in
-    ap (λ (ps : List ℕ). take (last ps) history) (tick_positions-quiet seen history on)
-    ∙ ap (take (last (tick_positions seen))) (sym on.whole)
-    ∙ take-append-le (last (tick_positions seen)) seen on.rest within
-
--- the events before a tick that was just made
-pub before_last_tick-tick : (history : List Event) → before_last_tick (history ++ Tick ∷ []) ≡ history
-unfolding before_last_tick
-before_last_tick-tick history =
-    let last : List ℕ → ℕ = λ ps. get_or ps (length ps - 1) 0 in
-    let many : length (tick_positions history) ≡ length (tick_positions history ++ length history ∷ []) - 1 =
-    omega (arith, length-append (tick_positions history) (length history ∷ [])) in
-    ap (λ (ps : List ℕ). take (last ps) (history ++ Tick ∷ [])) (tick_positions-tick history)
-    ∙ ap (λ (n : ℕ). take n (history ++ Tick ∷ [])) (get_or_push (tick_positions history) (length history) 0 (length (tick_positions history ++ length history ∷ []) - 1) many)
-    ∙ take_at history (Tick ∷ []) (length history) refl

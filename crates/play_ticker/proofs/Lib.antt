@@ -1,5 +1,10 @@
 pub mod Frames
-pub mod Taking
 pub mod Steps
-pub mod LastPulse
+pub mod Showing
+pub mod Taking
 pub mod Ticking
+pub mod Items
+pub mod Counts
+pub mod StagedTicks
+pub mod WrittenSets
+pub mod Joining

@@ -1,31 +1,23 @@
 -- What a pass knows, pulse by pulse and at the end.
-use Rattle.std.proofs.Common.{◌≡◌, ◌≢◌, ◌⊎◌, ℕ, zero, suc, ◌+◌, ◌<◌, ◌≤◌, ◌||◌, Bool, true, false, cond, if◌then◌else◌, Option, Some, None, option_map, List, [], ◌∷◌, ◌++◌, length, take, map, refl, sym, ap, subst, ◌∙◌, inl, inr, ⊎_elim, arith, length-append, append_assoc, append-nil}
+use Rattle.std.proofs.Common.{◌≡◌, ℕ, ◌+◌, ◌≤◌, ◌||◌, Bool, true, false, if◌then◌else◌, Option, Some, None, option_map, List, [], ◌∷◌, ◌++◌, length, refl, sym, ap, subst, ◌∙◌, inl, inr, ⊎_elim, arith, length-append, append-nil}
 use Rattle.std.proofs.lemmas.List.{take_at}
 use mathlib.Core.List.{IsPrefix}
 use Rattle.play_types.specs.History.{stop_at, ticks}
-use Rattle.play_types.specs.Scene.{IsConfigured}
-use Rattle.play_types.specs.Config.{ChannelView}
 use Rattle.play_types.specs.declared.event.Event.{Event}
-use Rattle.play_types.specs.declared.event.Event.TheVariants.{Do, Batch, Tick, Stop}
+use Rattle.play_types.specs.declared.event.Event.TheVariants.{Tick, Stop}
 use Rattle.play_types.specs.declared.event.TheConstants.{MAX_TICKS}
 use Rattle.play_types.proofs.Histories.{ticks-append}
 use Rattle.play_outside.specs.ClockState.{ClockState, ClockTold, after_pulse, one_pulse}
-use Rattle.clip_format.specs.Table.{Entry}
-use Rattle.history_model.specs.pictures.Media.{Setup}
 use Rattle.history_model.specs.scripts.History.{server}
-use Rattle.play_scene.specs.Frames.{FrameView, frame_at, zero_frame}
-use Rattle.play_scene.specs.Picture.{clips_of}
-use Rattle.band_render.specs.Rendered.{AreRendered, sizes}
-use Rattle.band_render.specs.Histories.{HasFrame, Represents, scenes_after}
 use Rattle.stage_core.proofs.Stages.{stop_at-more}
 use Rattle.stage_lock.specs.Own.{is_own, made_by}
-use Rattle.stage_lock.specs.Views.{PassView, SharedView}
+use Rattle.stage_lock.specs.Views.{PassView}
 use Rattle.stage_lock.specs.Calls.{Adds, IsFound, Looks, added, looked}
 use Rattle.stage_lock.proofs.Prefixes.{prefix_self, prefix_trans}
-use Rattle.play_ticker.specs.Ends.{EndsPass, MakesStop, StopsStage, after_pulses, more_pulses, stops_asked}
-use Rattle.play_ticker.specs.Frames.{AreBlank, raw_frame, setup_for, tick_positions}
+use Rattle.play_ticker.specs.Ends.{EndsPass, StopsStage, after_pulses, more_pulses, stops_asked}
+use Rattle.play_ticker.specs.Frames.{tick_positions}
 use Rattle.play_ticker.specs.inner.Loop.{IsAtEnd, IsKnown, MadeTicks, Stops, StopsAt}
-use Rattle.play_ticker.specs.inner.Pulse.{MakesTick, Ticking, bytes_in}
+use Rattle.play_ticker.specs.inner.Staging.{MakesTick}
 use Rattle.play_ticker.specs.declared.ending.TickEnd.{TickEnd}
 use Rattle.play_ticker.specs.declared.ending.TickEnd.TheVariants.{ClockClosed, Ended, TicksOver, ClockFault, OutFault}
 use Rattle.play_ticker.proofs.Frames.{GoesOn, goes_on, goes_on_by_stop, goes_on-trans, positions_count, ticks_are_own, tick_positions-quiet, tick_positions-tick, ticks-quiet}
@@ -60,13 +52,13 @@ added_tick pass history first =
     }
 
 -- what is told of pass 0 after a tick of its own
-pub made_tick : (entries : List Entry) (old new : Ticking) (h : MakesTick entries old new) → old.pass.number ≡ 0 → MadeTicks old.pass → MadeTicks new.pass
-made_tick entries old new h first was =
-    let is : new.pass ≡ ticked h.history old.pass = h.after ∙ added_tick old.pass h.history first in
-    let on : GoesOn old.pass.seen h.history = found_goes_on old.pass h.history first h.found in
+pub made_tick : (old new : PassView) (h : MakesTick old new) → old.number ≡ 0 → MadeTicks old → MadeTicks new
+made_tick old new h first was =
+    let is : new ≡ ticked h.history old = h.after ∙ added_tick old h.history first in
+    let on : GoesOn old.seen h.history = found_goes_on old h.history first h.found in
     let more : ticks (h.history ++ Tick ∷ []) ≤ MAX_TICKS = omega (arith, h.time, ticks-append h.history (Tick ∷ [])) in
     subst MadeTicks (sym is) (record {
-      made = ap (λ (l : List ℕ). l ++ length h.history ∷ []) (was.made ∙ sym (tick_positions-quiet old.pass.seen h.history on)) ∙ sym (tick_positions-tick h.history);
+      made = ap (λ (l : List ℕ). l ++ length h.history ∷ []) (was.made ∙ sym (tick_positions-quiet old.seen h.history on)) ∙ sym (tick_positions-tick h.history);
       few = more;
     })
 
@@ -105,31 +97,6 @@ no_pulses (Some told) =
 
 pub pulses-none : (state : ClockState) → state ≡ after_pulses 0 state
 pulses-none state = ap (λ (told : Option ClockTold). record state { told = told }) (no_pulses state.told)
-
--- what frames represent, if other events than ticks are added
-abbrev pub StaysShown : Type 0
-StaysShown = (setup : Setup) (history : List Event) (event : Event) (entries : List Entry) (frames : List FrameView) → event ≢ Tick →
-    Represents setup history entries frames → Represents setup (history ++ event ∷ []) entries frames
-
-shown_after : StaysShown → (setup : Setup) (entries : List Entry) (frames : List FrameView) (seen rest : List Event) → ticks rest ≡ 0 →
-    Represents setup seen entries frames → Represents setup (seen ++ rest) entries frames
-shown_after law setup entries frames seen [] quiet is = subst (λ (h : List Event). Represents setup h entries frames) (sym (append-nil seen)) is
-shown_after law setup entries frames seen (Do tag cmd ∷ rest) quiet is =
-    subst (λ (h : List Event). Represents setup h entries frames) (append_assoc seen (Do tag cmd ∷ []) rest)
-    (shown_after law setup entries frames (seen ++ Do tag cmd ∷ []) rest quiet (law setup seen (Do tag cmd) entries frames (λ e. absurd cc) is))
-shown_after law setup entries frames seen (Batch tag cmds ∷ rest) quiet is =
-    subst (λ (h : List Event). Represents setup h entries frames) (append_assoc seen (Batch tag cmds ∷ []) rest)
-    (shown_after law setup entries frames (seen ++ Batch tag cmds ∷ []) rest quiet (law setup seen (Batch tag cmds) entries frames (λ e. absurd cc) is))
-shown_after law setup entries frames seen (Tick ∷ rest) quiet is = absurd (omega (arith, quiet))
-shown_after law setup entries frames seen (Stop tag ∷ rest) quiet is =
-    subst (λ (h : List Event). Represents setup h entries frames) (append_assoc seen (Stop tag ∷ []) rest)
-    (shown_after law setup entries frames (seen ++ Stop tag ∷ []) rest quiet (law setup seen (Stop tag) entries frames (λ e. absurd cc) is))
-
--- frames represent a history that goes on without a tick
-pub shown-quiet : StaysShown → (setup : Setup) (entries : List Entry) (frames : List FrameView) (seen history : List Event) → GoesOn seen history →
-    Represents setup seen entries frames → Represents setup history entries frames
-shown-quiet law setup entries frames seen history on is =
-    subst (λ (h : List Event). Represents setup h entries frames) on.whole (shown_after law setup entries frames seen on.rest on.quiet is)
 
 or_true : (b : Bool) → (b || true) ≡ true
 or_true true = refl
@@ -221,21 +188,18 @@ finished ClockFault old new first at h = finished_stop ClockFault old new refl (
 finished (OutFault channel) old new first at h = finished_stop (OutFault channel) old new refl (stopped old new first h)
 
 -- what is told of pass 0 at the end, if `base` is the pass before all pulses
-pub ends_pass : (end : TickEnd) (base old new : PassView) → old.number ≡ 0 → old.ends ≡ base.ends → new.stage ≡ old.stage → (IsKnown old → MadeTicks old) → IsAtEnd end old → StopsAt end old new
+pub ends_pass : (end : TickEnd) (base old new : PassView) → old.number ≡ 0 → old.ends ≡ base.ends → (IsKnown old → MadeTicks old) → IsAtEnd end old → StopsAt end old new
     → EndsPass end base new
-ends_pass ClockClosed base old new first same of ticked at h = (stopped old new first h).stops base same
-ends_pass (Ended n) base old new first same of ticked at h =
+ends_pass ClockClosed base old new first same ticked at h = (stopped old new first h).stops base same
+ends_pass (Ended n) base old new first same ticked at h =
     (ap (λ (p : PassView). stop_at p.seen) h ∙ at.0, ap (λ (p : PassView). p.ends) h ∙ same)
-ends_pass TicksOver base old new first same of ticked at h =
+ends_pass TicksOver base old new first same ticked at h =
     let s : Stopped old new = stopped old new first h in
     let count : ticks new.seen ≡ ticks old.seen = ticks-quiet old.seen new.seen s.on in
     let few : ticks old.seen ≤ MAX_TICKS = (ticked s.known).few in
     (s.stops base same, omega (arith, count, few, at))
-ends_pass ClockFault base old new first same of ticked at h = (stopped old new first h).stops base same
-ends_pass (OutFault channel) base old new first same of ticked at h =
-    let s : Stopped old new = stopped old new first h in
-    let count : ticks new.seen ≡ ticks old.seen = ticks-quiet old.seen new.seen s.on in
-    (s.stops base same, omega (arith, count, at.0), subst (λ (p : SharedView). IsConfigured p.sizes.channels channel) (sym of) at.1)
+ends_pass ClockFault base old new first same ticked at h = (stopped old new first h).stops base same
+ends_pass (OutFault channel) base old new first same ticked at h = (stopped old new first h).stops base same
 
 -- the ticks that pass 0 has made are those that it has seen at the end
 pub all_made : (end : TickEnd) (old new : PassView) → Finished end old new → MadeTicks old → new.made ≡ tick_positions new.seen
@@ -251,11 +215,6 @@ pub record Goes (base pass : PassView) : Type 0 where
   pub turns : pass.turns ≡ base.turns + length pass.made
   pub ends : pass.ends ≡ base.ends
 
--- it has made ticks alone, and the frames represent what it has seen
-pub record Shows (setup : Setup) (entries : List Entry) (pass : PassView) (frames : List FrameView) : Type 0 where
-  pub made : MadeTicks pass
-  pub shown : Represents setup pass.seen entries frames
-
 pub goes_first : (pass : PassView) → pass.number ≡ 0 → pass.made ≡ [] → Goes pass pass
 goes_first pass first none = record {
   first = first;
@@ -264,24 +223,24 @@ goes_first pass first none = record {
   ends = refl;
 }
 
-pub goes_tick : (entries : List Entry) (base : PassView) (old new : Ticking) → MakesTick entries old new → Goes base old.pass → Goes base new.pass
-goes_tick entries base old new h was =
-    let is : new.pass ≡ ticked h.history old.pass = h.after ∙ added_tick old.pass h.history was.first in
-    let many = length-append old.pass.made (length h.history ∷ []) in
+pub goes_tick : (base old new : PassView) → MakesTick old new → Goes base old → Goes base new
+goes_tick base old new h was =
+    let is : new ≡ ticked h.history old = h.after ∙ added_tick old h.history was.first in
+    let many = length-append old.made (length h.history ∷ []) in
     let longer : IsPrefix h.history (h.history ++ Tick ∷ []) = (Tick ∷ [], refl) in
-    let all : Goes base (ticked h.history old.pass) = record {
+    let all : Goes base (ticked h.history old) = record {
       first = was.first;
-      seen = prefix_trans base.seen old.pass.seen (h.history ++ Tick ∷ []) was.seen (prefix_trans old.pass.seen h.history (h.history ++ Tick ∷ []) h.found.seen longer);
+      seen = prefix_trans base.seen old.seen (h.history ++ Tick ∷ []) was.seen (prefix_trans old.seen h.history (h.history ++ Tick ∷ []) h.found.seen longer);
       turns = omega (arith, was.turns, many);
       ends = was.ends;
     } in
     subst (Goes base) (sym is) all
 
 -- one tick more was made
-pub made_more : (entries : List Entry) (old new : Ticking) (h : MakesTick entries old new) → old.pass.number ≡ 0 → length new.pass.made ≡ length old.pass.made + 1
-made_more entries old new h first =
-    let is : new.pass ≡ ticked h.history old.pass = h.after ∙ added_tick old.pass h.history first in
-    omega (arith, ap (λ (p : PassView). length p.made) is, length-append old.pass.made (length h.history ∷ []))
+pub made_more : (old new : PassView) (h : MakesTick old new) → old.number ≡ 0 → length new.made ≡ length old.made + 1
+made_more old new h first =
+    let is : new ≡ ticked h.history old = h.after ∙ added_tick old h.history first in
+    omega (arith, ap (λ (p : PassView). length p.made) is, length-append old.made (length h.history ∷ []))
 
 -- a pass that looked has made what it had made
 pub goes_looked : (base old new : PassView) (IsTold : List Event → Type 0) → Looks old IsTold new → Goes base old → (new.number ≡ 0) × IsPrefix base.seen new.seen × (new.made ≡ old.made) × (new.turns ≡ base.turns + (length new.made + 1)) × (new.ends ≡ base.ends)
@@ -290,56 +249,3 @@ goes_looked base old new IsTold h was =
     let turns : old.turns + 1 ≡ base.turns + (length old.made + 1) = omega (arith, was.turns) in
     let all : Is (looked old h.history) = (was.first, prefix_trans base.seen old.seen h.history was.seen h.found.seen, refl, turns, was.ends) in
     subst Is (sym h.after) all
-
--- what frames represent after a tick
-abbrev pub ShowsTick : Type 0
-ShowsTick = (setup : Setup) (history : List Event) (entries : List Entry) (prev next : List FrameView) →
-    Represents setup history entries prev → AreRendered prev entries (scenes_after history (length prev)) next → Represents setup (history ++ Tick ∷ []) entries next
-
--- the frames of a tick that was made
-pub rendered_by : (entries : List Entry) (old new : Ticking) (h : MakesTick entries old new) → length old.frames ≡ old.pass.stage.sizes.channels
-    → AreRendered old.frames entries (scenes_after h.history (length old.frames)) new.frames
-rendered_by entries old new h many = subst (λ (n : ℕ). AreRendered old.frames entries (scenes_after h.history n) new.frames) (sym many) h.rendered
-
-pub shows_tick : StaysShown → ShowsTick → (setup : Setup) (entries : List Entry) (old new : Ticking) (h : MakesTick entries old new) → old.pass.number ≡ 0
-    → length old.frames ≡ old.pass.stage.sizes.channels → Shows setup entries old.pass old.frames → Shows setup entries new.pass new.frames
-shows_tick stays tick setup entries old new h first many was =
-    let is : new.pass ≡ ticked h.history old.pass = h.after ∙ added_tick old.pass h.history first in
-    let on : GoesOn old.pass.seen h.history = found_goes_on old.pass h.history first h.found in
-    let before : Represents setup h.history entries old.frames = shown-quiet stays setup entries old.frames old.pass.seen h.history on was.shown in
-    record {
-      made = made_tick entries old new h first was.made;
-      shown = subst (λ (p : PassView). Represents setup p.seen entries new.frames) (sym is) (tick setup h.history entries old.frames new.frames before (rendered_by entries old new h many));
-    }
-
--- what blank frames represent
-abbrev pub ShowsBlank : Type 0
-ShowsBlank = (setup : Setup) (channels : List ChannelView) (entries : List Entry) → setup.clips ≡ clips_of entries →
-    setup.channels ≡ sizes (map zero_frame channels) → Represents setup [] entries (map zero_frame channels)
-
-pub shows_first : StaysShown → ShowsBlank → (entries : List Entry) (pass : PassView) (frames : List FrameView) → pass.number ≡ 0 → pass.made ≡ [] → AreBlank frames → IsKnown pass
-    → Shows (setup_for frames entries) entries pass frames
-shows_first stays first_law entries pass frames first none blank known =
-    let setup : Setup = setup_for frames entries in
-    let nothing : Represents setup [] entries (map zero_frame blank.channels) = first_law setup blank.channels entries refl (ap sizes blank.blank) in
-    let empty : Represents setup [] entries frames = subst (Represents setup [] entries) (sym blank.blank) nothing in
-    record {
-      made = made_none pass first none known;
-      shown = shown-quiet stays setup entries frames [] pass.seen (from_nothing pass.seen (none_made pass first none known)) empty;
-    }
-
--- the bytes that were written are the frame of the tick
-abbrev pub HasBytes : Type 0
-HasBytes = (setup : Setup) (history : List Event) (entries : List Entry) (prev next : List FrameView) (channel : ℕ) →
-    Represents setup history entries prev → AreRendered prev entries (scenes_after history (length prev)) next →
-    IsConfigured (length prev) channel → HasFrame setup history channel (frame_at channel next)
-
-pub tick_bytes : StaysShown → HasBytes → (setup : Setup) (entries : List Entry) (old new : Ticking) (h : MakesTick entries old new) → old.pass.number ≡ 0
-    → length old.frames ≡ old.pass.stage.sizes.channels → Shows setup entries old.pass old.frames → (channel : ℕ) → IsConfigured (length old.frames) channel
-    → bytes_in new.frames channel ≡ raw_frame setup h.history channel
-unfolding raw_frame
-tick_bytes stays bytes setup entries old new h first many was channel configured =
-    let on : GoesOn old.pass.seen h.history = found_goes_on old.pass h.history first h.found in
-    let before : Represents setup h.history entries old.frames = shown-quiet stays setup entries old.frames old.pass.seen h.history on was.shown in
-    let has = bytes setup h.history entries old.frames new.frames channel before (rendered_by entries old new h many) configured in
-    λ i. has.picture i ++ has.sound i

@@ -1,17 +1,17 @@
 -- What outputs took, pulse by pulse.
 use Rattle.std.proofs.Common.{◌≡◌, ◌≢◌, ℕ, zero, suc, ◌+◌, ◌<◌, ◌≤◌, List, [], ◌∷◌, ◌++◌, length, get_or, set, refl, sym, ap, subst, ◌∙◌, arith}
+use Rattle.std.proofs.lemmas.List.{nil_from_length}
+use Rattle.play_types.specs.History.{ticks}
 use Rattle.play_types.specs.declared.event.Event.{Event}
 use Rattle.play_types.specs.declared.event.Event.TheVariants.{Tick}
 use Rattle.play_outside.specs.SinkState.{SinkState, after_taking}
 use Rattle.play_outside.specs.Sink.{Fails}
 use Rattle.play_outside.proofs.Taking.{after_taking-after_taking, after_taking-nil}
 use Rattle.history_model.specs.pictures.Media.{Setup}
-use Rattle.play_ticker.specs.Frames.{before_last_tick, frames_text, raw_frame, tick_positions}
-use Rattle.play_ticker.specs.Outputs.{EachOutput, IsCutAt, IsWritten, Shown, TakesFrames}
-use Rattle.play_ticker.specs.inner.Pulse.{FailsAt}
-use Rattle.play_ticker.specs.declared.ending.TickEnd.{TickEnd}
-use Rattle.play_ticker.specs.declared.ending.TickEnd.TheVariants.{ClockClosed, Ended, TicksOver, ClockFault, OutFault}
-use Rattle.play_ticker.proofs.Frames.{GoesOn, before_last_tick-quiet, before_last_tick-tick, frames_text-none, frames_text-quiet, frames_text-tick}
+use Rattle.play_ticker.specs.Frames.{frames_text, raw_frame, tick_positions}
+use Rattle.play_ticker.specs.Outputs.{AllTakeFrames, EachOutput, IsCutAt, TakesFrames}
+use Rattle.play_ticker.specs.inner.Writing.{FailsAt}
+use Rattle.play_ticker.proofs.Frames.{GoesOn, frames_text-none, frames_text-quiet, frames_text-tick, positions_count}
 
 -- what holds of each output as it is
 pub each_same : {O : Type 0} (P : ℕ → O → O → Type 0) (k : ℕ) (xs : List O) → ((channel : ℕ) (x : O) → k ≤ channel → P channel x x) → EachOutput P k xs xs
@@ -142,54 +142,43 @@ each_length P k [] (y ∷ ys) p = absurd p
 each_length P k (x ∷ xs) [] p = absurd p
 each_length P k (x ∷ xs) (y ∷ ys) p = omega (arith, each_length P (suc k) xs ys p.1)
 
--- outputs that took the frames of a history, and then one frame more
-pub taken_tick : (setup : Setup) (seen history : List Event) (channel : ℕ) (bytes : List ℕ) (old mid new : SinkState) → GoesOn seen history → bytes ≡ raw_frame setup history channel
-    → TakesFrames (record { setup = setup; history = seen }) channel old mid → new ≡ after_taking mid bytes
+-- an output that took the frames of a history, and then one frame more
+pub taken_tick : (setup : Setup) (history : List Event) (channel : ℕ) (bytes : List ℕ) (old mid new : SinkState) → bytes ≡ raw_frame setup history channel
+    → TakesFrames (record { setup = setup; history = history }) channel old mid → new ≡ after_taking mid bytes
     → TakesFrames (record { setup = setup; history = history ++ Tick ∷ [] }) channel old new
-taken_tick setup seen history channel bytes old mid new on frame before now =
-    let text : frames_text setup seen channel ++ bytes ≡ frames_text setup (history ++ Tick ∷ []) channel =
-    (λ i. sym (frames_text-quiet setup channel seen history on) i ++ frame i) ∙ sym (frames_text-tick setup channel history) in
-    now ∙ ap (λ (s : SinkState). after_taking s bytes) before ∙ after_taking-after_taking old (frames_text setup seen channel) bytes ∙ ap (after_taking old) text
+taken_tick setup history channel bytes old mid new frame before now =
+    let text : frames_text setup history channel ++ bytes ≡ frames_text setup (history ++ Tick ∷ []) channel =
+    ap (λ (b : List ℕ). frames_text setup history channel ++ b) frame ∙ sym (frames_text-tick setup channel history) in
+    now ∙ ap (λ (s : SinkState). after_taking s bytes) before ∙ after_taking-after_taking old (frames_text setup history channel) bytes ∙ ap (after_taking old) text
 
--- outputs that took the frames of a history, and of which one then failed
-pub cut_tick : (setup : Setup) (seen history : List Event) (failed channel : ℕ) (bytes : ℕ → List ℕ) (old mid new : SinkState) → GoesOn seen history → bytes channel ≡ raw_frame setup history channel
-    → TakesFrames (record { setup = setup; history = seen }) channel old mid → FailsAt failed bytes channel mid new
-    → IsCutAt failed (record { setup = setup; history = history ++ Tick ∷ [] }) channel old new
-cut_tick setup seen history failed channel bytes old mid new on frame before now =
-    let earlier : mid ≡ after_taking old (frames_text setup (before_last_tick (history ++ Tick ∷ [])) channel) =
-    before ∙ ap (after_taking old) (sym (frames_text-quiet setup channel seen history on) ∙ ap (λ (h : List Event). frames_text setup h channel) (sym (before_last_tick-tick history))) in
-    let last : bytes channel ≡ raw_frame setup (before_last_tick (history ++ Tick ∷ [])) channel =
-    frame ∙ ap (λ (h : List Event). raw_frame setup h channel) (sym (before_last_tick-tick history)) in
-    record {
-      below = λ lt. taken_tick setup seen history channel (bytes channel) old mid new on frame before (now.below lt);
-      failing = λ same. subst (λ (s : SinkState). Fails (raw_frame setup (before_last_tick (history ++ Tick ∷ [])) channel) s new) earlier
-          (subst (λ (b : List ℕ). Fails b mid new) last (now.failing same));
-      above = λ lt. now.above lt ∙ earlier;
-    }
+-- an output that took the frames of a history, when one of the outputs then failed
+pub cut_tick : (setup : Setup) (history : List Event) (failed channel : ℕ) (bytes : ℕ → List ℕ) (old mid new : SinkState) → bytes channel ≡ raw_frame setup history channel
+    → TakesFrames (record { setup = setup; history = history }) channel old mid → FailsAt failed bytes channel mid new
+    → IsCutAt failed (record { setup = setup; history = history }) channel old new
+cut_tick setup history failed channel bytes old mid new frame before now = record {
+  below = λ lt. taken_tick setup history channel (bytes channel) old mid new frame before (now.below lt);
+  failing = λ same. subst (λ (s : SinkState). Fails (raw_frame setup history channel) s new) before
+      (subst (λ (b : List ℕ). Fails b mid new) frame (now.failing same));
+  above = λ lt. now.above lt ∙ before;
+}
 
 -- the frames of a history that goes on without a tick
-pub still_written : (end : TickEnd) (setup : Setup) (seen history : List Event) (channel : ℕ) (old new : SinkState) → GoesOn seen history
-    → IsWritten end (record { setup = setup; history = seen }) channel old new → IsWritten end (record { setup = setup; history = history }) channel old new
-still_written end setup seen history channel old new on is =
-    let text : frames_text setup seen channel ≡ frames_text setup history channel = sym (frames_text-quiet setup channel seen history on) in
-    let last : before_last_tick seen ≡ before_last_tick history = sym (before_last_tick-quiet seen history on) in
-    go end text last is
-  where
-    go : (end : TickEnd) → frames_text setup seen channel ≡ frames_text setup history channel → before_last_tick seen ≡ before_last_tick history
-        → IsWritten end (record { setup = setup; history = seen }) channel old new → IsWritten end (record { setup = setup; history = history }) channel old new
-    go ClockClosed text last is = is ∙ ap (after_taking old) text
-    go (Ended at) text last is = is ∙ ap (after_taking old) text
-    go TicksOver text last is = is ∙ ap (after_taking old) text
-    go ClockFault text last is = is ∙ ap (after_taking old) text
-    go (OutFault failed) text last is = record {
-      below = λ lt. is.below lt ∙ ap (after_taking old) text;
-      failing = λ same. subst (λ (h : List Event). Fails (raw_frame setup h channel) (after_taking old (frames_text setup h channel)) new) last (is.failing same);
-      above = λ lt. subst (λ (h : List Event). new ≡ after_taking old (frames_text setup h channel)) last (is.above lt);
-    }
+pub still_taken : {O : Type 0} (state : O → SinkState) (setup : Setup) (seen history : List Event) (xs ys : List O) → GoesOn seen history
+    → AllTakeFrames state (record { setup = setup; history = seen }) xs ys → AllTakeFrames state (record { setup = setup; history = history }) xs ys
+still_taken state setup seen history xs ys on is =
+    each_map
+    (λ channel old new. TakesFrames (record { setup = setup; history = seen }) channel (state old) (state new))
+    (λ channel old new. TakesFrames (record { setup = setup; history = history }) channel (state old) (state new))
+    1 xs ys
+    (λ channel x y le lt h. h ∙ ap (after_taking (state x)) (sym (frames_text-quiet setup channel seen history on)))
+    is
 
 -- before the first tick
-pub outs_first : {O : Type 0} (state : O → SinkState) (setup : Setup) (seen : List Event) (xs : List O) → tick_positions seen ≡ []
-    → EachOutput (λ channel old new. TakesFrames (record { setup = setup; history = seen }) channel (state old) (state new)) 1 xs xs
-outs_first state setup seen xs none =
+pub outs_first : {O : Type 0} (state : O → SinkState) (setup : Setup) (seen : List Event) (xs : List O) → ticks seen ≡ 0
+    → AllTakeFrames state (record { setup = setup; history = seen }) xs xs
+outs_first state setup seen xs quiet =
     each_same (λ channel old new. TakesFrames (record { setup = setup; history = seen }) channel (state old) (state new)) 1 xs
-    (λ channel x le. sym (ap (after_taking (state x)) (frames_text-none setup channel seen none) ∙ after_taking-nil (state x)))
+    (λ channel x le. sym (ap (after_taking (state x)) (frames_text-none setup channel seen (no_positions seen quiet)) ∙ after_taking-nil (state x)))
+  where
+    no_positions : (seen : List Event) → ticks seen ≡ 0 → tick_positions seen ≡ []
+    no_positions seen quiet = nil_from_length (tick_positions seen) (positions_count 0 seen ∙ quiet)

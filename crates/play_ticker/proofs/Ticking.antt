@@ -1,61 +1,43 @@
 -- What a tick of the shared stage gives a pulse.
-use Rattle.std.proofs.Common.{◌≡◌, ◌⊎◌, ⊎_elim, inl, inr, ℕ, ◌≤◌, Some, None, Result, Ok, Err, List, length, map, refl, sym, ap, subst, ◌∙◌}
+use Rattle.std.proofs.Common.{◌≡◌, ◌⊎◌, ⊎_elim, inl, inr, ℕ, Some, Result, Ok, Err, List, [], ◌∷◌, ◌++◌, length, ap, ◌∙◌}
 use Rattle.std.specs.Prelude.{MatchResult}
 use Rattle.std.proofs.lemmas.List.FromFn.{length-map-range_with_len}
-use Rattle.play_types.specs.History.{stop_at, ticks}
+use Rattle.play_types.specs.History.{stop_at}
 use Rattle.play_types.specs.declared.drawn.Drawn.{Drawn}
-use Rattle.play_types.specs.declared.event.Event.{Event}
 use Rattle.play_types.specs.declared.event.Event.TheVariants.{Tick, Stop}
-use Rattle.play_types.specs.declared.event.TheConstants.{MAX_TICKS}
-use Rattle.clip_format.specs.Table.{Entry}
 use Rattle.history_model.specs.pictures.Scene.{scene}
-use Rattle.play_scene.specs.Frames.{FrameView}
-use Rattle.band_render.specs.Rendered.{AreRendered}
 use Rattle.band_render.specs.Histories.{scenes_after}
-use Rattle.stage_core.specs.Stage.{IsNoTick}
 use Rattle.stage_core.specs.declared.fault.Ended.{Ended as Stopped}
-use Rattle.stage_core.specs.declared.fault.TickFault.{TickFault}
-use Rattle.stage_core.specs.declared.fault.TickFault.TheVariants as fault
-use Rattle.stage_lock.specs.Views.{PassView, SharedView, Sizes, journal_of}
+use Rattle.stage_lock.specs.Views.{PassView, Sizes}
 use Rattle.stage_lock.specs.Calls.{Adds, IsStopped, IsTicked, Looks, stop_tag}
-use Rattle.play_outside.specs.SinkState.{SinkState}
-use Rattle.play_ticker.specs.Ends.{end_of}
-use Rattle.play_ticker.specs.Outputs.{EachOutput}
 use Rattle.play_ticker.specs.inner.Loop.{Stops, StopsAt}
-use Rattle.play_ticker.specs.inner.Pulse.{MakesPulse, MakesTick, TakesPulse, Ticking}
+use Rattle.scene_pipe.specs.declared.item.Taken.{Taken}
+use Rattle.scene_pipe.specs.declared.item.Taken.TheVariants.{Staged}
+use Rattle.play_ticker.specs.inner.Items.{staged_item}
+use Rattle.play_ticker.specs.inner.Staging.{GetsRoom, Staging, StagesTick}
+use Rattle.scene_pipe.specs.Views.{StageView}
+use Rattle.play_outside.specs.ClockState.{after_pulse}
 use Rattle.play_ticker.specs.declared.ending.TickEnd.{TickEnd}
 use Rattle.play_ticker.specs.declared.ending.TickEnd.TheVariants.{ClockClosed, Ended, TicksOver, ClockFault, OutFault}
-use Rattle.play_ticker.proofs.Taking.{each_same}
 
--- a tick was made, and its scenes were rendered
-pub tick_made : (entries : List Entry) (old new : PassView) (frames next : List FrameView) (stage : SharedView) (number : ℕ) (drawn : List (List Drawn)) → old.stage ≡ stage
-    → Adds old Tick (IsTicked stage.sizes number drawn) new → AreRendered frames entries drawn next
-    → MakesTick entries (record { pass = old; frames = frames }) (record { pass = new; frames = next })
-tick_made entries old new frames next stage number drawn of h rendered = record {
-  history = h.history;
-  found = h.found;
-  time = h.told.time.ticks;
-  after = h.after;
-  rendered = subst (λ (d : List (List Drawn)). AreRendered frames entries d next)
-      (h.told.scenes ∙ ap (λ (s : SharedView). scenes_after h.history s.sizes.channels) (sym of)) rendered;
-}
+-- a tick was made, and its set was sent
+pub stages_tick : (old new : Staging) (got : StageView) (sizes : Sizes) (number : ℕ) (drawn : List (List Drawn)) → GetsRoom old.pipe got → Adds old.pass Tick (IsTicked sizes number drawn) new.pass
+    → new.clock ≡ after_pulse old.clock → new.pipe ≡ record got { sent = got.sent ++ Staged number drawn ∷ [] } → sizes.channels ≡ got.channels → StagesTick old new
+stages_tick old new got sizes number drawn room h clock sent many =
+    let scenes : drawn ≡ scenes_after h.history got.channels = h.told.scenes ∙ ap (scenes_after h.history) many in
+    let item : Staged number drawn ≡ staged_item got.channels h.history = λ i. Staged (h.told.number i) (scenes i) in
+    record {
+      got = got;
+      room = room;
+      tick = record { history = h.history; found = h.found; time = h.told.time.ticks; after = h.after };
+      clock = clock;
+      sent = sent ∙ ap (λ (t : Taken). record got { sent = got.sent ++ t ∷ [] }) item;
+    }
 
 -- there is a scene for each channel
 pub scenes_many : (old new : PassView) (sizes : Sizes) (number : ℕ) (drawn : List (List Drawn)) → Adds old Tick (IsTicked sizes number drawn) new → length drawn ≡ sizes.channels
 scenes_many old new sizes number drawn h =
     ap (λ (d : List (List Drawn)). length d) h.told.scenes ∙ length-map-range_with_len (scene h.history) 1 sizes.channels
-
--- a tick was refused
-pub tick_refused : (refused : TickFault) (entries : List Entry) (old new : PassView) (frames : List FrameView) (sizes : Sizes) → Looks old (λ history. IsNoTick (journal_of sizes history) refused) new
-    → MakesPulse (Err (end_of refused)) entries (record { pass = old; frames = frames }) (record { pass = new; frames = frames })
-tick_refused (fault.Ended at) entries old new frames sizes h = record { history = h.history; found = h.found; told = h.told; after = h.after }
-tick_refused fault.TicksOver entries old new frames sizes h = record { history = h.history; found = h.found; told = h.told.1; after = h.after }
-
--- and nothing was written
-pub nothing_taken : {O : Type 0} (f : O → SinkState) (refused : TickFault) (frames : List FrameView) (xs : List O)
-    → EachOutput (λ channel before after. TakesPulse (Err (end_of refused)) frames channel (f before) (f after)) 1 xs xs
-nothing_taken f (fault.Ended at) frames xs = each_same (λ channel before after. f after ≡ f before) 1 xs (λ channel x le. refl)
-nothing_taken f fault.TicksOver frames xs = each_same (λ channel before after. f after ≡ f before) 1 xs (λ channel x le. refl)
 
 -- a stop was made, or another was found
 pub stops_either : (result : Result ℕ Stopped) (old new : PassView)

@@ -1,5 +1,5 @@
 -- How the ticks end: the pulses that were taken, the looks at the stage, and who stopped it.
-use Rattle.std.specs.Prelude.{◌≡◌, ℕ, ◌+◌, ◌<◌, ◌⊎◌, true, Some, List, [], ◌∷◌, ◌++◌, take, option_map}
+use Rattle.std.specs.Prelude.{◌≡◌, ℕ, ◌+◌, ◌⊎◌, true, Some, [], ◌∷◌, ◌++◌, take, option_map}
 use Rattle.play_types.specs.History.{stop_at, ticks}
 use Rattle.play_types.specs.Scene.{IsConfigured}
 use Rattle.play_types.specs.declared.event.Event.TheVariants.{Stop}
@@ -68,11 +68,33 @@ pub record StopsStage (old new : PassView) : Type 0 where
   pub stopped : stop_at new.seen ≡ Some at
   pub by : MakesStop at new ⊎ (new.ends ≡ old.ends)
 
--- what a pass has seen and made at an end
+-- what a pass has seen and made, by what was met
 abbrev pub EndsPass : TickEnd → PassView → PassView → Type 0
 EndsPass ClockClosed old new = StopsStage old new
 EndsPass (Ended at) old new = (stop_at new.seen ≡ Some at) × (new.ends ≡ old.ends)
 EndsPass TicksOver old new = StopsStage old new × (ticks new.seen ≡ MAX_TICKS)
 EndsPass ClockFault old new = StopsStage old new
-EndsPass (OutFault channel) old new =
-    StopsStage old new × (0 < ticks new.seen) × IsConfigured new.stage.sizes.channels channel
+EndsPass (OutFault channel) old new = StopsStage old new
+
+-- what the side that makes ticks has met, by how the ticks ended: just that, unless an output failed. It is `OutFault` if it was told of
+-- the output before anything else
+abbrev pub Meets : ℕ → TickEnd → TickEnd → Type 0
+Meets channels ClockClosed met = met ≡ ClockClosed
+Meets channels (Ended at) met = met ≡ Ended at
+Meets channels TicksOver met = met ≡ TicksOver
+Meets channels ClockFault met = met ≡ ClockFault
+Meets channels (OutFault channel) met = IsConfigured channels channel
+
+-- the pass and the clock of ticks
+pub record Ticking : Type 0 where
+  pub pass : PassView
+  pub clock : ClockState
+
+-- the ticks have ended so: what the side that makes them has met, and by it the pulses that were taken, the looks at the stage, and who
+-- stopped it
+pub record HasEnded (end : TickEnd) (old new : Ticking) : Type 0 where
+  pub met : TickEnd
+  pub meets : Meets new.pass.stage.sizes.channels end met
+  pub clock : new.clock ≡ clock_at_end met (ticks new.pass.seen) old.clock
+  pub turns : new.pass.turns ≡ old.pass.turns + turns_won met (ticks new.pass.seen)
+  pub pass : EndsPass met old.pass new.pass

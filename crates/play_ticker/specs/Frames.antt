@@ -1,12 +1,12 @@
 -- The frames of a history, as an output takes them.
-use Rattle.std.specs.Prelude.{◌≡◌, ℕ, ◌-◌, Bool, true, false, List, ◌++◌, length, map, take, flat_map, slice_index}
+use Rattle.std.specs.Prelude.{◌≡◌, ℕ, Bool, true, false, List, map, take, flat_map}
 use Rattle.play_types.specs.Config.{ChannelView}
 use Rattle.play_types.specs.History.{ticks}
 use Rattle.play_types.specs.declared.event.Event.{Event}
 use Rattle.play_types.specs.declared.event.Event.TheVariants.{Do, Batch, Tick, Stop}
 use Rattle.clip_format.specs.Table.{Entry}
 use Rattle.history_model.specs.pictures.Media.{Setup}
-use Rattle.history_model.specs.scripts.Output.{picture_bytes, sound_bytes}
+unfoldable pub use Rattle.history_model.specs.scripts.Output.{raw_frame}
 use Rattle.play_scene.specs.Frames.{FrameView, zero_frame}
 use Rattle.play_scene.specs.Picture.{clips_of}
 use Rattle.band_render.specs.Rendered.{sizes}
@@ -23,17 +23,9 @@ is_tick (Stop tag) = false
 abbrev pub tick_positions : List Event → List ℕ
 tick_positions history = positions is_tick 0 history
 
--- the frame of a channel at the tick after these events: the bytes of its picture, and then those of its sound
-unfoldable pub raw_frame : Setup → List Event → ℕ → List ℕ
-raw_frame setup events channel = picture_bytes setup events channel ++ sound_bytes setup events channel
-
 -- the frames of a channel at all ticks of a history, one after another, each by the events before its tick
 unfoldable pub frames_text : Setup → List Event → ℕ → List ℕ
 frames_text setup history channel = flat_map (λ at. raw_frame setup (take at history) channel) (tick_positions history)
-
--- the events before the last tick of a history
-unfoldable pub before_last_tick : List Event → List Event
-before_last_tick history = take (slice_index (tick_positions history) (length (tick_positions history) - 1)) history
 
 -- the sizes of these frames, and the clips of a media table
 abbrev pub setup_for : List FrameView → List Entry → Setup
@@ -44,8 +36,7 @@ pub record AreBlank (frames : List FrameView) : Type 0 where
   pub channels : List ChannelView
   pub blank : frames ≡ map zero_frame channels
 
--- two histories have the same number of ticks, the same frames of each channel, and the same events before the last tick
+-- two histories have the same number of ticks, and the same frames of each channel
 pub record HasSameTicks (seen history : List Event) : Type 0 where
   pub ticks : ticks history ≡ ticks seen
   pub frames : (setup : Setup) (channel : ℕ) → frames_text setup history channel ≡ frames_text setup seen channel
-  pub last : before_last_tick history ≡ before_last_tick seen

@@ -1,10 +1,12 @@
 -- What the outputs took if the ticks have ended.
-use Rattle.std.specs.Prelude.{◌≡◌, ℕ, suc, ◌<◌, List, [], ◌∷◌}
+use Rattle.std.specs.Prelude.{◌≡◌, ℕ, suc, ◌<◌, ◌≤◌, List, [], ◌∷◌, ◌++◌}
+use Rattle.play_types.specs.History.{ticks}
 use Rattle.play_types.specs.declared.event.Event.{Event}
+use Rattle.play_types.specs.declared.event.Event.TheVariants.{Tick}
 use Rattle.play_outside.specs.SinkState.{SinkState, after_taking}
 use Rattle.play_outside.specs.Sink.{Fails}
 use Rattle.history_model.specs.pictures.Media.{Setup}
-use Rattle.play_ticker.specs.Frames.{before_last_tick, frames_text, raw_frame}
+use Rattle.play_ticker.specs.Frames.{frames_text, raw_frame}
 use Rattle.play_ticker.specs.declared.ending.TickEnd.{TickEnd}
 use Rattle.play_ticker.specs.declared.ending.TickEnd.TheVariants.{ClockClosed, Ended, TicksOver, ClockFault, OutFault}
 
@@ -25,18 +27,29 @@ pub record Shown : Type 0 where
 abbrev pub TakesFrames : Shown → ℕ → SinkState → SinkState → Type 0
 TakesFrames shown channel old new = new ≡ after_taking old (frames_text shown.setup shown.history channel)
 
--- at the last tick of a history the output of one channel failed: those of the channels below took the frame of that tick too,
+-- so did each output
+abbrev pub AllTakeFrames : {O : Type 0} → (O → SinkState) → Shown → List O → List O → Type 0
+AllTakeFrames state shown olds news = EachOutput (λ channel old new. TakesFrames shown channel (state old) (state new)) 1 olds news
+
+-- at the tick after the events of a history the output of one channel failed: those of the channels below took the frame of that tick too,
 -- the one that failed did not take all of it, and those above took nothing of it
 pub record IsCutAt (failed : ℕ) (shown : Shown) (channel : ℕ) (old new : SinkState) : Type 0 where
-  pub below : channel < failed → TakesFrames shown channel old new
-  pub failing : channel ≡ failed → Fails (raw_frame shown.setup (before_last_tick shown.history) channel)
-      (after_taking old (frames_text shown.setup (before_last_tick shown.history) channel)) new
-  pub above : failed < channel → TakesFrames (record shown { history = before_last_tick shown.history }) channel old new
+  pub below : channel < failed → TakesFrames (record shown { history = shown.history ++ Tick ∷ [] }) channel old new
+  pub failing : channel ≡ failed → Fails (raw_frame shown.setup shown.history channel) (after_taking old (frames_text shown.setup shown.history channel)) new
+  pub above : failed < channel → TakesFrames shown channel old new
 
--- what an output took, by how the ticks ended
-abbrev pub IsWritten : TickEnd → Shown → ℕ → SinkState → SinkState → Type 0
-IsWritten ClockClosed shown channel old new = TakesFrames shown channel old new
-IsWritten (Ended at) shown channel old new = TakesFrames shown channel old new
-IsWritten TicksOver shown channel old new = TakesFrames shown channel old new
-IsWritten ClockFault shown channel old new = TakesFrames shown channel old new
-IsWritten (OutFault failed) shown channel old new = IsCutAt failed shown channel old new
+-- at one of the ticks of a history the output of one channel failed, and no more than three ticks come after it
+pub record AreCut {O : Type 0} (state : O → SinkState) (failed : ℕ) (shown : Shown) (olds news : List O) : Type 0 where
+  pub before : List Event
+  pub after : List Event
+  pub whole : before ++ Tick ∷ after ≡ shown.history
+  pub few : ticks after ≤ 3
+  pub outs : EachOutput (λ channel old new. IsCutAt failed (record shown { history = before }) channel (state old) (state new)) 1 olds news
+
+-- what the outputs took, by how the ticks ended
+abbrev pub AreWritten : {O : Type 0} → (O → SinkState) → TickEnd → Shown → List O → List O → Type 0
+AreWritten state ClockClosed shown olds news = AllTakeFrames state shown olds news
+AreWritten state (Ended at) shown olds news = AllTakeFrames state shown olds news
+AreWritten state TicksOver shown olds news = AllTakeFrames state shown olds news
+AreWritten state ClockFault shown olds news = AllTakeFrames state shown olds news
+AreWritten state (OutFault failed) shown olds news = AreCut state failed shown olds news

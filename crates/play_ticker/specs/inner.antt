@@ -1,2 +1,4 @@
-pub mod Pulse
 pub mod Loop
+pub mod Items
+pub mod Staging
+pub mod Writing

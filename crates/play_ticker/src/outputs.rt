@@ -3,7 +3,7 @@ ghost use Rattle.std.specs.Prelude.{◌≡◌, length, MatchResult};
 ghost use Rattle.play_types.specs.Scene.{IsConfigured};
 ghost use Rattle.play_outside.specs.SinkState.{after_taking};
 ghost use Rattle.play_ticker.specs.Outputs.{EachOutput};
-ghost use Rattle.play_ticker.specs.inner.Pulse.{FailsAt, bytes_in};
+ghost use Rattle.play_ticker.specs.inner.Writing.{FailsAt, bytes_in};
 
 use band_render::Renderer;
 use frame_writer::write_raw;

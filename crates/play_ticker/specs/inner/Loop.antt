@@ -1,15 +1,12 @@
 -- What the pulses have made, before the stage is stopped.
-use Rattle.std.specs.Prelude.{◌≡◌, ℕ, ◌+◌, ◌<◌, ◌≤◌, ◌⊎◌, Some, None, Option, List, length}
-use mathlib.Core.List.{IsPrefix}
+use Rattle.std.specs.Prelude.{◌≡◌, ℕ, ◌≤◌, ◌⊎◌, Some, None}
 use Rattle.play_types.specs.History.{stop_at, ticks}
-use Rattle.play_types.specs.Scene.{IsConfigured}
 use Rattle.play_types.specs.declared.event.Event.TheVariants.{Stop}
 use Rattle.play_types.specs.declared.event.TheConstants.{MAX_TICKS}
 use Rattle.history_model.specs.scripts.History.{server}
 use Rattle.stage_lock.specs.Own.{made_by}
 use Rattle.stage_lock.specs.Views.{PassView}
 use Rattle.stage_lock.specs.Calls.{Adds, Looks}
-use Rattle.play_ticker.specs.Ends.{pulses_taken}
 use Rattle.play_ticker.specs.Frames.{tick_positions}
 use Rattle.play_ticker.specs.declared.ending.TickEnd.{TickEnd}
 use Rattle.play_ticker.specs.declared.ending.TickEnd.TheVariants.{ClockClosed, Ended, TicksOver, ClockFault, OutFault}
@@ -29,7 +26,7 @@ IsAtEnd ClockClosed pass = Unit {0}
 IsAtEnd (Ended at) pass = (stop_at pass.seen ≡ Some at) × IsKnown pass
 IsAtEnd TicksOver pass = MAX_TICKS ≤ ticks pass.seen
 IsAtEnd ClockFault pass = Unit {0}
-IsAtEnd (OutFault channel) pass = (0 < ticks pass.seen) × IsConfigured pass.stage.sizes.channels channel
+IsAtEnd (OutFault channel) pass = Unit {0}
 
 -- a pass asked for the stop of tag 0.0: it made it, or found another
 abbrev pub Stops : PassView → PassView → Type 0

@@ -1,7 +1,7 @@
-use Rattle.std.proofs.Common.{◌≡◌, ℕ, ◌+◌, ◌++◌, List, get_or, length, ap, subst, ◌∙◌, arith}
+use Rattle.std.proofs.Common.{◌≡◌, ℕ, ◌+◌, ◌++◌, List, get_or, ap, subst, ◌∙◌, arith}
 use Rattle.play_outside.specs.SinkState.{after_taking}
 use Rattle.play_outside.specs.Sink.{Fails}
-use Rattle.play_ticker.specs.inner.Pulse.{bytes_in}
+use Rattle.play_ticker.specs.inner.Writing.{bytes_in}
 use Rattle.play_ticker.proofs.Taking.{frames_all, frames_fail, frames_first, frames_next}
 use Rattle.play_ticker.proofs.outputs.write_frames.Goals as goal
 

@@ -1,4 +1,4 @@
-use Rattle.play_ticker.specs.inner.Pulse.{bytes_in}
+use Rattle.play_ticker.specs.inner.Writing.{bytes_in}
 use Rattle.play_ticker.proofs.Taking.{AllBelow}
 use Rattle.play_ticker.proofs.outputs.write_frames.Given as goal
 

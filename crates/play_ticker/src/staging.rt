@@ -1,0 +1,112 @@
+//! The side that makes ticks.
+ghost use Rattle.std.specs.Prelude.{◌≡◌, ◌≤◌, [], length};
+ghost use Rattle.scene_pipe.specs.declared.pipe.TheConstants.{SETS};
+ghost use Rattle.play_ticker.specs.inner.Loop.{StopsAt};
+ghost use Rattle.play_ticker.specs.inner.Staging.{EndsStaging, HasStaged, MakesStep};
+
+use crate::ending::TickEnd;
+use crate::ticks::Ticker;
+use play_outside::{Beat, Clock};
+use scene_pipe::{Room, StageEnd};
+use stage_lock::Pass;
+use std::sync::Wait;
+
+impl Ticker<'_> {
+    /// Makes a tick for each pulse and sends its scenes, until no more ticks are made. Then it sends the end mark and stops the
+    /// stage, unless a tick found it stopped. It returns what it has met; that is `OutFault` if it was told that an output has failed.
+    pub(crate) fn stage_all<R: Wait, C: Clock>(
+        &self,
+        rt: &R,
+        pass: &mut Pass,
+        pipe: &mut StageEnd,
+        clock: &mut C,
+    ) -> TickEnd
+        requires of { pass.old.stage ≡ self.now.stage.now }
+        requires first { pass.old.number ≡ 0 }
+        requires made { pass.old.made ≡ [] }
+        requires channels { pipe.old.channels ≡ self.now.stage.now.sizes.channels }
+        requires sent { pipe.old.sent ≡ [] }
+        requires returned { pipe.old.returned ≡ [] }
+        requires held { length pipe.old.held ≤ SETS }
+        ensures of { pass.new.stage ≡ self.now.stage.now }
+        ensures staged { HasStaged result (record { pass = pass.old; clock = C.state clock.old; pipe = pipe.old }) (record { pass = pass.new; clock = C.state clock.new; pipe = pipe.new }) }
+    {
+        let end = self.stage_ticks(rt, pass, pipe, clock);
+        pipe.finish(rt);
+        self.stop(rt, pass, end);
+        end
+    }
+
+    /// Makes a tick for each pulse and sends its scenes, until no more ticks are made, and returns why.
+    fn stage_ticks<R: Wait, C: Clock>(
+        &self,
+        rt: &R,
+        pass: &mut Pass,
+        pipe: &mut StageEnd,
+        clock: &mut C,
+    ) -> TickEnd
+        requires of { pass.old.stage ≡ self.now.stage.now }
+        requires first { pass.old.number ≡ 0 }
+        requires made { pass.old.made ≡ [] }
+        requires channels { pipe.old.channels ≡ self.now.stage.now.sizes.channels }
+        requires sent { pipe.old.sent ≡ [] }
+        requires returned { pipe.old.returned ≡ [] }
+        requires held { length pipe.old.held ≤ SETS }
+        ensures of { pass.new.stage ≡ self.now.stage.now }
+        ensures staged { EndsStaging result (record { pass = pass.old; clock = C.state clock.old; pipe = pipe.old }) (record { pass = pass.new; clock = C.state clock.new; pipe = pipe.new }) }
+    {
+        for _ in rt.forever() {
+            match self.stage_tick(rt, pass, pipe, clock) {
+                Ok(()) => {}
+                Err(end) => return end,
+            }
+        }
+        unreachable!()
+    }
+
+    /// Gets scenes to fill, then takes a pulse, and then makes a tick and sends its scenes. The stage is free for other threads once the
+    /// tick is made.
+    fn stage_tick<R: Wait, C: Clock>(
+        &self,
+        rt: &R,
+        pass: &mut Pass,
+        pipe: &mut StageEnd,
+        clock: &mut C,
+    ) -> Result<(), TickEnd>
+        requires of { pass.old.stage ≡ self.now.stage.now }
+        requires first { pass.old.number ≡ 0 }
+        requires channels { pipe.old.channels ≡ self.now.stage.now.sizes.channels }
+        ensures of { pass.new.stage ≡ self.now.stage.now }
+        ensures step { MakesStep result (record { pass = pass.old; clock = C.state clock.old; pipe = pipe.old }) (record { pass = pass.new; clock = C.state clock.new; pipe = pipe.new }) }
+    {
+        let mut scenes = match pipe.room(rt) {
+            Room::Free(scenes) => scenes,
+            Room::Broken { channel } => return Err(TickEnd::OutFault { channel }),
+        };
+        match clock.next() {
+            Beat::Pulse => {}
+            Beat::Closed => return Err(TickEnd::ClockClosed),
+            Beat::Failed => return Err(TickEnd::ClockFault),
+        }
+        let tick = self.stage.tick(rt, pass, &mut scenes)?;
+        pipe.send(rt, tick, scenes);
+        Ok(())
+    }
+
+    /// Stops the stage, unless a tick found it stopped.
+    fn stop<R: Wait>(&self, rt: &R, pass: &mut Pass, end: TickEnd)
+        requires of { pass.old.stage ≡ self.now.stage.now }
+        ensures of { pass.new.stage ≡ self.now.stage.now }
+        ensures stops { StopsAt end pass.old pass.new }
+    {
+        match end {
+            TickEnd::Ended { .. } => {}
+            TickEnd::ClockClosed
+            | TickEnd::TicksOver
+            | TickEnd::ClockFault
+            | TickEnd::OutFault { .. } => {
+                let _ = self.stage.stop(rt, pass, 0);
+            }
+        }
+    }
+}

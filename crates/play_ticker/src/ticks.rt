@@ -1,0 +1,159 @@
+//! Ticks that are made by one thread, and rendered and written by another.
+ghost use Rattle.std.specs.Prelude.{◌≡◌, ◌≤◌, [], length, vec_len};
+ghost use Rattle.std.specs.Thread.{IsSync};
+ghost use mathlib.Core.List.{IsPrefix};
+ghost use Rattle.scene_pipe.specs.Calls.{AreNewEnds};
+ghost use Rattle.scene_pipe.specs.declared.pipe.TheConstants.{SETS};
+ghost use Rattle.play_ticker.specs.Ends.{HasEnded};
+ghost use Rattle.play_ticker.specs.Frames.{AreBlank, setup_for, tick_positions};
+ghost use Rattle.play_ticker.specs.Outputs.{AreWritten};
+ghost use Rattle.play_ticker.specs.inner.Staging.{HasStaged};
+ghost use Rattle.play_ticker.specs.inner.Writing.{HasWritten};
+
+use crate::ending::TickEnd;
+use band_render::Renderer;
+use clip_format::MediaTable;
+use play_outside::{Clock, Sink};
+use scene_pipe::{ScenePipe, StageEnd, WriteEnd, laws, settle};
+use stage_lock::{Pass, SharedStage};
+use std::sync::Wait;
+use std::thread::{Threads, join_mut};
+
+/// What ticks are made of: the stage that is shared, and the clips.
+#[derive(Clone, Copy)]
+pub struct Ticker<'a> {
+    /// The stage whose ticks are made.
+    pub stage: &'a SharedStage,
+    /// The clips that the stage shows.
+    pub media: &'a MediaTable,
+}
+
+/// Makes a tick of the stage for each pulse of the clock, and writes the frame and the sound of each channel at that tick to the
+/// output of the channel, channel 1 first, until the clock is closed or fails, a tick is refused, or an output fails.
+///
+/// The pass is that of number 0, and has made nothing. The channels of the pipe, the frames of the renderer, which has rendered nothing, and
+/// the outputs are as many as the channels of the stage. Ticks are made by one thread, and rendered and written by another, and
+/// at most three ticks are made after one whose frame an output did not take. Other threads may use the stage meanwhile.
+///
+/// At each end but [`TickEnd::Ended`] it stops the stage with tag 0.0, unless another stop came first. It takes no memory.
+pub fn tick_all<R: Threads + Wait + Sync, C: Clock, O: Sink + Send>(
+    rt: &R,
+    stage: &SharedStage,
+    pass: &mut Pass,
+    renderer: &mut Renderer,
+    pipe: ScenePipe,
+    media: &MediaTable,
+    clock: &mut C,
+    outs: &mut Vec<O>,
+) -> TickEnd
+    requires of { pass.old.stage ≡ stage.now }
+    requires first { pass.old.number ≡ 0 }
+    requires made { pass.old.made ≡ [] }
+    requires pipe { pipe ≡ stage.now.sizes.channels }
+    requires renderer { length renderer.old ≡ stage.now.sizes.channels }
+    requires blank { AreBlank renderer.old }
+    requires outs { vec_len outs.old ≡ stage.now.sizes.channels }
+    ensures of { pass.new.stage ≡ stage.now }
+    ensures first { pass.new.number ≡ 0 }
+    ensures seen { IsPrefix pass.old.seen pass.new.seen }
+    ensures made { pass.new.made ≡ tick_positions pass.new.seen }
+    ensures outs { AreWritten O.state result (record { setup = setup_for renderer.old media.now; history = pass.new.seen }) outs.old.items outs.new.items }
+    ensures ended { HasEnded result (record { pass = pass.old; clock = C.state clock.old }) (record { pass = pass.new; clock = C.state clock.new }) }
+{
+    let ticker = Ticker { stage, media };
+    let (mut stage_end, mut write_end) = pipe.split();
+    ticker.run(
+        rt,
+        pass,
+        renderer,
+        &mut stage_end,
+        &mut write_end,
+        clock,
+        outs,
+    )
+}
+
+impl Ticker<'_> {
+    /// Makes a tick of the stage for each pulse of the clock, writes the frames to the outputs, and stops the stage.
+    ///
+    /// It does what [`tick_all`] does with the stage and the clips of the ticker, and the ends of a new pipe.
+    pub fn run<R: Threads + Wait + Sync, C: Clock, O: Sink + Send>(
+        &self,
+        rt: &R,
+        pass: &mut Pass,
+        renderer: &mut Renderer,
+        stage_end: &mut StageEnd,
+        write_end: &mut WriteEnd,
+        clock: &mut C,
+        outs: &mut Vec<O>,
+    ) -> TickEnd
+        requires of { pass.old.stage ≡ self.now.stage.now }
+        requires first { pass.old.number ≡ 0 }
+        requires made { pass.old.made ≡ [] }
+        requires pipe { AreNewEnds self.now.stage.now.sizes.channels stage_end.old write_end.old }
+        requires renderer { length renderer.old ≡ self.now.stage.now.sizes.channels }
+        requires blank { AreBlank renderer.old }
+        requires outs { vec_len outs.old ≡ self.now.stage.now.sizes.channels }
+        ensures of { pass.new.stage ≡ self.now.stage.now }
+        ensures first { pass.new.number ≡ 0 }
+        ensures seen { IsPrefix pass.old.seen pass.new.seen }
+        ensures made { pass.new.made ≡ tick_positions pass.new.seen }
+        ensures outs { AreWritten O.state result (record { setup = setup_for renderer.old self.now.media.now; history = pass.new.seen }) outs.old.items outs.new.items }
+        ensures ended { HasEnded result (record { pass = pass.old; clock = C.state clock.old }) (record { pass = pass.new; clock = C.state clock.new }) }
+    {
+        laws::free_scenes_before_the_news();
+        let (failed, met) = self.run_sides(
+            rt,
+            pass,
+            renderer,
+            stage_end,
+            write_end,
+            clock,
+            outs.as_mut_slice(),
+        );
+        settle(stage_end, write_end);
+        match failed {
+            Some(channel) => TickEnd::OutFault { channel },
+            None => met,
+        }
+    }
+
+    /// Runs the side that renders and writes in a thread of its own beside the side that makes ticks. It returns the channel whose output
+    /// failed, and what the side that makes ticks has met.
+    fn run_sides<R: Threads + Wait + Sync, C: Clock, O: Sink + Send>(
+        &self,
+        rt: &R,
+        pass: &mut Pass,
+        renderer: &mut Renderer,
+        stage_end: &mut StageEnd,
+        write_end: &mut WriteEnd,
+        clock: &mut C,
+        outs: &mut [O],
+    ) -> (Option<u8>, TickEnd)
+        requires of { pass.old.stage ≡ self.now.stage.now }
+        requires first { pass.old.number ≡ 0 }
+        requires made { pass.old.made ≡ [] }
+        requires pipe { AreNewEnds self.now.stage.now.sizes.channels stage_end.old write_end.old }
+        requires renderer { length renderer.old ≡ self.now.stage.now.sizes.channels }
+        requires blank { AreBlank renderer.old }
+        requires outs { length outs.old ≡ self.now.stage.now.sizes.channels }
+        ensures of { pass.new.stage ≡ self.now.stage.now }
+        ensures written { HasWritten O.state (setup_for renderer.old self.now.media.now) result.0
+            (record { pipe = write_end.old; frames = renderer.old; outs = outs.old }) (record { pipe = write_end.new; frames = renderer.new; outs = outs.new }) }
+        ensures staged { HasStaged result.1 (record { pass = pass.old; clock = C.state clock.old; pipe = stage_end.old }) (record { pass = pass.new; clock = C.state clock.new; pipe = stage_end.new }) }
+    {
+        let ticker = *self;
+        join_mut(
+            rt,
+            &mut || -> Option<u8>
+                requires { IsSync R.row × (write_end.now.channels ≡ length renderer.now) × AreBlank renderer.now × (length outs.now ≡ length renderer.now) × (write_end.now.taken ≡ []) × (write_end.now.given ≡ []) }
+                ensures { HasWritten O.state (setup_for renderer.entry.now ticker.entry.media.now) result
+                    (record { pipe = write_end.entry.now; frames = renderer.entry.now; outs = outs.entry.now }) (record { pipe = write_end.exit.now; frames = renderer.exit.now; outs = outs.exit.now }) }
+            { ticker.write_all(rt, renderer, write_end, outs) },
+            &mut || -> TickEnd
+                requires { IsSync R.row × (pass.now.stage ≡ ticker.stage.now) × (pass.now.number ≡ 0) × (pass.now.made ≡ []) × (stage_end.now.channels ≡ ticker.stage.now.sizes.channels) × (stage_end.now.sent ≡ []) × (stage_end.now.returned ≡ []) × (length stage_end.now.held ≤ SETS) }
+                ensures { (pass.exit.now.stage ≡ ticker.entry.stage.now) × HasStaged result (record { pass = pass.entry.now; clock = C.state clock.entry.now; pipe = stage_end.entry.now }) (record { pass = pass.exit.now; clock = C.state clock.exit.now; pipe = stage_end.exit.now }) }
+            { ticker.stage_all(rt, pass, stage_end, clock) },
+        )
+    }
+}

@@ -111,7 +111,7 @@ module _ (service : Service) (sizes : Sizes) (step : model.Step) (asked : Event)
       → HasRoom (journal_of sizes adds.history) (held_by asked) → ask.answer adds.history ≡ found
       → AsksFor service step (Ok (answer_reply ask.name found)) before after
   taken found IsTold adds own room replies =
-      let one : Followed = record { step = step; found = adds.history; no_memory = false } in
+      let one : Followed = record { step = step; found = adds.history; no_memory = false; token = None } in
       let fits : held adds.history + commands ≤ service.config.journal_limit = let r = room.commands in let h = ask.holds in omega (arith, r, h, limit) in
       let is : verdict (turn_of service one) commands ≡ Taken =
       judged (turn_of service one) commands false false (tested_within service.config.journal_limit (held adds.history + commands) fits) refl in (
@@ -128,7 +128,7 @@ module _ (service : Service) (sizes : Sizes) (step : model.Step) (asked : Event)
   untaken : (reason : ApplyFault) → Looks before (λ history. IsNotTaken (journal_of sizes history) commands reason) after
       → AsksFor service step (replied ask.name (Err reason)) before after
   untaken fault.OutOfMemory looks =
-      let one : Followed = record { step = step; found = looks.history; no_memory = true } in
+      let one : Followed = record { step = step; found = looks.history; no_memory = true; token = None } in
       let fits : held looks.history + commands ≤ service.config.journal_limit = let r = looks.told.commands in omega (arith, r, limit) in
       let is : verdict (turn_of service one) commands ≡ OutOfMemory =
       judged (turn_of service one) commands false true (tested_within service.config.journal_limit (held looks.history + commands) fits) refl in (
@@ -142,7 +142,7 @@ module _ (service : Service) (sizes : Sizes) (step : model.Step) (asked : Event)
         ap (λ (p : PassView). stop_at p.seen) looks.after ∙ looks.told.running,
       )
   untaken (fault.JournalFull already) looks =
-      let one : Followed = record { step = step; found = looks.history; no_memory = false } in
+      let one : Followed = record { step = step; found = looks.history; no_memory = false; token = None } in
       let above : service.config.journal_limit < held looks.history + commands = let r = looks.told.1 in omega (arith, r, limit) in
       let is : verdict (turn_of service one) commands ≡ JournalFull =
       judged (turn_of service one) commands true false (tested_above service.config.journal_limit (held looks.history + commands) above) refl in (

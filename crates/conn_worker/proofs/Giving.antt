@@ -1,9 +1,9 @@
 -- The steps that a session gives for the bytes that it is fed are those of the whole stream.
 use Rattle.std.proofs.Common.{◌≡◌, ℕ, suc, ◌+◌, ◌≤◌, Bool, true, false, List, [], ◌∷◌, ◌++◌, map, take, drop, length, refl, sym, ap, subst, ◌∙◌, arith, append_assoc, append-nil, length-append}
-use Rattle.std.specs.Prelude.{Some, All, slice_get, filter_map, if◌then◌else◌}
+use Rattle.std.specs.Prelude.{Option, Some, All, slice_get, filter_map, if◌then◌else◌}
 use Rattle.std.specs.List.{enumerate_from, list_any, position_or_len}
 use mathlib.Core.List.{IsPrefix}
-use Rattle.std.proofs.lemmas.List.{map-append, length-map, take_at, take_all, take-append-drop, length-take-le}
+use Rattle.std.proofs.lemmas.List.{map-append, length-map, take_at, take_all, take-append-drop, take-map, length-take-le}
 use Rattle.std.proofs.lemmas.List.Elements.{All-nil, All-cons, filter_map-append}
 use Rattle.std.proofs.lemmas.Option.{none-some, same_Some}
 use Rattle.amcp_text.specs.Lines.{Line, lines_of}
@@ -12,6 +12,7 @@ use Rattle.play_types.specs.Config.{ConfigView}
 use Rattle.play_types.specs.Media.{MediaNameView}
 use Rattle.play_types.specs.declared.command.Cmd.{Cmd}
 use Rattle.history_model.specs.scripts.History.{number_given_up}
+use Rattle.history_model.specs.sessions.Request.{line_token, tokens}
 use Rattle.history_model.specs.sessions.Session as model
 use Rattle.history_model.specs.sessions.Session.{is_end, line_steps, steps, until_end}
 use Rattle.history_model.proofs.Sessions.{enumerate_from-append, length-line_steps, line_steps-append, line_steps-longer, until_end-ended, until_end-going}
@@ -20,9 +21,9 @@ use Rattle.play_session.specs.Session.{Progress, Represents, GivesStep, after_by
 use Rattle.play_session.specs.Step.{viewed, gives_up}
 use Rattle.play_session.specs.declared.step.Step.{Step}
 use Rattle.play_session.specs.declared.step.Step.TheVariants as step
-use Rattle.conn_worker.specs.Followed.{Service, Followed, given_up_of, is_lost, steps_in, steps_of}
+use Rattle.conn_worker.specs.Followed.{Service, Followed, given_up_of, is_lost, steps_in, steps_of, tokens_in}
 use Rattle.conn_worker.specs.inner.UnderWay.{HasGiven, progress_of}
-use Rattle.conn_worker.proofs.Lists.{list_any-last, list_any-more, slice_get-after, slice_get-seam, steps_in-more}
+use Rattle.conn_worker.proofs.Lists.{list_any-last, list_any-more, slice_get-after, slice_get-seam, steps_in-more, take_next, tokens_in-more}
 
 -- the number of a line if it was given up
 abbrev lost_number : ℕ → Bool → List ℕ
@@ -124,6 +125,19 @@ module _ (service : Service) (session : SessionState) (fed : List ℕ) (followed
       let g = goes [] more (All-nil (λ k. length followed ≤ k)) in
       (g.added, ap (λ (l : List ℕ). line_steps service.config service.names l (lines_of (fed ++ more))) (sym (append-nil (given_up_of followed))) ∙ g.whole)
 
+  -- the tokens that were given, by the lines that the session has done with
+  tokens_done : tokens_in followed ≡ map line_token (lines_of has.represents.before)
+  tokens_done = has.tokens ∙ ap (map line_token) (lines_done service.config service.names session (progress_of fed followed) has.represents)
+
+  -- they are the first ones of every longer stream
+  pub tokens_first : (more : List ℕ) → IsPrefix (tokens_in followed) (tokens (fed ++ more))
+  unfolding tokens
+  tokens_first more =
+      let s = has.represents in
+      let whole = ap (map line_token) (lines_split service.config service.names session (progress_of fed followed) s more)
+      ∙ map-append line_token (lines_of s.before) (lines_of (s.rest ++ more)) in
+      (map line_token (lines_of (s.rest ++ more)), ap (λ (ts : List (Option (List ℕ))). ts ++ map line_token (lines_of (s.rest ++ more))) tokens_done ∙ sym whole)
+
   -- the session was fed more bytes
   pub given_fed : (after : SessionState) (taken : List ℕ)
       → ((progress : Progress) → Represents service.config service.names session progress → Represents service.config service.names after (after_bytes progress taken))
@@ -132,6 +146,7 @@ module _ (service : Service) (session : SessionState) (fed : List ℕ) (followed
     represents = grows (progress_of fed followed) has.represents;
     steps = steps_done ∙ ap (line_steps service.config service.names (given_up_of followed))
         (sym (lines_done_of service.config service.names session (progress_of fed followed) has.represents taken));
+    tokens = tokens_done ∙ ap (map line_token) (sym (lines_done_of service.config service.names session (progress_of fed followed) has.represents taken));
   }
 
   -- the steps are the first ones of every longer stream
@@ -154,7 +169,7 @@ module _ (service : Service) (session : SessionState) (fed : List ℕ) (followed
 -- a session that was restarted has given nothing
 pub given_nothing : (service : Service) (session : SessionState) → Represents service.config service.names session at_start → HasGiven service session [] []
 unfolding line_steps
-given_nothing service session is = record { represents = is; steps = refl }
+given_nothing service session is = record { represents = is; steps = refl; tokens = refl }
 
 -- the steps of the first lines
 line_steps-take : (config : ConfigView) (media : List MediaNameView) (given_up : List ℕ) (n : ℕ) (lines : List Line) → n ≤ length lines
@@ -176,13 +191,27 @@ first_given (x ∷ xs) given at =
 until_end-one : (one : model.Step) → is_end one ≡ true → until_end (one ∷ []) ≡ one ∷ []
 until_end-one one ends = rw ends refl
 
--- the session gave one step more
+-- the tokens of the first lines with one more
+tokens_next : (fed : List ℕ) (followed : List Followed) (one : Followed) → tokens_in followed ≡ map line_token (take (length followed) (lines_of fed))
+    → slice_get (tokens fed) (length followed) ≡ Some one.token
+    → tokens_in (followed ++ one ∷ []) ≡ map line_token (take (length (followed ++ one ∷ [])) (lines_of fed))
+unfolding tokens
+tokens_next fed followed one so_far next =
+    let n = length followed in
+    let more : length (followed ++ one ∷ []) ≡ suc n = omega (arith, length-append followed (one ∷ [])) in
+    tokens_in-more followed one
+    ∙ ap (λ (ts : List (Option (List ℕ))). ts ++ one.token ∷ []) (so_far ∙ sym (take-map line_token n (lines_of fed)))
+    ∙ sym (take_next (map line_token (lines_of fed)) n one.token next)
+    ∙ take-map line_token (suc n) (lines_of fed)
+    ∙ ap (λ (k : ℕ). map line_token (take k (lines_of fed))) (sym more)
+
+-- the session gave one step more, of a line with this token
 pub given_step : (service : Service) (session after : SessionState) (fed : List ℕ) (followed : List Followed) (one : Followed) (result : Step)
     → HasGiven service session fed followed → session.ended ≡ false → viewed result after.batch ≡ Some one.step
-    → GivesStep service.config service.names result after (progress_of fed followed)
+    → GivesStep service.config service.names result after (progress_of fed followed) → slice_get (tokens fed) (length followed) ≡ Some one.token
     → HasGiven service after fed (followed ++ one ∷ [])
 unfolding steps
-given_step service session after fed followed one result has going is gives =
+given_step service session after fed followed one result has going is gives next =
     let c = service.config in
     let m = service.names in
     let same = progress_more fed followed one result after.batch is in
@@ -212,6 +241,7 @@ given_step service session after fed followed one result has going is gives =
     record {
       represents = subst (Represents c m after) same gives.1;
       steps = sym (line_steps-take c m g' n (lines_of fed) within ∙ ap (take n) lines ∙ take_at (steps_in (followed ++ one ∷ [])) first.0 n long);
+      tokens = tokens_next fed followed one has.tokens next;
     }
 
 -- a step that is an end comes last, whatever bytes follow: all steps have been given

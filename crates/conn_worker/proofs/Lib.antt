@@ -2,6 +2,7 @@ pub mod Lists
 pub mod Giving
 pub mod Passes
 pub mod Links
+pub mod Finding
 pub mod Going
 pub mod Ending
 pub mod Asking

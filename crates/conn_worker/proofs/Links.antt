@@ -5,7 +5,7 @@ use Rattle.std.proofs.lemmas.Bool.{cases_lt}
 use Rattle.std.proofs.lemmas.List.{take-append-le, take_at}
 use Rattle.play_outside.specs.SinkState.{SinkState, after_taking}
 use Rattle.play_outside.proofs.Taking.{after_taking-after_taking, after_taking-nil}
-use Rattle.conn_worker.specs.Followed.{Service, Followed, reply_of, replies, sent_bytes}
+use Rattle.conn_worker.specs.Followed.{Service, Followed, replies, sent_bytes}
 use Rattle.conn_worker.specs.Rounds.{Look, Round, after_look, after_round, after_rounds}
 use Rattle.conn_worker.specs.Explained.{IsCaughtUp}
 
@@ -25,10 +25,10 @@ after_rounds-looked service rounds look link =
 -- the reply to one step more
 pub after_rounds-step : (service : Service) (rounds : List Round) (look : Look) (followed : List Followed) (one : Followed) (link : SinkState)
     → after_rounds service (rounds ++ record { look = look; followed = followed ++ one ∷ [] } ∷ []) link
-    ≡ after_taking (after_rounds service (rounds ++ record { look = look; followed = followed } ∷ []) link) (sent_bytes service (reply_of service one))
+    ≡ after_taking (after_rounds service (rounds ++ record { look = look; followed = followed } ∷ []) link) (sent_bytes service one)
 after_rounds-step service rounds look followed one link =
     let before = after_look look (after_rounds service rounds link) in
-    let bytes : Followed → List ℕ = λ f. sent_bytes service (reply_of service f) in
+    let bytes : Followed → List ℕ = sent_bytes service in
     after_rounds-more service rounds (record { look = look; followed = followed ++ one ∷ [] }) link
     ∙ ap (after_taking before) (flat_map-append bytes followed (one ∷ []) ∙ ap (λ (l : List ℕ). replies service followed ++ l) (append-nil (bytes one)))
     ∙ sym (after_taking-after_taking before (replies service followed) (bytes one))

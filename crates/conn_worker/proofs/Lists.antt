@@ -1,13 +1,14 @@
 -- Rounds and steps with one more at the end.
-use Rattle.std.proofs.Common.{◌≡◌, ℕ, ◌+◌, Bool, true, false, List, [], ◌∷◌, ◌++◌, length, refl, sym, ap, ◌∙◌, append_assoc, append-nil}
+use Rattle.std.proofs.Common.{◌≡◌, ℕ, zero, suc, take, ◌+◌, Bool, true, false, List, [], ◌∷◌, ◌++◌, length, refl, sym, ap, ◌∙◌, append_assoc, append-nil}
 use Rattle.std.specs.Prelude.{Option, Some, slice_get}
 use Rattle.std.specs.List.{last_or, list_any}
 use Rattle.std.proofs.Math.Bool.{or-true}
 use Rattle.std.proofs.lemmas.Bool.{or_parts}
 use Rattle.std.proofs.lemmas.Grind.{flat_map-append}
 use Rattle.std.proofs.lemmas.List.{map-append}
+use Rattle.std.proofs.lemmas.Option.{none-some, same_Some}
 use Rattle.std.proofs.lemmas.List.Sums.{sum_by_push}
-use Rattle.conn_worker.specs.Followed.{Followed, number_asked, steps_in, times_asked}
+use Rattle.conn_worker.specs.Followed.{Followed, number_asked, steps_in, times_asked, tokens_in}
 use Rattle.conn_worker.specs.Rounds.{Look, Round, bytes_in, followed_in, idle_looks, look_bytes, number_idle}
 
 -- the last element of a list
@@ -26,6 +27,16 @@ slice_get-after (y ∷ xs) ys x h = slice_get-after xs ys x h
 
 pub steps_in-more : (followed : List Followed) (one : Followed) → steps_in (followed ++ one ∷ []) ≡ steps_in followed ++ one.step ∷ []
 steps_in-more followed one = map-append (λ (f : Followed). f.step) followed (one ∷ [])
+
+pub tokens_in-more : (followed : List Followed) (one : Followed) → tokens_in (followed ++ one ∷ []) ≡ tokens_in followed ++ one.token ∷ []
+tokens_in-more followed one = map-append (λ (f : Followed). f.token) followed (one ∷ [])
+
+-- the first elements of a list with one more
+pub take_next : {A : Type 0} (xs : List A) (n : ℕ) (x : A) → slice_get xs n ≡ Some x → take (suc n) xs ≡ take n xs ++ x ∷ []
+take_next [] zero x h = absurd (none-some x h)
+take_next [] (suc n) x h = absurd (none-some x h)
+take_next (y ∷ ys) zero x h = ap (λ z. z ∷ []) (same_Some y x h)
+take_next (y ∷ ys) (suc n) x h = ap (λ zs. y ∷ zs) (take_next ys n x h)
 
 pub number_asked-more : (followed : List Followed) (one : Followed) → number_asked (followed ++ one ∷ []) ≡ number_asked followed + times_asked one.step
 number_asked-more followed one = sum_by_push (λ (f : Followed). times_asked f.step) followed one

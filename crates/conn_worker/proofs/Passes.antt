@@ -1,4 +1,5 @@
 -- What the calls of a connection make of its pass.
+use Rattle.std.specs.Prelude.{None}
 use Rattle.std.proofs.Common.{◌≡◌, ℕ, ◌+◌, ◌||◌, Bool, true, false, cond, List, [], ◌∷◌, ◌++◌, length, refl, sym, ap, subst, ◌∙◌, arith, append_assoc, append-nil}
 use Rattle.std.specs.List.{flat_map, range_with_len}
 use Rattle.std.proofs.Math.Bool.{or-false}
@@ -22,11 +23,11 @@ own_found pass history found = own_by_same pass.number pass.seen history found.s
 -- a step whose event was added
 pub makes_added : (service : Service) (step : Step) (no_memory : Bool) (before after : PassView) (event : Event) (IsTold : List Event → Type 0)
     (adds : Adds before event IsTold after)
-    → events_of service (record { step = step; found = adds.history; no_memory = no_memory }) ≡ event ∷ []
+    → events_of service (record { step = step; found = adds.history; no_memory = no_memory; token = None }) ≡ event ∷ []
     → is_own before.number event ≡ true → is_final event ≡ false → times_asked step ≡ 1
-    → MakesStep service (record { step = step; found = adds.history; no_memory = no_memory }) before after
+    → MakesStep service (record { step = step; found = adds.history; no_memory = no_memory; token = None }) before after
 makes_added service step no_memory before after event IsTold adds events own other asked =
-    let one : Followed = record { step = step; found = adds.history; no_memory = no_memory } in
+    let one : Followed = record { step = step; found = adds.history; no_memory = no_memory; token = None } in
     let h = adds.history in
     let n = before.number in
     let seen : after.seen ≡ h ++ event ∷ [] = ap (λ (p : PassView). p.seen) adds.after in
@@ -52,9 +53,9 @@ makes_added service step no_memory before after event IsTold adds events own oth
 -- a step that made no event, though the stage was asked
 pub makes_looked : (service : Service) (step : Step) (no_memory : Bool) (before after : PassView) (IsTold : List Event → Type 0)
     (looks : Looks before IsTold after)
-    → events_of service (record { step = step; found = looks.history; no_memory = no_memory }) ≡ []
+    → events_of service (record { step = step; found = looks.history; no_memory = no_memory; token = None }) ≡ []
     → times_asked step ≡ 1
-    → MakesStep service (record { step = step; found = looks.history; no_memory = no_memory }) before after
+    → MakesStep service (record { step = step; found = looks.history; no_memory = no_memory; token = None }) before after
 makes_looked service step no_memory before after IsTold looks events asked =
     let h = looks.history in
     let n = before.number in
@@ -76,9 +77,9 @@ makes_looked service step no_memory before after IsTold looks events asked =
 
 -- a step for which the stage was not asked
 pub makes_nothing : (service : Service) (step : Step) (pass : PassView)
-    → events_of service (record { step = step; found = pass.seen; no_memory = false }) ≡ []
+    → events_of service (record { step = step; found = pass.seen; no_memory = false; token = None }) ≡ []
     → times_asked step ≡ 0
-    → MakesStep service (record { step = step; found = pass.seen; no_memory = false }) pass pass
+    → MakesStep service (record { step = step; found = pass.seen; no_memory = false; token = None }) pass pass
 makes_nothing service step pass events asked =
     let same : pass.turns + 0 ≡ pass.turns = omega arith in
     record {
@@ -94,7 +95,7 @@ makes_nothing service step pass events asked =
     }
 
 -- steps that were followed one after another, with one more
-in_order_more : (service : Service) (seen : List Event) (followed : List Followed) (one : Followed) (between history : List Event)
+pub in_order_more : (service : Service) (seen : List Event) (followed : List Followed) (one : Followed) (between history : List Event)
     → AreInOrder service seen followed between → IsPrefix between one.found → history ≡ one.found ++ events_of service one
     → AreInOrder service seen (followed ++ one ∷ []) history
 in_order_more service seen [] one between history order found grows = (

@@ -1,5 +1,5 @@
 -- A piece that was read is fed to the session, and its steps are followed.
-use Rattle.std.proofs.Common.{◌≡◌, ℕ, ◌+◌, ◌-◌, ◌≤◌, Bool, true, false, List, [], ◌++◌, take, drop, length, refl, sym, ap, subst, ◌∙◌, arith, append_assoc, append-nil}
+use Rattle.std.proofs.Common.{◌≡◌, ◌≢◌, ℕ, ◌+◌, ◌-◌, ◌≤◌, Bool, true, false, List, [], ◌++◌, take, drop, length, refl, sym, ap, subst, ◌∙◌, arith, append_assoc, append-nil}
 use Rattle.std.specs.Prelude.{Option, Some, None, Result, Ok, Err}
 use Rattle.std.proofs.lemmas.List.{take_all, take-append-drop, length-drop}
 use Rattle.std.proofs.Math.Seq.{take-add}
@@ -12,8 +12,8 @@ use Rattle.play_types.specs.declared.command.Cmd.{Cmd}
 use Rattle.history_model.specs.commands.Channels.{AreAimed}
 use Rattle.history_model.specs.sessions.Session as model
 use Rattle.play_session.specs.SessionState.{SessionState}
-use Rattle.play_session.specs.Session.{Gives, IsAsBefore, Progress, Represents, after_bytes}
-use Rattle.play_session.specs.Step.{ends, viewed}
+use Rattle.play_session.specs.Session.{Gives, HasToken, IsAsBefore, Progress, Represents, after_bytes}
+use Rattle.play_session.specs.Step.{ends, gives_up, viewed}
 use Rattle.play_session.specs.declared.step.Step.{Step}
 use Rattle.play_session.specs.declared.step.Step.TheVariants as step
 use Rattle.conn_worker.specs.Followed.{Service, Followed}
@@ -56,9 +56,11 @@ pub piece_goes : (service mine : Service) (past : Past) (piece : List ℕ) (foll
     → IsUnderWay (with_piece past piece followed) fed (record { standing = before; session = old })
     → ((progress : Progress) → Represents service.config service.names old progress → Gives service.config service.names result new progress)
     → new.ended ≡ ends result → (AreAimed service.config old.batch → AreAimed service.config new.batch) → (result ≡ step.NeedMore → new ≡ old)
-    → FollowsStep mine (viewed result batch) (Ok done) before after
+    → (result ≢ step.NeedMore → (progress : Progress) → Represents service.config service.names old progress → HasToken result new progress)
+    → (token : Option (List ℕ)) → token ≡ new.token
+    → ((told : Option (List ℕ)) → (gives_up result ≡ false → token ≡ told) → FollowsStep mine told (viewed result batch) (Ok done) before after)
     → (more : List Followed) × IsUnderWay (with_piece past piece more) fed (record { standing = after; session = new })
-piece_goes service mine past piece followed fed before after old new result batch done same own asked way gives ended aimed kept follows =
+piece_goes service mine past piece followed fed before after old new result batch done same own asked way gives ended aimed kept has token is_token follows =
     let progress = progress_of fed (followed_in (with_piece past piece followed).rounds) in
     step_goes past piece followed fed before after old new way result done
     (subst (λ (s : Service). Gives s.config s.names result new progress) (sym same)
@@ -66,8 +68,10 @@ piece_goes service mine past piece followed fed before after old new result batc
     ended
     (subst (λ (s : Service). AreAimed s.config new.batch) (sym same) (aimed (subst (λ (s : Service). AreAimed s.config old.batch) same way.aimed)))
     kept
-    (subst (λ (s : Service). FollowsStep s (viewed result new.batch) (Ok done) before after) (own ∙ sym same)
-    (subst (λ (b : List Cmd). FollowsStep mine (viewed result b) (Ok done) before after) asked follows))
+    (λ some. has some progress (subst (λ (s : Service). Represents s.config s.names old progress) same way.given.represents))
+    (λ told is.
+    subst (λ (s : Service). FollowsStep s told (viewed result new.batch) (Ok done) before after) (own ∙ sym same)
+    (subst (λ (b : List Cmd). FollowsStep mine told (viewed result b) (Ok done) before after) asked (follows told (λ given. is_token ∙ is given))))
 
 -- the call ends at the step
 pub piece_ends : (service mine : Service) (past : Past) (piece : List ℕ) (followed : List Followed) (at : ℕ) (before after : Standing) (old new : SessionState)
@@ -75,9 +79,11 @@ pub piece_ends : (service mine : Service) (past : Past) (piece : List ℕ) (foll
     → past.service ≡ service → mine ≡ service → batch ≡ new.batch
     → IsUnderWay (with_piece past piece followed) (bytes_in past.rounds ++ take at piece) (record { standing = before; session = old })
     → ((progress : Progress) → Represents service.config service.names old progress → Gives service.config service.names result new progress)
-    → FollowsStep mine (viewed result batch) (Err end) before after
+    → (result ≢ step.NeedMore → (progress : Progress) → Represents service.config service.names old progress → HasToken result new progress)
+    → (token : Option (List ℕ)) → token ≡ new.token
+    → ((told : Option (List ℕ)) → (gives_up result ≡ false → token ≡ told) → FollowsStep mine told (viewed result batch) (Err end) before after)
     → IsExplained past.service end past.before after
-piece_ends service mine past piece followed at before after old new result batch end same own asked way gives follows =
+piece_ends service mine past piece followed at before after old new result batch end same own asked way gives has token is_token follows =
     let fed = bytes_in past.rounds ++ take at piece in
     let progress = progress_of fed (followed_in (with_piece past piece followed).rounds) in
     let bytes : fed ++ drop at piece ≡ bytes_in (with_piece past piece followed).rounds =
@@ -86,8 +92,10 @@ piece_ends service mine past piece followed at before after old new result batch
     step_ends past piece followed fed before after old new way result end (drop at piece) bytes
     (subst (λ (s : Service). Gives s.config s.names result new progress) (sym same)
     (gives progress (subst (λ (s : Service). Represents s.config s.names old progress) same way.given.represents)))
-    (subst (λ (s : Service). FollowsStep s (viewed result new.batch) (Err end) before after) (own ∙ sym same)
-    (subst (λ (b : List Cmd). FollowsStep mine (viewed result b) (Err end) before after) asked follows))
+    (λ some. has some progress (subst (λ (s : Service). Represents s.config s.names old progress) same way.given.represents))
+    (λ told is.
+    subst (λ (s : Service). FollowsStep s told (viewed result new.batch) (Err end) before after) (own ∙ sym same)
+    (subst (λ (b : List Cmd). FollowsStep mine told (viewed result b) (Err end) before after) asked (follows told (λ given. is_token ∙ is given))))
 
 -- all of the piece was fed, and the session gives no step more
 pub piece_done : (service : Service) (past : Past) (piece : List ℕ) (followed : List Followed) (at : ℕ) (standing : Standing) (old new : SessionState) (result : Step)
@@ -143,21 +151,21 @@ piece_within piece at taken held within is =
     omega (arith, within, is, most, left)
 
 -- what holds where the connection goes on
-pub goes_number : (service : Service) (step : Option model.Step) (done : Unit {0}) (before after : Standing) → FollowsStep service step (Ok done) before after → after.pass.number ≡ before.pass.number
-goes_number service None done before after same = ap (λ (s : Standing). s.pass.number) same
-goes_number service (Some step) done before after goes = goes.goes.follows.makes.number
+pub goes_number : (service : Service) (told : Option (List ℕ)) (step : Option model.Step) (done : Unit {0}) (before after : Standing) → FollowsStep service told step (Ok done) before after → after.pass.number ≡ before.pass.number
+goes_number service told None done before after same = ap (λ (s : Standing). s.pass.number) same
+goes_number service told (Some step) done before after goes = goes.goes.follows.makes.number
 
-pub goes_running : (service : Service) (step : Option model.Step) (done : Unit {0}) (before after : Standing) → FollowsStep service step (Ok done) before after
+pub goes_running : (service : Service) (told : Option (List ℕ)) (step : Option model.Step) (done : Unit {0}) (before after : Standing) → FollowsStep service told step (Ok done) before after
     → stop_at before.pass.seen ≡ None → stop_at after.pass.seen ≡ None
-goes_running service None done before after same running = ap (λ (s : Standing). stop_at s.pass.seen) same ∙ running
-goes_running service (Some step) done before after goes running = goes.goes.running
+goes_running service told None done before after same running = ap (λ (s : Standing). stop_at s.pass.seen) same ∙ running
+goes_running service told (Some step) done before after goes running = goes.goes.running
 
-pub goes_going : (service : Service) (result : Step) (batch : List Cmd) (done : Unit {0}) (before after : Standing) → FollowsStep service (viewed result batch) (Ok done) before after
+pub goes_going : (service : Service) (told : Option (List ℕ)) (result : Step) (batch : List Cmd) (done : Unit {0}) (before after : Standing) → FollowsStep service told (viewed result batch) (Ok done) before after
     → ends result ≡ false
-goes_going service (step.Local answer) batch done before after goes = refl
-goes_going service (step.Ask command) batch done before after goes = refl
-goes_going service step.AskBatch batch done before after goes = refl
-goes_going service step.Kill batch done before after goes = absurd (cc goes.going)
-goes_going service step.Bye batch done before after goes = absurd (cc goes.going)
-goes_going service step.Skip batch done before after goes = refl
-goes_going service step.NeedMore batch done before after goes = refl
+goes_going service told (step.Local answer) batch done before after goes = refl
+goes_going service told (step.Ask command) batch done before after goes = refl
+goes_going service told step.AskBatch batch done before after goes = refl
+goes_going service told step.Kill batch done before after goes = absurd (cc goes.going)
+goes_going service told step.Bye batch done before after goes = absurd (cc goes.going)
+goes_going service told step.Skip batch done before after goes = refl
+goes_going service told step.NeedMore batch done before after goes = refl

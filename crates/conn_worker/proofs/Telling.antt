@@ -9,18 +9,18 @@ use Rattle.play_outside.specs.Faults.{one_more}
 use Rattle.play_outside.specs.Link.{one_look}
 use Rattle.play_outside.specs.SinkState.{SinkState, more_taken}
 use Rattle.play_outside.proofs.Taking.{more_taken-more_taken, more_taken-nil}
-use Rattle.conn_worker.specs.Followed.{Service, Followed, replies, reply_of, sent_bytes}
+use Rattle.conn_worker.specs.Followed.{Service, Followed, replies, sent_bytes}
 use Rattle.conn_worker.specs.Rounds.{Look, Got, End, Nothing, Round, after_look, after_round, after_rounds, bytes_in, followed_in, idle_looks, look_bytes, looks_from, number_idle}
 
 look_taken : (look : Look) (link : SinkState) → (after_look look link).taken ≡ link.taken
 look_taken (Got bytes) link = refl
 look_taken End link = refl
-look_taken Nothing link = refl
+look_taken (Nothing history) link = refl
 
 look_faults : (look : Look) (link : SinkState) → (after_look look link).faults ≡ link.faults
 look_faults (Got bytes) link = refl
 look_faults End link = refl
-look_faults Nothing link = refl
+look_faults (Nothing history) link = refl
 
 -- the replies were taken
 pub rounds_taken : (service : Service) (rounds : List Round) (link : SinkState)
@@ -30,7 +30,7 @@ rounds_taken service (round ∷ rounds) link =
     rounds_taken service rounds (after_round service round link)
     ∙ ap (λ (t : Option (List ℕ)). more_taken (more_taken t (replies service round.followed)) (replies service (followed_in rounds))) (look_taken round.look link)
     ∙ more_taken-more_taken link.taken (replies service round.followed) (replies service (followed_in rounds))
-    ∙ ap (more_taken link.taken) (sym (flat_map-append (λ (one : Followed). sent_bytes service (reply_of service one)) round.followed (followed_in rounds)))
+    ∙ ap (more_taken link.taken) (sym (flat_map-append (sent_bytes service) round.followed (followed_in rounds)))
 
 -- no call failed
 pub rounds_faults : (service : Service) (rounds : List Round) (link : SinkState) → (after_rounds service rounds link).faults ≡ link.faults
@@ -46,8 +46,8 @@ read_more (Got bytes) None taken faults mark idle at_fault rest = refl
 read_more (Got bytes) (Some reading) taken faults mark idle at_fault rest = ap Some (append_assoc reading.bytes bytes rest)
 read_more End None taken faults mark idle at_fault rest = refl
 read_more End (Some reading) taken faults mark idle at_fault rest = ap Some (append_assoc reading.bytes [] rest)
-read_more Nothing None taken faults mark idle at_fault rest = refl
-read_more Nothing (Some reading) taken faults mark idle at_fault rest = ap Some (append_assoc reading.bytes [] rest)
+read_more (Nothing history) None taken faults mark idle at_fault rest = refl
+read_more (Nothing history) (Some reading) taken faults mark idle at_fault rest = ap Some (append_assoc reading.bytes [] rest)
 
 read_none : (reading : Option Reading) → option_map (λ (r : Reading). r.bytes) reading ≡ option_map (λ (r : Reading). r.bytes ++ []) reading
 read_none None = refl
@@ -64,7 +64,7 @@ rounds_read service (round ∷ rounds) link =
 idle_grows : (look : Look) (link : SinkState) → link.idle ≤ (after_look look link).idle
 idle_grows (Got bytes) link = omega arith
 idle_grows End link = omega arith
-idle_grows Nothing link = larger link.idle (2 ^ 64 - 1)
+idle_grows (Nothing history) link = larger link.idle (2 ^ 64 - 1)
   where
     larger : (n most : ℕ) → n ≤ max n (min (n + 1) most)
     larger n most = omega arith
@@ -79,7 +79,7 @@ rounds_idle_grows service (round ∷ rounds) link =
 idle_one : (look : Look) (link : SinkState) → (after_look look link).idle < 2 ^ 64 - 1 → (after_look look link).idle ≡ link.idle + idle_looks look
 idle_one (Got bytes) link below = omega arith
 idle_one End link below = omega arith
-idle_one Nothing link below = one link.idle (2 ^ 64 - 1) below
+idle_one (Nothing history) link below = one link.idle (2 ^ 64 - 1) below
   where
     one : (n most : ℕ) → max n (min (n + 1) most) < most → max n (min (n + 1) most) ≡ n + 1
     one n most below = omega arith
@@ -124,7 +124,7 @@ looks_by service (Got bytes) followed rounds taken reading link rest =
 looks_by service End followed rounds taken reading link rest =
     rest (taken ++ replies service followed) (record (one_look (length taken) [] reading) { ended = true }) link
     ∙ ap Some (look_step service taken (replies service followed) reading [] rounds)
-looks_by service Nothing followed rounds taken reading link rest =
+looks_by service (Nothing history) followed rounds taken reading link rest =
     rest (taken ++ replies service followed) (one_look (length taken) [] reading) (record link { idle = one_more link.idle })
     ∙ ap Some (look_step service taken (replies service followed) reading [] rounds)
 

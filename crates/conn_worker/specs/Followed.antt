@@ -18,12 +18,17 @@ pub record Service : Type 0 where
   pub names : List MediaNameView
   pub tag : Tag
 
--- a step of a connection that was followed: the history that was found then, and whether the stage had no memory for what the
--- step asks for
+-- a step of a connection that was followed: the history that was found then, whether the stage had no memory for what the
+-- step asks for, and the token of the line
 pub record Followed : Type 0 where
   pub step : Step
   pub found : List Event
   pub no_memory : Bool
+  pub token : Option (List ℕ)
+
+-- a look at the stage, as a step that does nothing: it found this history, and made no event
+abbrev pub stage_look : List Event → Followed
+stage_look history = record { step = Skip; found = history; no_memory = false; token = None }
 
 -- what a connection is played on: no reply and no event of a connection depends on the clips
 abbrev pub playout_of : Service → Playout
@@ -45,17 +50,25 @@ positions_of service one = range_with_len (length one.found) (length (events_of 
 abbrev pub reply_of : Service → Followed → Option Reply
 reply_of service one = step_reply (turn_of service one) (Some one.step)
 
--- the bytes of a reply, if there is one
-abbrev pub sent_bytes : Service → Option Reply → List ℕ
-sent_bytes service None = []
-sent_bytes service (Some answer) = reply_bytes service.config service.names answer
+-- the bytes of the reply to a line with this token, or without one, if there is a reply
+abbrev pub answer_bytes : Service → Option (List ℕ) → Option Reply → List ℕ
+answer_bytes service token None = []
+answer_bytes service token (Some answer) = reply_bytes service.config service.names token answer
+
+-- the bytes of the reply to a step
+abbrev pub sent_bytes : Service → Followed → List ℕ
+sent_bytes service one = answer_bytes service one.token (reply_of service one)
 
 -- the bytes of the replies to these steps, in order
 abbrev pub replies : Service → List Followed → List ℕ
-replies service followed = flat_map (λ one. sent_bytes service (reply_of service one)) followed
+replies service followed = flat_map (sent_bytes service) followed
 
 abbrev pub steps_in : List Followed → List Step
 steps_in followed = map (λ (one : Followed). one.step) followed
+
+-- the tokens of the lines of these steps
+abbrev pub tokens_in : List Followed → List (Option (List ℕ))
+tokens_in followed = map (λ (one : Followed). one.token) followed
 
 -- whether a step gives its line up, out of memory
 abbrev pub is_lost : Step → Bool

@@ -1,33 +1,44 @@
 -- The looks at a link, and what followed each of them.
-use Rattle.std.specs.Prelude.{◌≡◌, ℕ, ◌+◌, List, [], ◌∷◌, flat_map, length, sum_by}
+use Rattle.std.specs.Prelude.{◌≡◌, ℕ, ◌+◌, None, List, [], ◌∷◌, ◌++◌, All, flat_map, length, map, sum_by}
+use Rattle.play_types.specs.History.{stop_at}
+use Rattle.play_types.specs.declared.event.Event.{Event}
 use Rattle.play_outside.specs.declared.link.Look as told
 use Rattle.play_outside.specs.SinkState.{SinkState, after_taking}
 use Rattle.play_outside.specs.Sink.{Fails}
 use Rattle.play_outside.specs.Link.{after_read, after_end, after_idle, after_failed_read}
-use Rattle.conn_worker.specs.Followed.{Service, Followed, reply_of, replies, sent_bytes}
+use Rattle.conn_worker.specs.Followed.{Service, Followed, replies, sent_bytes, stage_look}
 
--- what a look at a link found: bytes, the end, or nothing yet
+-- what a look at a link found: bytes, the end, or nothing yet. In the last case the stage was looked at next, and this is the history
+-- that was found
 pub data Look : Type 0 where
   Got : List ℕ → Look
   End : Look
-  Nothing : Look
+  Nothing : List Event → Look
 
 -- a look, and the steps that were followed after it and before the next look, each with its reply written before the next step
 pub record Round : Type 0 where
   pub look : Look
   pub followed : List Followed
 
+-- the round of a look that found the end of the link: nothing follows it
+abbrev pub end_round : Round
+end_round = record { look = End; followed = [] }
+
+-- the round of a look that found nothing yet, and then this history
+abbrev pub idle_round : List Event → Round
+idle_round history = record { look = Nothing history; followed = [] }
+
 -- the bytes that a look found
 abbrev pub look_bytes : Look → List ℕ
 look_bytes (Got bytes) = bytes
 look_bytes End = []
-look_bytes Nothing = []
+look_bytes (Nothing history) = []
 
 -- 1 if a look found nothing yet
 abbrev pub idle_looks : Look → ℕ
 idle_looks (Got bytes) = 0
 idle_looks End = 0
-idle_looks Nothing = 1
+idle_looks (Nothing history) = 1
 
 -- all bytes that were read
 abbrev pub bytes_in : List Round → List ℕ
@@ -41,11 +52,35 @@ followed_in rounds = flat_map (λ (round : Round). round.followed) rounds
 abbrev pub number_idle : List Round → ℕ
 number_idle rounds = sum_by (λ (round : Round). idle_looks round.look) rounds
 
+-- what the looks found, in order
+abbrev pub looks_in : List Round → List Look
+looks_in rounds = map (λ (round : Round). round.look) rounds
+
+-- a look leaves the connection open: it did not find the end of the link, and, if it found nothing yet, no stop either
+abbrev pub LeavesOpen : Look → Type 0
+LeavesOpen (Got bytes) = Unit {0}
+LeavesOpen End = ⊥
+LeavesOpen (Nothing history) = stop_at history ≡ None
+
+-- each look left the connection open
+abbrev pub AreLeftOpen : List Round → Type 0
+AreLeftOpen rounds = All LeavesOpen (looks_in rounds)
+
+-- the look at the stage that followed a look which found nothing yet
+abbrev pub stage_looks : Look → List Followed
+stage_looks (Got bytes) = []
+stage_looks End = []
+stage_looks (Nothing history) = stage_look history ∷ []
+
+-- all steps that were followed and all looks at the stage, in order
+abbrev pub finds_in : List Round → List Followed
+finds_in rounds = flat_map (λ (round : Round). stage_looks round.look ++ round.followed) rounds
+
 -- the link after a look
 abbrev pub after_look : Look → SinkState → SinkState
 after_look (Got bytes) link = after_read link bytes
 after_look End link = after_end link
-after_look Nothing link = after_idle link
+after_look (Nothing history) link = after_idle link
 
 -- the link after a look, and after the replies to the steps that were followed were written
 abbrev pub after_round : Service → Round → SinkState → SinkState
@@ -80,4 +115,4 @@ unsent (WriteFailed one) = one ∷ []
 abbrev pub IsAfterFailure : Service → Failure → SinkState → SinkState → Type 0
 IsAfterFailure service NoFailure before after = after ≡ before
 IsAfterFailure service ReadFailed before after = after ≡ after_failed_read before
-IsAfterFailure service (WriteFailed one) before after = Fails (sent_bytes service (reply_of service one)) before after
+IsAfterFailure service (WriteFailed one) before after = Fails (sent_bytes service one) before after

@@ -1,16 +1,17 @@
 //! What is done for one step of a connection.
-ghost use Rattle.std.specs.Prelude.{◌≡◌, ◌<◌, None, IfOk, length};
+ghost use Rattle.std.specs.Prelude.{◌≡◌, ◌<◌, ℕ, List, None, Option, IfOk, false, length, option_map};
 ghost use Rattle.play_types.specs.History.{stop_at};
 ghost use Rattle.history_model.specs.commands.Channels.{IsAimed, AreAimed};
 ghost use Rattle.history_model.specs.sessions.Session as model;
 ghost use Rattle.history_model.specs.text.Replies.{IsReplyTo, reply_bytes};
-ghost use Rattle.play_session.specs.Step.{viewed};
+ghost use Rattle.play_session.specs.Step.{gives_up, viewed};
 ghost use Rattle.play_session.specs.Session.{Fits};
 ghost use Rattle.conn_worker.specs.inner.Steps.{AsksFor, IsReady, SendsBytes, replied, service_in};
 ghost use Rattle.conn_worker.specs.inner.UnderWay.{EndsAtStep, FollowsStep};
 
 use crate::link_end::LinkEnd;
 use crate::server::Server;
+use amcp_text::ReqToken;
 use play_outside::{Link, Sent};
 use play_session::Step;
 use play_types::{Answer, Cmd, Name, Reply};
@@ -27,13 +28,15 @@ pub(crate) struct Connection<'a> {
 }
 
 impl Connection<'_> {
-    /// Executes a step, and sends its reply. `batch` holds the commands of a batch that is asked for.
+    /// Executes a step, and sends its reply with the token of its line, if there is one. `batch` holds the commands of a batch that
+    /// is asked for.
     pub(crate) fn follow<R: Wait, L: Link>(
         &self,
         rt: &R,
         pass: &mut Pass,
         step: Step,
         batch: &[Cmd],
+        token: Option<&ReqToken>,
         link: &mut L,
     ) -> Result<(), LinkEnd>
         requires ready { IsReady self.now }
@@ -43,20 +46,21 @@ impl Connection<'_> {
         requires filled { step ≡ Step.AskBatch → 0 < length batch.now }
         requires running { stop_at pass.old.seen ≡ None }
         ensures of { pass.new.stage ≡ self.now.server.stage.now }
-        ensures follows { FollowsStep (service_in self.now pass.old.number) (viewed step batch.now) result
+        ensures follows { (told : Option (List ℕ)) → (gives_up step ≡ false → option_map (λ token. token.now) token.entry ≡ told)
+            → FollowsStep (service_in self.now pass.old.number) told (viewed step batch.now) result
             (record { pass = pass.old; link = L.state link.old }) (record { pass = pass.new; link = L.state link.new }) }
     {
         match step {
-            Step::Local(reply) => self.send(&reply, link),
+            Step::Local(reply) => self.send(&reply, token, link),
             Step::Ask(cmd) => {
                 let reply = self.ask(rt, pass, cmd)?;
-                self.send(&reply, link)
+                self.send(&reply, token, link)
             }
             Step::AskBatch => {
                 let reply = self.ask_batch(rt, pass, batch)?;
-                self.send(&reply, link)
+                self.send(&reply, token, link)
             }
-            Step::Kill => Err(self.kill(rt, pass, link)),
+            Step::Kill => Err(self.kill(rt, pass, token, link)),
             Step::Bye => Err(LinkEnd::Over),
             Step::Skip | Step::NeedMore => Ok(()),
         }
@@ -96,28 +100,42 @@ impl Connection<'_> {
     }
 
     /// Stops the stage. If this call made the stop, it sends the reply, as far as the link takes it.
-    fn kill<R: Wait, L: Link>(&self, rt: &R, pass: &mut Pass, link: &mut L) -> LinkEnd
+    fn kill<R: Wait, L: Link>(
+        &self,
+        rt: &R,
+        pass: &mut Pass,
+        token: Option<&ReqToken>,
+        link: &mut L,
+    ) -> LinkEnd
         requires ready { IsReady self.now }
         requires of { pass.old.stage ≡ self.now.server.stage.now }
         ensures of { pass.new.stage ≡ self.now.server.stage.now }
-        ensures kills { EndsAtStep (service_in self.now pass.old.number) model.KillServer result
+        ensures kills { EndsAtStep (service_in self.now pass.old.number) (option_map (λ token. token.now) token.entry) model.KillServer result
             (record { pass = pass.old; link = L.state link.old }) (record { pass = pass.new; link = L.state link.new }) }
     {
         match self.server.stage.stop(rt, pass, self.number) {
             Ok(_) => {
-                let _ = self.send(&Reply::Done(Name::Kill), link);
+                let _ = self.send(&Reply::Done(Name::Kill), token, link);
                 LinkEnd::Killed
             }
             Err(Ended { at }) => LinkEnd::Ended { at },
         }
     }
 
-    /// Sends a reply.
-    fn send<L: Link>(&self, reply: &Reply, link: &mut L) -> Result<(), LinkEnd>
+    /// Sends a reply, with a token if there is one.
+    fn send<L: Link>(
+        &self,
+        reply: &Reply,
+        token: Option<&ReqToken>,
+        link: &mut L,
+    ) -> Result<(), LinkEnd>
         requires { IsReplyTo self.now.server.config.now reply.now }
-        ensures { SendsBytes (reply_bytes self.now.server.config.now self.now.server.media.now reply.now) result (L.state link.old) (L.state link.new) }
+        ensures { SendsBytes
+            (reply_bytes self.now.server.config.now self.now.server.media.now (option_map (λ token. token.now) token.entry) reply.now)
+            result (L.state link.old) (L.state link.new) }
     {
-        match send_reply(reply, self.server.config, self.server.media, link) {
+        let server = &self.server;
+        match send_reply(reply, token, server.config, server.media, link) {
             Sent::All => Ok(()),
             Sent::Failed => Err(LinkEnd::LinkFault),
         }

@@ -141,7 +141,7 @@ impl Connection<'_> {
             if at == piece.len() && matches!(step, Step::NeedMore) {
                 return Ok(());
             }
-            self.follow(rt, pass, step, session.batch(), link)?;
+            self.follow(rt, pass, step, session.batch(), session.token(), link)?;
         }
         unreachable!()
     }

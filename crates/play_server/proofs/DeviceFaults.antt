@@ -18,8 +18,8 @@ use Rattle.play_outside.specs.declared.sink.Sent.TheVariants as sent
 use Rattle.conn_worker.specs.Work.{Setting}
 use Rattle.conn_worker.specs.declared.work_end.WorkEnd.{WorkEnd}
 use Rattle.conn_worker.specs.declared.work_end.WorkEnd.TheVariants as work
-use Rattle.play_ticker.specs.Ends.{clock_at_end}
-use Rattle.play_ticker.specs.Outputs.{EachOutput, IsWritten, Shown}
+use Rattle.play_ticker.specs.Ends.{Meets, clock_at_end}
+use Rattle.play_ticker.specs.Outputs.{AreWritten, EachOutput, IsCutAt, Shown, TakesFrames}
 use Rattle.play_ticker.specs.declared.ending.TickEnd.{TickEnd}
 use Rattle.play_ticker.specs.declared.ending.TickEnd.TheVariants.{ClockClosed, Ended, TicksOver, ClockFault, OutFault}
 use Rattle.play_server.specs.Doors.{DoorRun, EachDoor, HasServed, faults_after, is_door_fault}
@@ -102,11 +102,14 @@ module _ {O : Type 0} (state : O → SinkState) (shown : Shown) where
   abbrev faults_of : O → ℕ
   faults_of out = (state out).faults
 
-  abbrev Writes : TickEnd → ℕ → O → O → Type 0
-  Writes end channel before after = IsWritten end shown channel (state before) (state after)
+  abbrev Cuts : ℕ → ℕ → O → O → Type 0
+  Cuts failed channel before after = IsCutAt failed shown channel (state before) (state after)
+
+  abbrev Takes : ℕ → O → O → Type 0
+  Takes channel before after = TakesFrames shown channel (state before) (state after)
 
   -- the output of the channel at which the frames were cut failed
-  pub out_rose : (failed before_it first : ℕ) (olds news : List O) → EachOutput (Writes (OutFault failed)) first olds news
+  pub out_rose : (failed before_it first : ℕ) (olds news : List O) → EachOutput (Cuts failed) first olds news
       → failed ≡ before_it + first → before_it < length olds → AnyRose faults_of olds news
   out_rose failed before_it first [] news each at within = absurd (omega (arith, within))
   out_rose failed before_it first (old ∷ olds) [] each at within = absurd each
@@ -117,21 +120,19 @@ module _ {O : Type 0} (state : O → SinkState) (shown : Shown) where
   out_rose failed (suc before_it) first (old ∷ olds) (new ∷ news) each at within =
       inr (out_rose failed before_it (suc first) olds news each.1 (omega (arith, at)) (omega (arith, within)))
 
-  -- an output that took all its frames did not fail
-  kept_out : (end : TickEnd) (channel : ℕ) (old new : O) → is_tick_fault end ≡ false → Writes end channel old new → faults_of new ≡ faults_of old
-  kept_out ClockClosed channel old new well written = ap (λ (s : SinkState). s.faults) written
-  kept_out (Ended at) channel old new well written = ap (λ (s : SinkState). s.faults) written
-  kept_out TicksOver channel old new well written = ap (λ (s : SinkState). s.faults) written
-  kept_out ClockFault channel old new well written = absurd (true≢false well)
-  kept_out (OutFault failed) channel old new well written = absurd (true≢false well)
+  -- outputs that took all their frames did not fail
+  takers_stay : (first : ℕ) (olds news : List O) → EachOutput Takes first olds news → AllStay faults_of olds news
+  takers_stay first [] [] each = tt
+  takers_stay first [] (new ∷ news) each = absurd each
+  takers_stay first (old ∷ olds) [] each = absurd each
+  takers_stay first (old ∷ olds) (new ∷ news) each = (ap (λ (s : SinkState). s.faults) each.0, takers_stay (suc first) olds news each.1)
 
-  pub outs_stay : (end : TickEnd) (first : ℕ) (olds news : List O) → is_tick_fault end ≡ false → EachOutput (Writes end) first olds news
-      → AllStay faults_of olds news
-  outs_stay end first [] [] well each = tt
-  outs_stay end first [] (new ∷ news) well each = absurd each
-  outs_stay end first (old ∷ olds) [] well each = absurd each
-  outs_stay end first (old ∷ olds) (new ∷ news) well each =
-      (kept_out end first old new well each.0, outs_stay end (suc first) olds news well each.1)
+  pub outs_stay : (end : TickEnd) (olds news : List O) → is_tick_fault end ≡ false → AreWritten state end shown olds news → AllStay faults_of olds news
+  outs_stay ClockClosed olds news well all = takers_stay 1 olds news all
+  outs_stay (Ended at) olds news well all = takers_stay 1 olds news all
+  outs_stay TicksOver olds news well all = takers_stay 1 olds news all
+  outs_stay ClockFault olds news well all = absurd (true≢false well)
+  outs_stay (OutFault failed) olds news well all = absurd (true≢false well)
 
 -- an output that was not wholly written to failed
 cut_rose : (written : Sent) (text : List ℕ) (before after : SinkState) → is_cut written ≡ true → Sends written text before after → Rose before.faults after.faults
@@ -150,20 +151,29 @@ kept_clock TicksOver made before after well is = ap (λ (s : ClockState). s.faul
 kept_clock ClockFault made before after well is = absurd (true≢false well)
 kept_clock (OutFault channel) made before after well is = absurd (true≢false well)
 
+-- if no device of the ticks failed they ended with what was met
+met_well : (channels : ℕ) (end met : TickEnd) → is_tick_fault end ≡ false → Meets channels end met → met ≡ end
+met_well channels ClockClosed met well meets = meets
+met_well channels (Ended at) met well meets = meets
+met_well channels TicksOver met well meets = meets
+met_well channels ClockFault met well meets = absurd (true≢false well)
+met_well channels (OutFault channel) met well meets = absurd (true≢false well)
+
 module _ {C D O L : Type 0} (device : DeviceStates C D O L) (tells : L → SinkState) (program : Program) where
-  -- the clock or an output failed if the pulses ended by a fault
-  ticks_rose : (end : TickEnd) (shown : Shown) (devices : Devices C D O × Devices C D O) → is_tick_fault end ≡ true
-      → device.clock devices.1.clock ≡ clock_at_end end (ticks shown.history) (device.clock devices.0.clock)
-      → EachOutput (λ channel before after. IsWritten end shown channel (device.out before) (device.out after)) 1 devices.0.outs.items devices.1.outs.items
-      → TicksEndBy (length devices.0.outs.items) shown.history end → ADeviceFails device devices.0 devices.1
-  ticks_rose ClockClosed shown devices fault clock outs ends = absurd (true≢false (sym fault))
-  ticks_rose (Ended at) shown devices fault clock outs ends = absurd (true≢false (sym fault))
-  ticks_rose TicksOver shown devices fault clock outs ends = absurd (true≢false (sym fault))
-  ticks_rose ClockFault shown devices fault clock outs ends =
-      inl (rises (device.clock devices.0.clock).faults (device.clock devices.1.clock).faults (ap (λ (s : ClockState). s.faults) clock))
-  ticks_rose (OutFault zero) shown devices fault clock outs ends = absurd (omega (arith, ends.1.0))
-  ticks_rose (OutFault (suc before_it)) shown devices fault clock outs ends =
-      inr (inr (inl (out_rose device.out shown (suc before_it) before_it 1 devices.0.outs.items devices.1.outs.items outs (omega arith) (omega (arith, ends.1.1)))))
+  -- the clock or an output failed if the ticks ended by a fault
+  ticks_rose : (end met : TickEnd) (shown : Shown) (devices : Devices C D O × Devices C D O) → is_tick_fault end ≡ true → Meets (length devices.0.outs.items) end met
+      → device.clock devices.1.clock ≡ clock_at_end met (ticks shown.history) (device.clock devices.0.clock)
+      → AreWritten device.out end shown devices.0.outs.items devices.1.outs.items → ADeviceFails device devices.0 devices.1
+  ticks_rose ClockClosed met shown devices fault meets clock outs = absurd (true≢false (sym fault))
+  ticks_rose (Ended at) met shown devices fault meets clock outs = absurd (true≢false (sym fault))
+  ticks_rose TicksOver met shown devices fault meets clock outs = absurd (true≢false (sym fault))
+  ticks_rose ClockFault met shown devices fault meets clock outs =
+      let is : device.clock devices.1.clock ≡ clock_at_end ClockFault (ticks shown.history) (device.clock devices.0.clock) =
+      clock ∙ ap (λ (end : TickEnd). clock_at_end end (ticks shown.history) (device.clock devices.0.clock)) meets in
+      inl (rises (device.clock devices.0.clock).faults (device.clock devices.1.clock).faults (ap (λ (s : ClockState). s.faults) is))
+  ticks_rose (OutFault zero) met shown devices fault meets clock outs = absurd (omega (arith, meets.0))
+  ticks_rose (OutFault (suc before_it)) met shown devices fault meets clock outs =
+      inr (inr (inl (out_rose device.out (record shown { history = outs.before }) (suc before_it) before_it 1 devices.0.outs.items devices.1.outs.items outs.outs (omega arith) (omega (arith, meets.1)))))
 
   -- a device failed in a run that ended so
   pub device_rose : (devices : Devices C D O × Devices C D O) → vec_len devices.0.outs ≡ length program.config.channels
@@ -172,7 +182,7 @@ module _ {C D O L : Type 0} (device : DeviceStates C D O L) (tells : L → SinkS
       let fault = fault_told (has_device_fault run.ticker run.runs run.written) run.ending in
       let outs : length devices.0.outs.items ≡ length program.config.channels = sym devices.0.outs.ok.0 ∙ count in
       elim (or_cases (is_tick_fault run.ticker) _ fault) [
-        | inl ticker ↦ ticks_rose run.ticker _ devices ticker run.clock run.outs (rw (← outs) at run.pulses)
+        | inl ticker ↦ ticks_rose run.ticker run.met _ devices ticker (subst (λ (n : ℕ). Meets n run.ticker run.met) (sym outs) run.meets) run.clock run.outs
         | inr other ↦ elim (or_cases (list_any (λ (r : DoorRun L). is_door_fault r.end) run.runs) (is_cut run.written) other) [
           | inl door ↦ inr (inl (door_rose device.door _ run.history 1 run.runs devices.0.doors.items devices.1.doors.items run.doors door))
           | inr cut ↦ inr (inr (inr (cut_rose run.written _ _ _ cut run.text)))
@@ -192,9 +202,9 @@ module _ {C D O L : Type 0} (device : DeviceStates C D O L) (tells : L → SinkS
   pub devices_stay : (devices : Devices C D O × Devices C D O) → HasRun device tells program serve.Ended devices → NoDeviceFails device devices.0 devices.1
   devices_stay devices run =
       let well = no_faults devices run in record {
-        clock = kept_clock run.ticker _ _ _ well.0 run.clock;
+        clock = kept_clock run.met _ _ _ (ap is_tick_fault (met_well (length program.config.channels) run.ticker run.met well.0 run.meets) ∙ well.0) run.clock;
         doors = doors_stay device.door _ run.history 1 run.runs devices.0.doors.items devices.1.doors.items run.doors well.1;
-        outs = outs_stay device.out _ run.ticker 1 devices.0.outs.items devices.1.outs.items well.0 run.outs;
+        outs = outs_stay device.out _ run.ticker devices.0.outs.items devices.1.outs.items well.0 run.outs;
         history = uncut_stays run.written _ _ _ well.2 run.text;
       }
 
@@ -207,23 +217,24 @@ module _ {C D O L : Type 0} (device : DeviceStates C D O L) (tells : L → SinkS
       (subst (λ (events : List Event). All (IsMadeBy run.runs) events) run.stopped.whole run.made))
 
   -- what ended the pulses of a run that the server itself stopped
-  ended_by : (devices : Devices C D O × Devices C D O) (run : HasRun device tells program serve.Ended devices) (end : TickEnd) → run.ticker ≡ end
+  ended_by : (devices : Devices C D O × Devices C D O) (run : HasRun device tells program serve.Ended devices) (end : TickEnd) → run.met ≡ end → run.ticker ≡ end
       → is_found end ≡ false → is_tick_fault end ≡ false → IsStopped run
-  ended_by devices run ClockClosed is found well =
+  ended_by devices run ClockClosed is ticker_is found well =
       let clock = subst (λ (e : TickEnd). device.clock devices.1.clock ≡ clock_at_end e (ticks run.history) (device.clock devices.0.clock)) is run.clock in
-      inr (inl (is, subst (λ (s : ClockState). IfSome s.told (λ told. told.closed ≡ true)) (sym clock) (told_closed _)))
-  ended_by devices run (Ended at) is found well = absurd (true≢false found)
-  ended_by devices run TicksOver is found well = inr (inr (subst (TicksEndBy (length program.config.channels) run.history) is run.pulses))
-  ended_by devices run ClockFault is found well = absurd (true≢false well)
-  ended_by devices run (OutFault channel) is found well = absurd (true≢false well)
+      inr (inl (ticker_is, subst (λ (s : ClockState). IfSome s.told (λ told. told.closed ≡ true)) (sym clock) (told_closed _)))
+  ended_by devices run (Ended at) is ticker_is found well = absurd (true≢false found)
+  ended_by devices run TicksOver is ticker_is found well = inr (inr (subst (TicksEndBy run.history) is run.pulses))
+  ended_by devices run ClockFault is ticker_is found well = absurd (true≢false well)
+  ended_by devices run (OutFault channel) is ticker_is found well = absurd (true≢false well)
 
   -- what stopped a run that ended without a fault
   pub stopped_by : (devices : Devices C D O × Devices C D O) (run : HasRun device tells program serve.Ended devices) → IsStopped run
   stopped_by devices run =
       let well = no_faults devices run in
+      let met : run.met ≡ run.ticker = met_well (length program.config.channels) run.ticker run.met well.0 run.meets in
       elim (stop_made devices serve.Ended run) [
         | inl own ↦ elim (run.stopped_by own) [
-          | inl unfound ↦ ended_by devices run run.ticker refl unfound well.0
+          | inl unfound ↦ ended_by devices run run.ticker met refl (ap is_found (sym met) ∙ unfound) well.0
           | inr door ↦ absurd (true≢false (sym door ∙ well.1))
         ]
         | inr client ↦ inl client

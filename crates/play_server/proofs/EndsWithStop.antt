@@ -1,27 +1,25 @@
 -- The stop of a run's history, and how its pulses ended.
-use Rattle.std.proofs.Common.{◌≡◌, ℕ, ◌+◌, ◌<◌, ◌==◌, ◌&&◌, ◌||◌, Bool, true, false, List, [], ◌∷◌, ◌++◌, refl, sym, ap, subst, ◌∙◌, arith}
+use Rattle.std.proofs.Common.{◌≡◌, ℕ, ◌+◌, ◌==◌, ◌&&◌, ◌||◌, Bool, true, false, List, [], ◌∷◌, ◌++◌, refl, sym, ap, ◌∙◌, arith, append_assoc}
 use Rattle.std.specs.Prelude.{Option, None, Some, option_map}
 use Rattle.std.proofs.Math.Bool.{or-true}
 use Rattle.std.proofs.lemmas.Bool.Decides.{nat_tests}
 use mathlib.Core.List.{IsPrefix}
 use Rattle.play_types.specs.History.{IsHistory, stop_at, ticks}
-use Rattle.play_types.specs.Scene.{IsConfigured}
 use Rattle.play_types.specs.declared.event.Event.{Event}
 use Rattle.play_types.specs.declared.event.Event.TheVariants.{Do, Batch, Tick, Stop}
 use Rattle.play_types.specs.declared.event.Tag.{Tag}
-use Rattle.play_types.proofs.Histories.{stop_at-other}
-use Rattle.play_outside.specs.SinkState.{SinkState, after_taking}
-use Rattle.play_outside.specs.Sink.{Fails}
+use Rattle.play_types.proofs.Histories.{stop_at-other, ticks-append}
+use Rattle.play_outside.specs.SinkState.{SinkState}
 use Rattle.history_model.specs.pictures.Media.{Setup}
 use Rattle.history_model.specs.scripts.History.{server}
 use Rattle.stage_lock.specs.Own.{has_final, is_final}
 use Rattle.stage_lock.specs.Views.{PassView}
 use Rattle.play_ticker.specs.Ends.{EndsPass}
-use Rattle.play_ticker.specs.Frames.{before_last_tick, frames_text, raw_frame}
-use Rattle.play_ticker.specs.Outputs.{IsWritten, TakesFrames}
+use Rattle.play_ticker.specs.Outputs.{AllTakeFrames, AreWritten}
 use Rattle.play_ticker.specs.declared.ending.TickEnd.{TickEnd}
 use Rattle.play_ticker.specs.declared.ending.TickEnd.TheVariants.{ClockClosed, Ended, TicksOver, ClockFault, OutFault}
-use Rattle.play_ticker.proofs.Frames.{GoesOn, before_last_tick-quiet, frames_text-quiet}
+use Rattle.play_ticker.proofs.Frames.{GoesOn}
+use Rattle.play_ticker.proofs.Taking.{still_taken}
 use Rattle.play_server.specs.Run.{EndsWithStop, TicksEndBy}
 use Rattle.play_server.proofs.IsExplainedLink.{stop_stays}
 
@@ -66,40 +64,34 @@ seen_stop ClockClosed old new end = (end.at, end.stopped)
 seen_stop (Ended at) old new end = (at, end.0)
 seen_stop TicksOver old new end = (end.0.at, end.0.stopped)
 seen_stop ClockFault old new end = (end.at, end.stopped)
-seen_stop (OutFault channel) old new end = (end.0.at, end.0.stopped)
+seen_stop (OutFault channel) old new end = (end.at, end.stopped)
 
--- how the pulses ended, by a history that goes on from what the ticker has seen
-pub ticks_end : (channels : ℕ) (ticker : TickEnd) (old new : PassView) (history : List Event) → EndsPass ticker old new → IsPrefix new.seen history
-    → ticks history ≡ ticks new.seen → new.stage.sizes.channels ≡ channels → TicksEndBy channels history ticker
-ticks_end channels ClockClosed old new history end grows same sized = tt
-ticks_end channels (Ended at) old new history end grows same sized = stop_stays new.seen history at grows end.0
-ticks_end channels TicksOver old new history end grows same sized = same ∙ end.1
-ticks_end channels ClockFault old new history end grows same sized = tt
-ticks_end channels (OutFault channel) old new history end grows same sized =
-    (subst (λ (n : ℕ). 0 < n) (sym same) end.1, subst (λ (n : ℕ). IsConfigured n channel) sized end.2)
+-- what was met, by a history that goes on from what the ticker has seen
+pub ticks_end : (met : TickEnd) (old new : PassView) (history : List Event) → EndsPass met old new → IsPrefix new.seen history → ticks history ≡ ticks new.seen → TicksEndBy history met
+ticks_end ClockClosed old new history end grows same = tt
+ticks_end (Ended at) old new history end grows same = stop_stays new.seen history at grows end.0
+ticks_end TicksOver old new history end grows same = same ∙ end.1
+ticks_end ClockFault old new history end grows same = tt
+ticks_end (OutFault channel) old new history end grows same = tt
 
 -- what the outputs took is of each history with the same ticks
-pub written_later : (setup : Setup) (seen history : List Event) → GoesOn seen history → (ticker : TickEnd) (channel : ℕ) (old new : SinkState)
-    → IsWritten ticker (record { setup = setup; history = seen }) channel old new → IsWritten ticker (record { setup = setup; history = history }) channel old new
-written_later setup seen history on = go
+pub written_later : {O : Type 0} (state : O → SinkState) (setup : Setup) (seen history : List Event) → GoesOn seen history → (ticker : TickEnd) (olds news : List O)
+    → AreWritten state ticker (record { setup = setup; history = seen }) olds news → AreWritten state ticker (record { setup = setup; history = history }) olds news
+written_later {O} state setup seen history on = go
   where
-    frames : (channel : ℕ) → frames_text setup seen channel ≡ frames_text setup history channel
-    frames channel = sym (frames_text-quiet setup channel seen history on)
+    takes : (olds news : List O) → AllTakeFrames state (record { setup = setup; history = seen }) olds news → AllTakeFrames state (record { setup = setup; history = history }) olds news
+    takes olds news all = still_taken state setup seen history olds news on all
 
-    last : before_last_tick seen ≡ before_last_tick history
-    last = sym (before_last_tick-quiet seen history on)
-
-    takes : (channel : ℕ) (old new : SinkState) → TakesFrames (record { setup = setup; history = seen }) channel old new → TakesFrames (record { setup = setup; history = history }) channel old new
-    takes channel old new h = h ∙ ap (after_taking old) (frames channel)
-
-    go : (ticker : TickEnd) (channel : ℕ) (old new : SinkState)
-        → IsWritten ticker (record { setup = setup; history = seen }) channel old new → IsWritten ticker (record { setup = setup; history = history }) channel old new
-    go ClockClosed channel old new h = takes channel old new h
-    go (Ended at) channel old new h = takes channel old new h
-    go TicksOver channel old new h = takes channel old new h
-    go ClockFault channel old new h = takes channel old new h
-    go (OutFault failed) channel old new h = record {
-      below = λ less. takes channel old new (h.below less);
-      failing = λ is. subst (λ (l : List Event). Fails (raw_frame setup l channel) (after_taking old (frames_text setup l channel)) new) last (h.failing is);
-      above = λ more. subst (λ (l : List Event). TakesFrames (record { setup = setup; history = l }) channel old new) last (h.above more);
+    go : (ticker : TickEnd) (olds news : List O)
+        → AreWritten state ticker (record { setup = setup; history = seen }) olds news → AreWritten state ticker (record { setup = setup; history = history }) olds news
+    go ClockClosed olds news all = takes olds news all
+    go (Ended at) olds news all = takes olds news all
+    go TicksOver olds news all = takes olds news all
+    go ClockFault olds news all = takes olds news all
+    go (OutFault failed) olds news cut = record {
+      before = cut.before;
+      after = cut.after ++ on.rest;
+      whole = sym (append_assoc cut.before (Tick ∷ cut.after) on.rest) ∙ ap (λ (l : List Event). l ++ on.rest) cut.whole ∙ on.whole;
+      few = omega (arith, cut.few, ticks-append cut.after on.rest, on.quiet);
+      outs = cut.outs;
     }

@@ -10,13 +10,15 @@ use Rattle.play_outside.specs.declared.sink.WriteStep.{WriteStep}
 use Rattle.play_outside.specs.declared.sink.WriteStep.TheVariants as step
 use Rattle.server_setup.specs.Fault.{status_of}
 use Rattle.server_setup.specs.Setup.{SetsUp, TellsFirst, fault_of_files}
+use Rattle.play_types.specs.declared.clip_fault.ClipFault.{ClipFault}
+use Rattle.play_types.specs.declared.clip_fault.ClipFault.TheVariants as clip
 use Rattle.server_setup.specs.declared.fault.RunFault.{RunFault}
-use Rattle.server_setup.specs.declared.fault.RunFault.TheVariants.{Usage, ConfigText, ConfigKey, BadLine, InputTooLong, MediaTwice, MediaTotal, Device, OutOfMemory}
+use Rattle.server_setup.specs.declared.fault.RunFault.TheVariants.{Usage, ConfigText, ConfigKey, BadLine, InputTooLong, Plan, PlanEnd, Clip, MediaTwice, MediaTotal, Device, OutOfMemory}
 use Rattle.server_setup.specs.declared.setup.ServerSetup.{ServerSetup}
 use Rattle.play_server.specs.Program.{AtSite, RunsLine, RunsOn, RunsServer, RunsSetUp, RunsWords, SaysEnd, SaysLine, asked_in, asked_of, program_of, status_in}
 use Rattle.play_server.specs.ServerWords.{Accepts, ReadsWords, playd_app}
 use Rattle.play_server.specs.Site.{DeviceStates, Says}
-use Rattle.play_server.specs.SiteState.{SiteState}
+use Rattle.play_server.specs.SiteState.{SiteState, after_call_without_memory}
 use Rattle.play_server.specs.Statuses.{EndsUncalled, EndsWell, HasFirstFault, HasServedClients, IsRefused, RefusesClips, RefusesConfig, SomethingFails}
 use Rattle.play_server.specs.declared.served.ServeEnd.TheVariants as serve
 use Rattle.play_server.specs.declared.words.ServerWords.{ServerWords}
@@ -39,11 +41,7 @@ module _ {C D O : Type 0} where
   -- what is said at the end takes no fault back
   end_more : (result : Result (Unit {0}) RunFault) (before after : SiteState C D O) → SaysEnd result before after → before.faults ≤ after.faults
   end_more (Ok done) before after says = omega (arith, ap (λ (s : SiteState C D O). s.faults) says)
-  end_more (Err fault) before after says =
-      elim says.said [
-        | inl told ↦ said_more told.0 says.line before after told.1
-        | inr unsaid ↦ omega (arith, ap (λ (s : SiteState C D O). s.faults) unsaid.1)
-      ]
+  end_more (Err fault) before after says = said_more says.step says.line before after says.said
 
 module _ {C D O L : Type 0} (device : DeviceStates C D O L) (tells : L → SinkState) (line : List (List ℕ)) where
   -- a server was set up as the words say
@@ -61,6 +59,9 @@ module _ {C D O L : Type 0} (device : DeviceStates C D O L) (tells : L → SinkS
   Came (Err (ConfigKey key)) moments = IsRefused line (ConfigKey key) moments
   Came (Err (BadLine number)) moments = ⊥
   Came (Err InputTooLong) moments = ⊥
+  Came (Err (Plan number)) moments = ⊥
+  Came (Err PlanEnd) moments = ⊥
+  Came (Err (Clip fault)) moments = ⊥
   Came (Err (MediaTwice name)) moments = IsRefused line (MediaTwice name) moments
   Came (Err (MediaTotal total)) moments = IsRefused line (MediaTotal total) moments
   Came (Err Device) moments =
@@ -68,7 +69,9 @@ module _ {C D O L : Type 0} (device : DeviceStates C D O L) (tells : L → SinkS
       × (Rose moments.0.folder.faults moments.1.folder.faults
       ⊎ (IsSetUp moments × (Rose moments.0.site.faults moments.1.site.faults ⊎ HasServedClients device tells line serve.DeviceFault moments)))
   Came (Err OutOfMemory) moments =
-      (moments.1.site ≡ moments.0.site) ⊎ ((run : HasServedClients device tells line serve.OutOfMemory moments) × (run.site ≡ moments.1.site))
+      (moments.1.site ≡ moments.0.site)
+      ⊎ ((moments.1.site ≡ after_call_without_memory moments.0.site)
+      ⊎ ((run : HasServedClients device tells line serve.OutOfMemory moments) × (run.site ≡ moments.1.site)))
 
   -- what came of setting up that met a fault
   came_of_fault : (named : ServerWords) (fault : RunFault) (moments : AtSite C D O × AtSite C D O) → Accepts line named
@@ -78,6 +81,9 @@ module _ {C D O L : Type 0} (device : DeviceStates C D O L) (tells : L → SinkS
   came_of_fault named (ConfigKey key) moments accepted sets same = record { named = named; accepted = accepted; refused = sets }
   came_of_fault named (BadLine number) moments accepted sets same = absurd sets
   came_of_fault named InputTooLong moments accepted sets same = absurd sets
+  came_of_fault named (Plan number) moments accepted sets same = absurd sets
+  came_of_fault named PlanEnd moments accepted sets same = absurd sets
+  came_of_fault named (Clip fault) moments accepted sets same = absurd sets
   came_of_fault named (MediaTwice name) moments accepted sets same = record { named = named; accepted = accepted; refused = sets }
   came_of_fault named (MediaTotal total) moments accepted sets same = record { named = named; accepted = accepted; refused = sets }
   came_of_fault named Device moments accepted sets same = (accepted.accepted, inl sets.1)
@@ -100,14 +106,17 @@ module _ {C D O L : Type 0} (device : DeviceStates C D O L) (tells : L → SinkS
   came_of_run named setup (Err OutOfMemory) moments accepted sets runs =
       elim runs [
         | inl served ↦
-            inr (record { named = named; accepted = accepted; setup = setup; set_up = sets; site = moments.1.site; served = served }, refl)
-        | inr unready ↦ inl unready
+            inr (inr (record { named = named; accepted = accepted; setup = setup; set_up = sets; site = moments.1.site; served = served }, refl))
+        | inr unready ↦ inr (inl unready)
       ]
   came_of_run named setup (Err Usage) moments accepted sets runs = absurd runs
   came_of_run named setup (Err ConfigText) moments accepted sets runs = absurd runs
   came_of_run named setup (Err (ConfigKey key)) moments accepted sets runs = absurd runs
   came_of_run named setup (Err (BadLine number)) moments accepted sets runs = absurd runs
   came_of_run named setup (Err InputTooLong) moments accepted sets runs = absurd runs
+  came_of_run named setup (Err (Plan number)) moments accepted sets runs = absurd runs
+  came_of_run named setup (Err PlanEnd) moments accepted sets runs = absurd runs
+  came_of_run named setup (Err (Clip fault)) moments accepted sets runs = absurd runs
   came_of_run named setup (Err (MediaTwice name)) moments accepted sets runs = absurd runs
   came_of_run named setup (Err (MediaTotal total)) moments accepted sets runs = absurd runs
 
@@ -116,7 +125,11 @@ module _ {C D O L : Type 0} (device : DeviceStates C D O L) (tells : L → SinkS
       → RunsSetUp device tells (asked_in setup (option_map string_bytes named.journal)) result (moments.0.site, moments.1.site) → Came result moments
   came_of_setup named (Ok setup) result moments accepted sets runs = came_of_run named setup result moments accepted sets runs
   came_of_setup named (Err fault) result moments accepted sets runs =
-      subst (λ (r : Result (Unit {0}) RunFault). Came r moments) (sym runs.0) (came_of_fault named fault moments accepted sets runs.1)
+      subst (λ (r : Result (Unit {0}) RunFault). Came r moments) (sym runs.2)
+      (elim runs.1 [
+        | inl same ↦ subst (λ (f : RunFault). Came (Err f) moments) (sym same) (came_of_fault named fault moments accepted sets runs.3)
+        | inr late ↦ subst (λ (f : RunFault). Came (Err f) moments) (sym late.1) (inl runs.3)
+      ])
 
   came_of_words : (read : Result ServerWords WordsFault) (result : Result (Unit {0}) RunFault) (moments : AtSite C D O × AtSite C D O) → ReadsWords line read
       → RunsWords device tells read result moments → Came result moments
@@ -136,6 +149,9 @@ module _ {C D O L : Type 0} (device : DeviceStates C D O L) (tells : L → SinkS
   only_usage (Err (ConfigKey key)) moments came is = absurd (omega (arith, is))
   only_usage (Err (BadLine number)) moments came is = absurd came
   only_usage (Err InputTooLong) moments came is = absurd came
+  only_usage (Err (Plan number)) moments came is = absurd came
+  only_usage (Err PlanEnd) moments came is = absurd came
+  only_usage (Err (Clip fault)) moments came is = absurd came
   only_usage (Err (MediaTwice name)) moments came is = absurd (omega (arith, is))
   only_usage (Err (MediaTotal total)) moments came is = absurd (omega (arith, is))
   only_usage (Err Device) moments came is = absurd (omega (arith, is))
@@ -150,6 +166,9 @@ module _ {C D O L : Type 0} (device : DeviceStates C D O L) (tells : L → SinkS
   refused_words (Err (ConfigKey key)) moments came refused = absurd (refused came.accepted.accepted)
   refused_words (Err (BadLine number)) moments came refused = absurd came
   refused_words (Err InputTooLong) moments came refused = absurd came
+  refused_words (Err (Plan number)) moments came refused = absurd came
+  refused_words (Err PlanEnd) moments came refused = absurd came
+  refused_words (Err (Clip fault)) moments came refused = absurd came
   refused_words (Err (MediaTwice name)) moments came refused = absurd (refused came.accepted.accepted)
   refused_words (Err (MediaTotal total)) moments came refused = absurd (refused came.accepted.accepted)
   refused_words (Err Device) moments came refused = absurd (refused came.0)
@@ -163,6 +182,9 @@ module _ {C D O L : Type 0} (device : DeviceStates C D O L) (tells : L → SinkS
   only_config (Err (ConfigKey key)) moments came is = inr (key, came)
   only_config (Err (BadLine number)) moments came is = absurd came
   only_config (Err InputTooLong) moments came is = absurd came
+  only_config (Err (Plan number)) moments came is = absurd came
+  only_config (Err PlanEnd) moments came is = absurd came
+  only_config (Err (Clip fault)) moments came is = absurd came
   only_config (Err (MediaTwice name)) moments came is = absurd (omega (arith, is))
   only_config (Err (MediaTotal total)) moments came is = absurd (omega (arith, is))
   only_config (Err Device) moments came is = absurd (omega (arith, is))
@@ -176,6 +198,9 @@ module _ {C D O L : Type 0} (device : DeviceStates C D O L) (tells : L → SinkS
   only_clips (Err (ConfigKey key)) moments came is = absurd (omega (arith, is))
   only_clips (Err (BadLine number)) moments came is = absurd came
   only_clips (Err InputTooLong) moments came is = absurd came
+  only_clips (Err (Plan number)) moments came is = absurd came
+  only_clips (Err PlanEnd) moments came is = absurd came
+  only_clips (Err (Clip fault)) moments came is = absurd came
   only_clips (Err (MediaTwice name)) moments came is = inl (name, came)
   only_clips (Err (MediaTotal total)) moments came is = inr (total, came)
   only_clips (Err Device) moments came is = absurd (omega (arith, is))
@@ -199,10 +224,21 @@ module _ {C D O L : Type 0} (device : DeviceStates C D O L) (tells : L → SinkS
   only_device (Err (ConfigKey key)) moments came is = absurd (omega (arith, is))
   only_device (Err (BadLine number)) moments came is = absurd came
   only_device (Err InputTooLong) moments came is = absurd came
+  only_device (Err (Plan number)) moments came is = absurd came
+  only_device (Err PlanEnd) moments came is = absurd came
+  only_device (Err (Clip fault)) moments came is = absurd came
   only_device (Err (MediaTwice name)) moments came is = absurd (omega (arith, is))
   only_device (Err (MediaTotal total)) moments came is = absurd (omega (arith, is))
   only_device (Err Device) moments came is = failed moments came
   only_device (Err OutOfMemory) moments came is = absurd (omega (arith, is))
+
+  clip_at_most : (fault : ClipFault) → status_of (Clip fault) ≤ 5
+  clip_at_most clip.BadMagic = omega arith
+  clip_at_most clip.BadVersion = omega arith
+  clip_at_most (clip.BadField at) = omega arith
+  clip_at_most (clip.Short needed had) = omega arith
+  clip_at_most (clip.Long extra) = omega arith
+  clip_at_most clip.OutOfMemory = omega arith
 
   -- no status is above 5
   at_most : (result : Result (Unit {0}) RunFault) → status_in result ≤ 5
@@ -212,6 +248,9 @@ module _ {C D O L : Type 0} (device : DeviceStates C D O L) (tells : L → SinkS
   at_most (Err (ConfigKey key)) = omega arith
   at_most (Err (BadLine number)) = omega arith
   at_most (Err InputTooLong) = omega arith
+  at_most (Err (Plan number)) = omega arith
+  at_most (Err PlanEnd) = omega arith
+  at_most (Err (Clip fault)) = clip_at_most fault
   at_most (Err (MediaTwice name)) = omega arith
   at_most (Err (MediaTotal total)) = omega arith
   at_most (Err Device) = omega arith
@@ -240,6 +279,9 @@ module _ {C D O L : Type 0} (device : DeviceStates C D O L) (tells : L → SinkS
   completes decides (Err (ConfigKey key)) moments has came = absurd (none-some _ (first_of_refused decides (ConfigKey key) None moments has came))
   completes decides (Err (BadLine number)) moments has came = absurd came
   completes decides (Err InputTooLong) moments has came = absurd came
+  completes decides (Err (Plan number)) moments has came = absurd came
+  completes decides (Err PlanEnd) moments has came = absurd came
+  completes decides (Err (Clip fault)) moments has came = absurd came
   completes decides (Err (MediaTwice name)) moments has came = absurd (none-some _ (first_of_refused decides (MediaTwice name) None moments has came))
   completes decides (Err (MediaTotal total)) moments has came = absurd (none-some _ (first_of_refused decides (MediaTotal total) None moments has came))
   completes decides (Err Device) moments has came = inr (inr (refl, failed moments came))
@@ -265,6 +307,9 @@ module _ {C D O L : Type 0} (device : DeviceStates C D O L) (tells : L → SinkS
   meets decides fault (Err (ConfigKey key)) moments has came = same_fault (ConfigKey key) fault moments.0.folder moments.1.folder (first_of_refused decides (ConfigKey key) (Some fault) moments has came)
   meets decides fault (Err (BadLine number)) moments has came = absurd came
   meets decides fault (Err InputTooLong) moments has came = absurd came
+  meets decides fault (Err (Plan number)) moments has came = absurd came
+  meets decides fault (Err PlanEnd) moments has came = absurd came
+  meets decides fault (Err (Clip refused)) moments has came = absurd came
   meets decides fault (Err (MediaTwice name)) moments has came = same_fault (MediaTwice name) fault moments.0.folder moments.1.folder (first_of_refused decides (MediaTwice name) (Some fault) moments has came)
   meets decides fault (Err (MediaTotal total)) moments has came = same_fault (MediaTotal total) fault moments.0.folder moments.1.folder (first_of_refused decides (MediaTotal total) (Some fault) moments has came)
   meets decides fault (Err Device) moments has came =
@@ -294,6 +339,9 @@ module _ {C D O L : Type 0} (device : DeviceStates C D O L) (tells : L → SinkS
   only_success (Err (ConfigKey key)) first between last folder says came is = absurd (omega (arith, is))
   only_success (Err (BadLine number)) first between last folder says came is = absurd came
   only_success (Err InputTooLong) first between last folder says came is = absurd came
+  only_success (Err (Plan number)) first between last folder says came is = absurd came
+  only_success (Err PlanEnd) first between last folder says came is = absurd came
+  only_success (Err (Clip fault)) first between last folder says came is = absurd came
   only_success (Err (MediaTwice name)) first between last folder says came is = absurd (omega (arith, is))
   only_success (Err (MediaTotal total)) first between last folder says came is = absurd (omega (arith, is))
   only_success (Err Device) first between last folder says came is = absurd (omega (arith, is))
@@ -305,12 +353,15 @@ module _ {C D O L : Type 0} (device : DeviceStates C D O L) (tells : L → SinkS
   uncalled first between last folder says came =
       elim came [
         | inl same ↦ inl (subst (λ (s : SiteState C D O). SaysLine OutOfMemory s last.site) same says)
-        | inr run ↦
-            inr (
-              moved_run device tells line first between last folder serve.OutOfMemory run.0,
-              run.0.served.serves,
-              subst (λ (s : SiteState C D O). SaysLine OutOfMemory s last.site) (sym run.1) says,
-            )
+        | inr asked ↦ elim asked [
+          | inl unready ↦ inr (inl (subst (λ (s : SiteState C D O). SaysLine OutOfMemory s last.site) unready says))
+          | inr run ↦
+              inr (inr (
+                moved_run device tells line first between last folder serve.OutOfMemory run.0,
+                run.0.served.serves,
+                subst (λ (s : SiteState C D O). SaysLine OutOfMemory s last.site) (sym run.1) says,
+              ))
+        ]
       ]
 
   only_memory : (result : Result (Unit {0}) RunFault) (first between last : AtSite C D O) → last.folder ≡ between.folder → SaysEnd result between.site last.site
@@ -321,6 +372,9 @@ module _ {C D O L : Type 0} (device : DeviceStates C D O L) (tells : L → SinkS
   only_memory (Err (ConfigKey key)) first between last folder says came is = absurd (omega (arith, is))
   only_memory (Err (BadLine number)) first between last folder says came is = absurd came
   only_memory (Err InputTooLong) first between last folder says came is = absurd came
+  only_memory (Err (Plan number)) first between last folder says came is = absurd came
+  only_memory (Err PlanEnd) first between last folder says came is = absurd came
+  only_memory (Err (Clip fault)) first between last folder says came is = absurd came
   only_memory (Err (MediaTwice name)) first between last folder says came is = absurd (omega (arith, is))
   only_memory (Err (MediaTotal total)) first between last folder says came is = absurd (omega (arith, is))
   only_memory (Err Device) first between last folder says came is = absurd (omega (arith, is))

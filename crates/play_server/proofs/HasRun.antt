@@ -30,9 +30,9 @@ use Rattle.conn_worker.specs.Server.{setting_in}
 use Rattle.conn_worker.specs.Work.{Setting}
 use Rattle.conn_worker.specs.declared.server.Server.{Server}
 use Rattle.conn_worker.specs.declared.work_end.WorkEnd.{WorkEnd}
-use Rattle.play_ticker.specs.Ends.{EndsPass, clock_at_end}
+use Rattle.play_ticker.specs.Ends.{EndsPass, Meets, clock_at_end}
 use Rattle.play_ticker.specs.Frames.{AreBlank, is_tick, tick_positions}
-use Rattle.play_ticker.specs.Outputs.{EachOutput, IsWritten}
+use Rattle.play_ticker.specs.Outputs.{AreWritten}
 use Rattle.play_ticker.specs.declared.ending.TickEnd.{TickEnd}
 use Rattle.play_ticker.specs.declared.ending.TickEnd.TheVariants.{ClockClosed, Ended, TicksOver, ClockFault, OutFault}
 use Rattle.play_ticker.proofs.Frames.{GoesOn, goes_on_by_ticks, ticks-quiet}
@@ -50,13 +50,6 @@ use Rattle.play_server.proofs.Reversed.{all_zip_reverse, any_reversed}
 use Rattle.play_server.proofs.EndsWithStop.{ends_with_stop, has_final_last, same_server, seen_stop, ticks_end, written_later}
 use Rattle.play_server.proofs.IsExplainedLink.{IsNewPass, stop_stays}
 use Rattle.play_server.proofs.HasServed.{DoorsServed, IsOfLinks, doors_served, is_faulty}
-
-each_output : {O : Type 0} (P Q : ℕ → O → O → Type 0) (channel : ℕ) (olds news : List O) → ((channel : ℕ) (old new : O) → P channel old new → Q channel old new)
-    → EachOutput P channel olds news → EachOutput Q channel olds news
-each_output P Q channel [] [] f each = tt
-each_output P Q channel [] (new ∷ news) f each = absurd each
-each_output P Q channel (old ∷ olds) [] f each = absurd each
-each_output P Q channel (old ∷ olds) (new ∷ news) f each = (f channel old new each.0, each_output P Q (suc channel) olds news f each.1)
 
 each_door : {L D : Type 0} (P Q : ℕ → DoorRun L → D → D → Type 0) (worker : ℕ) (runs : List (DoorRun L)) (olds news : List D)
     → ((worker : ℕ) (run : DoorRun L) (old new : D) → P worker run old new → Q worker run old new)
@@ -101,11 +94,11 @@ pub record Closed {C D O L : Type 0} (states : DeviceStates C D O L) (tells : L 
   pub of : first.stage ≡ server.stage.now
   pub number : first.number ≡ 0
   pub made : first.made ≡ tick_positions first.seen
-  pub outs : EachOutput
-      (λ channel before after. IsWritten run.0 (record { setup = setup; history = first.seen }) channel (states.out before) (states.out after))
-      1 run.2.outs.items run.3.outs.items
-  pub clock : states.clock run.3.clock ≡ clock_at_end run.0 (ticks first.seen) (states.clock run.2.clock)
-  pub tick_end : EndsPass run.0 (ticker_pass server.stage.now) first
+  pub outs : AreWritten states.out run.0 (record { setup = setup; history = first.seen }) run.2.outs.items run.3.outs.items
+  pub met : TickEnd
+  pub meets : Meets first.stage.sizes.channels run.0 met
+  pub clock : states.clock run.3.clock ≡ clock_at_end met (ticks first.seen) (states.clock run.2.clock)
+  pub tick_end : EndsPass met (ticker_pass server.stage.now) first
   pub worked : EachPlace (door_states states.door tells) server (worker_passes server.stage.now (length run.2.doors.items)) run.2.doors.items others ended run.3.doors.items
   pub closes : Closes after journal.events
   pub is_journal : IsJournal journal
@@ -150,7 +143,7 @@ module _ {C D O L : Type 0} (states : DeviceStates C D O L) (tells : L → SinkS
 
   a_stop : (at : ℕ) × (stop_at history ≡ Some at)
   a_stop =
-      let seen = seen_stop ticker (new_pass server.stage.now 0) first c.tick_end in
+      let seen = seen_stop c.met (new_pass server.stage.now 0) first c.tick_end in
       (seen.0, stop_stays first.seen history seen.0 first_is.seen seen.1)
 
   abbrev stopped : EndsWithStop history
@@ -212,20 +205,20 @@ module _ {C D O L : Type 0} (states : DeviceStates C D O L) (tells : L → SinkS
   all_made : All (IsMadeBy served.runs) history
   all_made k d less = made_here k (slice_index_or history k d) (at_index history k d less)
 
-  stopped_by : IsStoppedBy ticker served.runs stopped.tag
-  stopped_by is = go ticker refl
+  stopped_by : IsStoppedBy c.met served.runs stopped.tag
+  stopped_by is = go c.met refl
     where
       final : has_final history ≡ true
       final = ap has_final stopped.whole ∙ ap (λ (t : Tag). has_final (stopped.events ++ Stop t ∷ [])) is ∙ has_final_last stopped.events
 
-      not_first : (t : TickEnd) → ticker ≡ t → is_found t ≡ true → first.ends ≡ false
+      not_first : (t : TickEnd) → c.met ≡ t → is_found t ≡ true → first.ends ≡ false
       not_first ClockClosed same found = absurd cc
       not_first (Ended at) same found = (subst (λ (t : TickEnd). EndsPass t (new_pass server.stage.now 0) first) same c.tick_end).1
       not_first TicksOver same found = absurd cc
       not_first ClockFault same found = absurd cc
       not_first (OutFault channel) same found = absurd cc
 
-      by_pass : (t : TickEnd) → ticker ≡ t → is_found t ≡ true → (j : ℕ) (pass : PassView) → get_elem? c.after j ≡ some pass → pass.ends ≡ true → list_any is_faulty served.runs ≡ true
+      by_pass : (t : TickEnd) → c.met ≡ t → is_found t ≡ true → (j : ℕ) (pass : PassView) → get_elem? c.after j ≡ some pass → pass.ends ≡ true → list_any is_faulty served.runs ≡ true
       by_pass t same found zero pass is ends =
           let pass_is : first ≡ pass = some-injective first pass (sym first_at ∙ is) in
           absurd (true≢false (sym ends ∙ ap (λ (p : PassView). p.ends) (sym pass_is) ∙ not_first t same found))
@@ -233,10 +226,10 @@ module _ {C D O L : Type 0} (states : DeviceStates C D O L) (tells : L → SinkS
           let there : get_elem? others j ≡ some pass = sym (ap (λ (ps : List PassView). get_elem? ps (suc j)) c.passes) ∙ is in
           served.ends j pass there ends
 
-      go : (t : TickEnd) → ticker ≡ t → (is_found ticker ≡ false) ⊎ (list_any is_faulty served.runs ≡ true)
+      go : (t : TickEnd) → c.met ≡ t → (is_found c.met ≡ false) ⊎ (list_any is_faulty served.runs ≡ true)
       go t same = by_case (is_found t) refl
         where
-          by_case : (b : Bool) → is_found t ≡ b → (is_found ticker ≡ false) ⊎ (list_any is_faulty served.runs ≡ true)
+          by_case : (b : Bool) → is_found t ≡ b → (is_found c.met ≡ false) ⊎ (list_any is_faulty served.runs ≡ true)
           by_case true found =
               let some_ends = c.closes.ends final in
               inr (by_pass t same found some_ends.k some_ends.pass some_ends.at some_ends.ends)
@@ -249,6 +242,7 @@ module _ {C D O L : Type 0} (states : DeviceStates C D O L) (tells : L → SinkS
   has_run = record {
     history = history;
     ticker = ticker;
+    met = c.met;
     runs = served.runs;
     written = written;
     whole = c.is_journal.history;
@@ -262,16 +256,11 @@ module _ {C D O L : Type 0} (states : DeviceStates C D O L) (tells : L → SinkS
         1 served.runs given.doors.items finished.doors.items
         (λ worker run before after h. subst (λ (s : Setting L). HasServed s history run (states.door before) (states.door after)) (setting_is worker) h)
         served.each;
-    outs = each_output
-        (λ channel before after. IsWritten ticker (record { setup = c.setup; history = first.seen }) channel (states.out before) (states.out after))
-        (λ channel before after. IsWritten ticker (record { setup = setup_of program; history = history }) channel (states.out before) (states.out after))
-        1 given.outs.items finished.outs.items
-        (λ channel before after h. subst (λ (s : Setup). IsWritten ticker (record { setup = s; history = history }) channel (states.out before) (states.out after)) c.setup_is
-        (written_later c.setup first.seen history on ticker channel (states.out before) (states.out after) h))
-        c.outs;
-    clock = c.clock ∙ ap (λ (n : ℕ). clock_at_end ticker n (states.clock given.clock)) (sym same_ticks);
-    pulses = ticks_end (length program.config.channels) ticker (new_pass server.stage.now 0) first history c.tick_end first_is.seen same_ticks
-        (ap (λ (s : SharedView). s.sizes.channels) c.of ∙ c.channels);
+    outs = subst (λ (s : Setup). AreWritten states.out ticker (record { setup = s; history = history }) given.outs.items finished.outs.items) c.setup_is
+        (written_later states.out c.setup first.seen history on ticker given.outs.items finished.outs.items c.outs);
+    meets = subst (λ (n : ℕ). Meets n ticker c.met) (ap (λ (s : SharedView). s.sizes.channels) c.of ∙ c.channels) c.meets;
+    clock = c.clock ∙ ap (λ (n : ℕ). clock_at_end c.met n (states.clock given.clock)) (sym same_ticks);
+    pulses = ticks_end c.met (new_pass server.stage.now 0) first history c.tick_end first_is.seen same_ticks;
     text = subst (λ names. Sends written (history_text names history) (states.out given.history) (states.out finished.history)) c.names c.text;
     ending = ap (λ (b : Bool). ends_so (is_tick_fault ticker || (b || is_cut written))) (sym served.faults);
   }
@@ -331,12 +320,9 @@ module _ {C D O L : Type 0} (states : DeviceStates C D O L) (tells : L → SinkS
       (subst (λ (ps : List PassView). EachPlace (door_states states.door tells) server ps (doors_of (reverse old.workers))
       (passes_of (reverse new.workers)) (ends_of (reverse new.workers)) (doors_of (reverse new.workers))) passes.workers each))
 
-  outs_at : EachOutput
-      (λ channel before after. IsWritten ticker (record { setup = setup; history = new.ticker.pass.seen }) channel (states.out before) (states.out after))
-      1 given.outs.items finished.outs.items
+  outs_at : AreWritten states.out ticker (record { setup = setup; history = new.ticker.pass.seen }) given.outs.items finished.outs.items
   outs_at =
-      let Took : List O → List O → Type 0 = λ olds news. EachOutput
-      (λ channel before after. IsWritten ticker (record { setup = setup; history = new.ticker.pass.seen }) channel (states.out before) (states.out after)) 1 olds news in
+      let Took : List O → List O → Type 0 = λ olds news. AreWritten states.out ticker (record { setup = setup; history = new.ticker.pass.seen }) olds news in
       subst (λ (os : List O). Took given.outs.items os) held.outs (subst (λ (os : List O). Took os new.ticker.outs.items) holds.outs ran.ticked.outs)
 
   pub finish : (written : Sent) (end : ServeEnd) → IsPlayedOn program server setup
@@ -359,8 +345,10 @@ module _ {C D O L : Type 0} (states : DeviceStates C D O L) (tells : L → SinkS
         number = ran.ticked.number;
         made = ran.ticked.made;
         outs = outs_at;
-        clock = ap states.clock (sym held.clock) ∙ ran.ticked.clock ∙ ap (λ (c : C). clock_at_end ticker (ticks new.ticker.pass.seen) (states.clock c)) holds.clock;
-        tick_end = subst (λ (pass : PassView). EndsPass ticker pass new.ticker.pass) passes.ticker ran.ticked.end;
+        met = ran.ticked.ended.met;
+        meets = ran.ticked.ended.meets;
+        clock = ap states.clock (sym held.clock) ∙ ran.ticked.ended.clock ∙ ap (λ (c : C). clock_at_end ran.ticked.ended.met (ticks new.ticker.pass.seen) (states.clock c)) holds.clock;
+        tick_end = subst (λ (pass : PassView). EndsPass ran.ticked.ended.met pass new.ticker.pass) passes.ticker ran.ticked.ended.pass;
         worked = worked_at;
         closes = ending.closes;
         is_journal = ending.is_journal;

@@ -12,7 +12,8 @@ use Rattle.stage_lock.specs.Views.{PassView}
 use Rattle.play_types.specs.declared.event.Event.TheVariants.{Stop}
 use Rattle.stage_lock.specs.Calls.{Adds, IsStopped, Looks, tag_of}
 use Rattle.stage_lock.proofs.Prefixes.{prefix_self, prefix_trans}
-use Rattle.conn_worker.specs.Followed.{Service, Followed, events_of, steps_in, steps_of}
+use Rattle.history_model.specs.sessions.Request.{tokens}
+use Rattle.conn_worker.specs.Followed.{Service, Followed, events_of, steps_in, steps_of, tokens_in}
 use Rattle.conn_worker.specs.Rounds.{IsAfterFailure, after_rounds, bytes_in}
 use Rattle.conn_worker.specs.Explained.{AreInOrder, EndsBy, IsCaughtUp, Talk, covered}
 use Rattle.conn_worker.specs.Work.{AtDoor, Came, EndsWork, HasWorked, IsServed, LooksOn, NoneYet, Setting, StopsAfter, TakesAll, Turn, LinkRun, links_come, number_came, service_of}
@@ -77,6 +78,7 @@ module _ {L : Type 0} where
   pub record IsLink (setting : Setting L) (seen : List Event) (number : ℕ) (x : Link L) : Type 0 where
     pub new : IsNewSink x.link_run.came
     pub steps : IsPrefix (steps_in (covered x.talk)) (steps_of (service_of setting number) (covered x.talk) (bytes_in x.talk.rounds))
+    pub tokens : IsPrefix (tokens_in (covered x.talk)) (tokens (bytes_in x.talk.rounds))
     pub order : AreInOrder (service_of setting number) [] (covered x.talk) x.talk.pass.seen
     pub looks : (k : ℕ) → k < length x.talk.rounds → IsCaughtUp (service_of setting number) (take k x.talk.rounds)
     pub link : IsAfterFailure (service_of setting number) x.talk.failure (after_rounds (service_of setting number) x.talk.rounds x.link_run.came) (setting.tells x.link_run.line)
@@ -87,6 +89,7 @@ module _ {L : Type 0} where
   link_later setting seen later number x grows is = record {
     new = is.new;
     steps = is.steps;
+    tokens = is.tokens;
     order = is.order;
     looks = is.looks;
     link = is.link;
@@ -123,6 +126,7 @@ module _ {L : Type 0} where
         is = record {
           new = served.new;
           steps = explained.steps;
+          tokens = explained.tokens;
           order = in_order_from_none service before.pass.seen (covered talk) link_run.pass.seen explained.made.order;
           looks = explained.looks;
           link = explained.link;

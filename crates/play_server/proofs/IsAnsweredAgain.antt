@@ -51,6 +51,8 @@ same_answer channels clips others before refused (cmd.Set setting) = refl
 same_answer channels clips others before refused (cmd.CommitMixer channel) = refl
 same_answer channels clips others before refused (cmd.ResetLayer place) = refl
 same_answer channels clips others before refused (cmd.ResetChannel channel) = refl
+same_answer channels clips others before refused (cmd.AddFile channel recorded) = refl
+same_answer channels clips others before refused (cmd.RemoveFile channel) = refl
 same_answer channels clips others before refused (cmd.Value place prop) = refl
 same_answer channels clips others before refused cmd.Info = refl
 

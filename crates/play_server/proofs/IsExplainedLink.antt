@@ -88,6 +88,7 @@ module _ {L : Type 0} where
           explained = record {
             talk = x.talk;
             steps = is.steps;
+            tokens = is.tokens;
             order = in_order_later service [] (covered x.talk) x.talk.pass.seen history is.order (prefix_trans x.talk.pass.seen seen history is.seen_is grows);
             events = events;
             looks = is.looks;

@@ -23,4 +23,5 @@ mod RunPasses
 mod RunsServer
 mod SaysLine
 mod Tags
+mod ToldFault
 mod WriteHistory

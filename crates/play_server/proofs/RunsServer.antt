@@ -1,50 +1,23 @@
 -- The parts of the program's run, put together.
-use Rattle.std.proofs.Common.{◌≡◌, ℕ, true, List, [], ◌∷◌, ◌++◌, refl, sym, ap, ◌∙◌, subst, append_assoc, inr}
-use Rattle.std.specs.Prelude.{Option, Result, Ok, codes, decimal, option_map, string_bytes}
-use Rattle.std.specs.Str.{encode_utf8_all}
+use Rattle.std.proofs.Common.{◌≡◌, ℕ, true, List, refl, sym, ap, ◌∙◌, subst, inl, inr}
+use Rattle.std.specs.Prelude.{Option, Result, Ok, Err, option_map, string_bytes}
 use Rattle.play_outside.specs.FolderState.{FolderState}
 use Rattle.play_outside.specs.SinkState.{SinkState}
 use Rattle.play_outside.specs.declared.devices.Devices.{Devices}
-use Rattle.server_setup.specs.Fault.{HasDetail}
 use Rattle.server_setup.specs.declared.fault.RunFault.{RunFault}
-use Rattle.server_setup.specs.declared.fault.RunFault.TheVariants.{Usage, ConfigText, ConfigKey, BadLine, InputTooLong, MediaTwice, MediaTotal, Device, OutOfMemory}
+use Rattle.server_setup.specs.declared.fault.RunFault.TheVariants.{Usage, ConfigText, ConfigKey, BadLine, InputTooLong, Plan, PlanEnd, Clip, MediaTwice, MediaTotal, Device, OutOfMemory}
 use Rattle.server_setup.specs.Setup.{SetsUp}
 use Rattle.server_setup.specs.declared.setup.ServerSetup.{ServerSetup}
-use Rattle.play_server.specs.Program.{RunsLine, RunsOn, SaysLine, ServesOn, asked_of}
+use Rattle.play_server.specs.Program.{Asked, AtSite, IsToldAs, RunsLine, RunsOn, RunsServer, RunsSetUp, RunsWords, ServesOn, TakesMemory, asked_in, asked_of}
 use Rattle.play_server.specs.Run.{Program, Serves}
 use Rattle.play_server.specs.ServerWords.{Accepts}
 use Rattle.play_server.specs.Site.{AreReady, DeviceStates, ready_call}
 use Rattle.play_server.specs.SiteState.{SiteState, after_call, after_finish}
 use Rattle.play_server.specs.declared.served.ServeEnd.{ServeEnd}
 use Rattle.play_server.specs.declared.words.ServerWords.{ServerWords}
-
--- a line with a name or a number was not said, out of memory
-pub unsaid : {C D O : Type 0} (fault : RunFault) (state : SiteState C D O) → HasDetail fault → SaysLine fault state state
-unsaid Usage state detail = absurd detail
-unsaid ConfigText state detail = absurd detail
-unsaid (ConfigKey key) state detail = record {
-  line = codes "E config key " ++ encode_utf8_all key;
-  line_is = append_assoc (codes "E config key ") (encode_utf8_all key) (10 ∷ []);
-  said = inr (detail, refl);
-}
-unsaid (BadLine number) state detail = record {
-  line = codes "E line " ++ decimal number;
-  line_is = append_assoc (codes "E line ") (decimal number) (10 ∷ []);
-  said = inr (detail, refl);
-}
-unsaid InputTooLong state detail = absurd detail
-unsaid (MediaTwice name) state detail = record {
-  line = codes "E media twice " ++ encode_utf8_all name;
-  line_is = append_assoc (codes "E media twice ") (encode_utf8_all name) (10 ∷ []);
-  said = inr (detail, refl);
-}
-unsaid (MediaTotal total) state detail = record {
-  line = codes "E media total " ++ decimal total;
-  line_is = append_assoc (codes "E media total ") (decimal total) (10 ∷ []);
-  said = inr (detail, refl);
-}
-unsaid Device state detail = absurd detail
-unsaid OutOfMemory state detail = absurd detail
+use Rattle.play_server.specs.declared.words.WordsFault.{WordsFault}
+use Rattle.play_server.specs.declared.words.WordsFault.TheVariants as words
+use Rattle.play_server.specs.inner.Ending.{EndsWithFault}
 
 -- devices were given, served and finished
 pub served_on : {C D O L : Type 0} (device : DeviceStates C D O L) (tells : L → SinkState) (program : Program) (end told_end : ServeEnd)
@@ -78,3 +51,91 @@ ran_line device tells line named setup path result before lent left after site b
     runs = subst (λ (s : SiteState _ _ _). RunsOn device tells (asked_of setup (option_map string_bytes named.journal)) result (s, last)) same runs;
   };
 }
+
+-- the words were accepted, and setting up met a fault
+pub refused_line : {C D O L : Type 0} (device : DeviceStates C D O L) (tells : L → SinkState) (line : List (List ℕ)) (named : ServerWords) (fault : RunFault)
+    (path : List ℕ) (result : Result (Unit {0}) RunFault) (before lent left after : FolderState) (site last : SiteState C D O) →
+    Accepts line named → path ≡ string_bytes named.config → lent ≡ before → SetsUp path (Err fault) lent left → after ≡ left → last ≡ site → result ≡ Err fault →
+    RunsLine device tells line result (record { folder = before; site = site }, record { folder = after; site = last })
+refused_line device tells line named fault path result before lent left after site last accepts path_is lent_is sets_up left_is same result_is = record {
+  read = Ok named;
+  reads = accepts;
+  runs = record {
+    setup = Err fault;
+    sets_up =
+        subst (λ (p : List ℕ). SetsUp p (Err fault) before after) path_is
+        (subst (λ (f : FolderState). SetsUp path (Err fault) f after) lent_is
+        (subst (λ (f : FolderState). SetsUp path (Err fault) lent f) (sym left_is) sets_up));
+    runs = (fault, inl refl, result_is, same);
+  };
+}
+
+-- the fault that was met has a line that takes memory, if the one that it is told as has one
+takes_line : (met told : RunFault) → IsToldAs met told → TakesMemory told → TakesMemory met
+takes_line met told told_is takes =
+    elim told_is [
+      | inl same ↦ subst TakesMemory same takes
+      | inr late ↦ late.0
+    ]
+
+module _ {C D O L : Type 0} (device : DeviceStates C D O L) (tells : L → SinkState) where
+  -- a run on devices meets no fault whose line takes memory
+  no_line_of_run : (asked : Asked) (met : RunFault) (moments : SiteState C D O × SiteState C D O) → TakesMemory met → RunsOn device tells asked (Err met) moments → ⊥
+  no_line_of_run asked Usage moments takes runs = takes
+  no_line_of_run asked ConfigText moments takes runs = takes
+  no_line_of_run asked (ConfigKey key) moments takes runs = runs
+  no_line_of_run asked (BadLine number) moments takes runs = runs
+  no_line_of_run asked InputTooLong moments takes runs = takes
+  no_line_of_run asked (Plan number) moments takes runs = runs
+  no_line_of_run asked PlanEnd moments takes runs = takes
+  no_line_of_run asked (Clip fault) moments takes runs = runs
+  no_line_of_run asked (MediaTwice name) moments takes runs = runs
+  no_line_of_run asked (MediaTotal total) moments takes runs = takes
+  no_line_of_run asked Device moments takes runs = takes
+  no_line_of_run asked OutOfMemory moments takes runs = takes
+
+  -- memory ran out for the line of what setting up met
+  lost_in_setup : (setup : Result ServerSetup RunFault) (path : Option (List ℕ)) (met : RunFault) (moments : SiteState C D O × SiteState C D O) → TakesMemory met
+      → RunsSetUp device tells (asked_in setup path) (Err met) moments → RunsSetUp device tells (asked_in setup path) (Err OutOfMemory) moments
+  lost_in_setup (Ok setup) path met moments takes runs = absurd (no_line_of_run (asked_of setup path) met moments takes runs)
+  lost_in_setup (Err fault) path met moments takes runs =
+      let same : met ≡ runs.0 = let both = runs.2 in cc in
+      (OutOfMemory, inr (takes_line fault runs.0 runs.1 (subst TakesMemory same takes), refl), refl, runs.3)
+
+  lost_in_words : (read : Result ServerWords WordsFault) (met : RunFault) (moments : AtSite C D O × AtSite C D O) → TakesMemory met
+      → RunsWords device tells read (Err met) moments → RunsWords device tells read (Err OutOfMemory) moments
+  lost_in_words (Ok named) met moments takes runs = record {
+    setup = runs.setup;
+    sets_up = runs.sets_up;
+    runs = lost_in_setup runs.setup (option_map string_bytes named.journal) met (moments.0.site, moments.1.site) takes runs.runs;
+  }
+  lost_in_words (Err words.Usage) met moments takes runs =
+      let same : met ≡ Usage = let both = runs.0 in cc in
+      absurd (subst TakesMemory same takes)
+  lost_in_words (Err words.OutOfMemory) met moments takes runs =
+      let same : met ≡ OutOfMemory = let both = runs.0 in cc in
+      absurd (subst TakesMemory same takes)
+
+  -- the fault that was met may be told as it is, and if its line takes memory also as that memory ran out
+  told_line : (line : List (List ℕ)) (met told : RunFault) (moments : AtSite C D O × AtSite C D O) → IsToldAs met told
+      → RunsLine device tells line (Err met) moments → RunsLine device tells line (Err told) moments
+  told_line line met told moments told_is ran =
+      elim told_is [
+        | inl same ↦ subst (λ (f : RunFault). RunsLine device tells line (Err f) moments) (sym same) ran
+        | inr late ↦
+            subst (λ (f : RunFault). RunsLine device tells line (Err f) moments) (sym late.1)
+            (record { read = ran.read; reads = ran.reads; runs = lost_in_words ran.read met moments late.0 ran.runs })
+      ]
+
+  -- a fault was met and told
+  pub ended_with : (line : List (List ℕ)) (met : RunFault) (status : ℕ) (first between last : AtSite C D O)
+      → RunsLine device tells line (Err met) (first, between) → EndsWithFault met status between.site last.site → last.folder ≡ between.folder
+      → RunsServer device tells line status (first, last)
+  ended_with line met status first between last ran ends folder = record {
+    result = Err ends.told;
+    between = between;
+    runs = told_line line met ends.told (first, between) ends.told_is ran;
+    says = ends.says;
+    folder = folder;
+    status_is = ends.status_is;
+  }

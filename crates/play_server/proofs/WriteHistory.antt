@@ -1,16 +1,17 @@
 -- The text of a history, run by run.
-use Rattle.std.proofs.Common.{◌≡◌, ℕ, false, true≢false, List, [], ◌∷◌, ◌++◌, replicate, flat_map, sym, ap, ◌∙◌, subst, arith, append_assoc, append-nil}
+use Rattle.std.proofs.Common.{◌≡◌, ℕ, false, true≢false, List, [], ◌∷◌, ◌++◌, replicate, flat_map, refl, sym, ap, ◌∙◌, subst, arith, append_assoc, append-nil}
 use Rattle.std.specs.Prelude.{Option, Some}
 use Rattle.std.specs.Iterator.{YieldsFirstBy}
 use Rattle.std.specs.List.{AllByRecursion}
 use Rattle.play_types.specs.Media.{MediaNameView}
 use Rattle.play_types.specs.declared.event.Event.{Event}
 use Rattle.play_types.specs.declared.event.Event.TheVariants.{Do, Batch, Tick, Stop}
-use Rattle.play_outside.specs.SinkState.{SinkState, after_taking}
-use Rattle.play_outside.specs.Sink.{Sends, Fails}
+use Rattle.play_outside.specs.SinkState.{SinkState}
+use Rattle.play_outside.specs.Gathered.{Adds, Gathered}
+use Rattle.play_outside.specs.Sink.{Fails, Sends}
+use Rattle.play_outside.specs.declared.sink.Sent.{Sent}
 use Rattle.play_outside.specs.declared.sink.Sent.TheVariants as sent
-use Rattle.play_outside.proofs.Sending.{Fails-within, taken_more}
-use Rattle.play_outside.proofs.Taking.{after_taking-nil}
+use Rattle.play_outside.proofs.Gathering.{Adds-within, Gathered-more, Gathered-none, Sends-gathered}
 use Rattle.play_journal.specs.Runs.{AreApart, AreRuns, HasItsTimes, Run, events_of, is_tick, run_of}
 use Rattle.play_journal.specs.declared.events.EventRun.{EventRun}
 use Rattle.history_model.specs.text.History.{BeginWithoutTick, FollowRun, IsRun, history_text, tick_lines}
@@ -20,11 +21,12 @@ abbrev pub TextByRuns : Type 0
 TextByRuns = (media : List MediaNameView) (event : Event) (times : ℕ) (later : List Event) → IsRun event times → FollowRun event later
     → history_text media (replicate times event ++ later) ≡ history_text media (replicate times event) ++ history_text media later
 
--- these runs are left of some events, and the text of what stands before them was written
-pub record IsWrittenTo (media : List MediaNameView) (events : List Event) (first now : SinkState) (runs : List Run) : Type 0 where
-  pub written : List ℕ
-  pub whole : history_text media events ≡ written ++ history_text media (flat_map events_of runs)
-  pub state : now ≡ after_taking first written
+-- these runs are left of some events, and the text of what stands before them was added to a text that is gathered. Of it this
+-- waits to be written, from the first of two moments to the second
+pub record IsAddedTo (media : List MediaNameView) (events : List Event) (waiting : List ℕ) (moments : SinkState × SinkState) (runs : List Run) : Type 0 where
+  pub added : List ℕ
+  pub whole : history_text media events ≡ added ++ history_text media (flat_map events_of runs)
+  pub gathered : Gathered added waiting moments.0 moments.1
   pub times : AllByRecursion (λ (run : Run). HasItsTimes run.event run.times) runs
   pub apart : AreApart runs
 
@@ -60,61 +62,64 @@ apart_rest : (run : Run) (runs : List Run) → AreApart (run ∷ runs) → AreAp
 apart_rest run [] apart = tt
 apart_rest run (next ∷ runs) apart = apart.1
 
--- the whole text is what was written, the text of the next run, and the rest
-parted : (media : List MediaNameView) (events : List Event) (first now : SinkState) (run : Run) (runs : List Run) → TextByRuns
-    → (so_far : IsWrittenTo media events first now (run ∷ runs))
-    → history_text media events ≡ (so_far.written ++ history_text media (replicate run.times run.event)) ++ history_text media (flat_map events_of runs)
-parted media events first now run runs by_runs so_far =
+-- the whole text is what was added, the text of the next run, and the rest
+parted : (media : List MediaNameView) (events : List Event) (waiting : List ℕ) (moments : SinkState × SinkState) (run : Run) (runs : List Run) → TextByRuns
+    → (so_far : IsAddedTo media events waiting moments (run ∷ runs))
+    → history_text media events ≡ (so_far.added ++ history_text media (replicate run.times run.event)) ++ history_text media (flat_map events_of runs)
+parted media events waiting moments run runs by_runs so_far =
     so_far.whole
-    ∙ ap (λ (text : List ℕ). so_far.written ++ text)
+    ∙ ap (λ (text : List ℕ). so_far.added ++ text)
     (by_runs media run.event run.times (flat_map events_of runs) (run_of_times run.event run.times so_far.times.0)
     (follow_run run.event run.times runs so_far.times.1 so_far.apart))
-    ∙ sym (append_assoc so_far.written (history_text media (replicate run.times run.event)) (history_text media (flat_map events_of runs)))
+    ∙ sym (append_assoc so_far.added (history_text media (replicate run.times run.event)) (history_text media (flat_map events_of runs)))
 
 -- the item that was yielded is the first run of those that were left
 pub first_of_left : (item : EventRun) (answer : Option EventRun) (before after : List Run) → answer ≡ Some item
     → YieldsFirstBy run_of (λ (rest : List Run). rest) before answer after → before ≡ run_of item ∷ after
 first_of_left item answer before after some step = rw some at step
 
--- before the first run nothing was written
-pub none_written : (media : List MediaNameView) (events : List Event) (first : SinkState) (runs : List Run) → AreRuns runs events
-    → IsWrittenTo media events first first runs
-none_written media events first runs are = record {
-  written = [];
+-- before the first run nothing was added
+pub none_added : (media : List MediaNameView) (events : List Event) (waiting : List ℕ) (first : SinkState) (runs : List Run) → waiting ≡ [] → AreRuns runs events
+    → IsAddedTo media events waiting (first, first) runs
+none_added media events waiting first runs none are = record {
+  added = [];
   whole = ap (history_text media) (sym are.whole);
-  state = sym (after_taking-nil first);
+  gathered = subst (λ (bytes : List ℕ). Gathered [] bytes first first) (sym none) (Gathered-none [] first);
   times = are.times;
   apart = are.apart;
 }
 
 -- the next run may be printed
-pub next_is_run : (media : List MediaNameView) (events : List Event) (first now : SinkState) (run : Run) (runs : List Run)
-    → IsWrittenTo media events first now (run ∷ runs) → IsRun run.event run.times
-next_is_run media events first now run runs so_far = run_of_times run.event run.times so_far.times.0
+pub next_is_run : (media : List MediaNameView) (events : List Event) (waiting : List ℕ) (moments : SinkState × SinkState) (run : Run) (runs : List Run)
+    → IsAddedTo media events waiting moments (run ∷ runs) → IsRun run.event run.times
+next_is_run media events waiting moments run runs so_far = run_of_times run.event run.times so_far.times.0
 
--- one more run was written
-pub one_written : (media : List MediaNameView) (events : List Event) (first now after : SinkState) (run : Run) (runs : List Run) → TextByRuns
-    → IsWrittenTo media events first now (run ∷ runs) → Sends sent.All (history_text media (replicate run.times run.event)) now after
-    → IsWrittenTo media events first after runs
-one_written media events first now after run runs by_runs so_far all = record {
-  written = so_far.written ++ history_text media (replicate run.times run.event);
-  whole = parted media events first now run runs by_runs so_far;
-  state = taken_more so_far.written (history_text media (replicate run.times run.event)) first now after so_far.state all;
+-- one more run was added
+pub one_added : (media : List MediaNameView) (events : List Event) (waiting more : List ℕ) (first now after : SinkState) (run : Run) (runs : List Run) → TextByRuns
+    → IsAddedTo media events waiting (first, now) (run ∷ runs)
+    → Adds sent.All (waiting ++ history_text media (replicate run.times run.event)) more now after → IsAddedTo media events more (first, after) runs
+one_added media events waiting more first now after run runs by_runs so_far adds = record {
+  added = so_far.added ++ history_text media (replicate run.times run.event);
+  whole = parted media events waiting (first, now) run runs by_runs so_far;
+  gathered =
+      Gathered-more (so_far.added ++ history_text media (replicate run.times run.event)) so_far.added (history_text media (replicate run.times run.event))
+      waiting more first now after refl so_far.gathered adds;
   times = so_far.times.1;
   apart = apart_rest run runs so_far.apart;
 }
 
 -- the output failed at the next run
-pub failed_in_run : (media : List MediaNameView) (events : List Event) (first now after : SinkState) (run : Run) (runs : List Run) → TextByRuns
-    → IsWrittenTo media events first now (run ∷ runs) → Fails (history_text media (replicate run.times run.event)) now after
-    → Fails (history_text media events) first after
-failed_in_run media events first now after run runs by_runs so_far fails =
-    Fails-within (history_text media events) so_far.written (history_text media (replicate run.times run.event))
-    (history_text media (flat_map events_of runs)) first now after (parted media events first now run runs by_runs so_far) so_far.state fails
+pub failed_in_run : (media : List MediaNameView) (events : List Event) (waiting more : List ℕ) (first now after : SinkState) (run : Run) (runs : List Run) → TextByRuns
+    → IsAddedTo media events waiting (first, now) (run ∷ runs)
+    → Adds sent.Failed (waiting ++ history_text media (replicate run.times run.event)) more now after → Fails (history_text media events) first after
+failed_in_run media events waiting more first now after run runs by_runs so_far fails =
+    (Adds-within (history_text media events) so_far.added (history_text media (replicate run.times run.event)) (history_text media (flat_map events_of runs))
+    waiting more first now after (parted media events waiting (first, now) run runs by_runs so_far) so_far.gathered fails).0
 
--- all runs were written
-pub all_written : (media : List MediaNameView) (events : List Event) (first now : SinkState)
-    → IsWrittenTo media events first now [] → now ≡ after_taking first (history_text media events)
+-- all runs were added, and what waited was written
+pub all_sent : (result : Sent) (media : List MediaNameView) (events : List Event) (waiting : List ℕ) (first now after : SinkState)
+    → IsAddedTo media events waiting (first, now) [] → Sends result waiting now after → Sends result (history_text media events) first after
 unfolding history_text tick_lines
-all_written media events first now so_far =
-    so_far.state ∙ ap (after_taking first) (sym (so_far.whole ∙ append-nil so_far.written))
+all_sent result media events waiting first now after so_far sends =
+    subst (λ (text : List ℕ). Sends result text first after) (sym (so_far.whole ∙ append-nil so_far.added))
+    (Sends-gathered result so_far.added waiting first now after so_far.gathered sends)

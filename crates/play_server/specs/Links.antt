@@ -5,9 +5,10 @@ use Rattle.play_types.specs.declared.event.Event.{Event}
 use Rattle.play_types.specs.declared.event.Event.TheVariants.{Do, Batch, Tick, Stop}
 use Rattle.play_types.specs.declared.event.Tag.{Tag}
 use Rattle.history_model.specs.scripts.History.{same_tag}
+use Rattle.history_model.specs.sessions.Request.{tokens}
 use Rattle.play_outside.specs.SinkState.{SinkState}
 use Rattle.play_outside.specs.Fresh.{IsNewSink}
-use Rattle.conn_worker.specs.Followed.{Service, events_of, steps_in, steps_of}
+use Rattle.conn_worker.specs.Followed.{Service, events_of, steps_in, steps_of, tokens_in}
 use Rattle.conn_worker.specs.Rounds.{IsAfterFailure, after_rounds, bytes_in}
 use Rattle.conn_worker.specs.Explained.{AreInOrder, EndsBy, IsCaughtUp, Talk, covered}
 use Rattle.conn_worker.specs.Work.{Setting, LinkRun, service_of}
@@ -30,6 +31,8 @@ pub record IsExplainedBy (service : Service) (history : List Event) (end : LinkE
   pub talk : Talk
   -- the steps that were followed are the first ones of the bytes that were read, in order
   pub steps : IsPrefix (steps_in (covered talk)) (steps_of service (covered talk) (bytes_in talk.rounds))
+  -- and each has the token of its line, which the reply to it has
+  pub tokens : IsPrefix (tokens_in (covered talk)) (tokens (bytes_in talk.rounds))
   -- each step found a part of the history, which goes on with the step's event, if it has one
   pub order : AreInOrder service [] (covered talk) history
   -- the events of the history that are of this connection are just those of the steps, in order

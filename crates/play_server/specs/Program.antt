@@ -5,10 +5,10 @@ use Rattle.play_outside.specs.SinkState.{SinkState}
 use Rattle.play_outside.specs.declared.devices.Devices.{Devices}
 use Rattle.play_outside.specs.declared.folder.FileFault.TheVariants as file
 use Rattle.play_outside.specs.declared.sink.WriteStep.{WriteStep}
-use Rattle.server_setup.specs.Fault.{HasDetail, fault_line, status_of}
+use Rattle.server_setup.specs.Fault.{HasNumber, fault_line, status_of}
 use Rattle.server_setup.specs.Setup.{SetsUp}
 use Rattle.server_setup.specs.declared.fault.RunFault.{RunFault}
-use Rattle.server_setup.specs.declared.fault.RunFault.TheVariants.{Usage, ConfigText, ConfigKey, BadLine, InputTooLong, MediaTwice, MediaTotal, Device, OutOfMemory}
+use Rattle.server_setup.specs.declared.fault.RunFault.TheVariants.{Usage, ConfigText, ConfigKey, BadLine, InputTooLong, Plan, PlanEnd, Clip, MediaTwice, MediaTotal, Device, OutOfMemory}
 use Rattle.server_setup.specs.declared.setup.ServerSetup.{ServerSetup}
 use Rattle.play_server.specs.Run.{Program, Serves}
 use Rattle.play_server.specs.ServerWords.{ReadsWords}
@@ -43,6 +43,25 @@ abbrev pub asked_in : Result ServerSetup RunFault → Option (List ℕ) → Resu
 asked_in (Ok setup) path = Ok (asked_of setup path)
 asked_in (Err fault) path = Err fault
 
+-- the line of the fault takes memory: it has a name, or a number that is not the length of all clip files
+abbrev pub TakesMemory : RunFault → Type 0
+TakesMemory Usage = ⊥
+TakesMemory ConfigText = ⊥
+TakesMemory (ConfigKey key) = Unit {0}
+TakesMemory (BadLine number) = Unit {0}
+TakesMemory InputTooLong = ⊥
+TakesMemory (Plan number) = Unit {0}
+TakesMemory PlanEnd = ⊥
+TakesMemory (Clip fault) = HasNumber fault
+TakesMemory (MediaTwice name) = Unit {0}
+TakesMemory (MediaTotal total) = ⊥
+TakesMemory Device = ⊥
+TakesMemory OutOfMemory = ⊥
+
+-- the fault that is told is the one that was met; or it is that memory ran out, for the line of the one that was met
+abbrev pub IsToldAs : RunFault → RunFault → Type 0
+IsToldAs met told = (told ≡ met) ⊎ (TakesMemory met × (told ≡ OutOfMemory))
+
 -- the fault of a run whose words name nothing
 abbrev pub fault_of_words : WordsFault → RunFault
 fault_of_words words.Usage = Usage
@@ -55,11 +74,13 @@ module _ (C D O : Type 0) where
     pub site : SiteState C D O
 
 module _ {C D O : Type 0} where
-  -- the line of a fault was said; or not at all, if it has a name or a number and memory ran out for it
+  -- the line of a fault was said, or the site failed as it was to say it
   pub record SaysLine (fault : RunFault) (before after : SiteState C D O) : Type 0 where
+    -- the line without its line feed
     pub line : List ℕ
     pub line_is : line ++ 10 ∷ [] ≡ fault_line fault
-    pub said : ((step : WriteStep) × Says step line before after) ⊎ (HasDetail fault × (after ≡ before))
+    pub step : WriteStep
+    pub said : Says step line before after
 
   -- what is said at the end
   abbrev pub SaysEnd : Result (Unit {0}) RunFault → SiteState C D O → SiteState C D O → Type 0
@@ -90,13 +111,16 @@ module _ {C D O L : Type 0} where
   RunsOn device tells asked (Err (ConfigKey key)) moments = ⊥
   RunsOn device tells asked (Err (BadLine number)) moments = ⊥
   RunsOn device tells asked (Err InputTooLong) moments = ⊥
+  RunsOn device tells asked (Err (Plan number)) moments = ⊥
+  RunsOn device tells asked (Err PlanEnd) moments = ⊥
+  RunsOn device tells asked (Err (Clip fault)) moments = ⊥
   RunsOn device tells asked (Err (MediaTwice name)) moments = ⊥
   RunsOn device tells asked (Err (MediaTotal total)) moments = ⊥
 
-  -- after setting up: the run, or the fault of the configuration or the clips, and no call of the site
+  -- after setting up: the run; or the fault of the configuration or the clips, as it is told, and no call of the site
   abbrev pub RunsSetUp : DeviceStates C D O L → (L → SinkState) → Result Asked RunFault → Result (Unit {0}) RunFault → SiteState C D O × SiteState C D O → Type 0
   RunsSetUp device tells (Ok asked) result moments = RunsOn device tells asked result moments
-  RunsSetUp device tells (Err fault) result moments = (result ≡ Err fault) × (moments.1 ≡ moments.0)
+  RunsSetUp device tells (Err fault) result moments = (told : RunFault) × IsToldAs fault told × (result ≡ Err told) × (moments.1 ≡ moments.0)
 
   -- with words that were accepted the configuration and the clips are read, and then the server runs
   pub record RunsAccepted (device : DeviceStates C D O L) (tells : L → SinkState) (named : ServerWords) (result : Result (Unit {0}) RunFault) (moments : AtSite C D O × AtSite C D O) : Type 0 where

@@ -1,5 +1,5 @@
 -- A run: one history, of which all replies, frames and the text that is written are.
-use Rattle.std.specs.Prelude.{◌≡◌, ◌⊎◌, ℕ, ◌<◌, ◌≤◌, ◌||◌, Bool, true, false, Some, List, [], ◌∷◌, ◌++◌, All, length, map}
+use Rattle.std.specs.Prelude.{◌≡◌, ◌⊎◌, ℕ, ◌≤◌, ◌||◌, Bool, true, false, Some, List, [], ◌∷◌, ◌++◌, All, length, map}
 use Rattle.std.specs.List.{list_any}
 use Rattle.play_types.specs.Config.{ConfigView}
 use Rattle.play_types.specs.History.{IsHistory, held, stop_at, ticks}
@@ -7,7 +7,6 @@ use Rattle.play_types.specs.declared.event.Event.{Event}
 use Rattle.play_types.specs.declared.event.Event.TheVariants.{Do, Batch, Tick, Stop}
 use Rattle.play_types.specs.declared.event.Tag.{Tag}
 use Rattle.play_types.specs.declared.event.TheConstants.{MAX_TICKS}
-use Rattle.play_types.specs.Scene.{IsConfigured}
 use Rattle.play_outside.specs.SinkState.{SinkState}
 use Rattle.play_outside.specs.Sink.{Sends}
 use Rattle.play_outside.specs.declared.devices.Devices.{Devices}
@@ -19,8 +18,8 @@ use Rattle.play_scene.specs.Picture.{clips_of}
 use Rattle.history_model.specs.scripts.History.{channel_size, server}
 use Rattle.history_model.specs.text.History.{history_text}
 use Rattle.conn_worker.specs.Work.{Setting}
-use Rattle.play_ticker.specs.Ends.{clock_at_end}
-use Rattle.play_ticker.specs.Outputs.{EachOutput, IsWritten}
+use Rattle.play_ticker.specs.Ends.{Meets, clock_at_end}
+use Rattle.play_ticker.specs.Outputs.{AreWritten}
 use Rattle.play_ticker.specs.declared.ending.TickEnd.{TickEnd}
 use Rattle.play_ticker.specs.declared.ending.TickEnd.TheVariants.{ClockClosed, Ended, TicksOver, ClockFault, OutFault}
 use Rattle.play_server.specs.Site.{DeviceStates}
@@ -68,13 +67,13 @@ abbrev pub is_cut : Sent → Bool
 is_cut sent.All = false
 is_cut sent.Failed = true
 
--- how the pulses ended, by the history of the run
-abbrev pub TicksEndBy : ℕ → List Event → TickEnd → Type 0
-TicksEndBy channels history ClockClosed = Unit {0}
-TicksEndBy channels history (Ended at) = stop_at history ≡ Some at
-TicksEndBy channels history TicksOver = ticks history ≡ MAX_TICKS
-TicksEndBy channels history ClockFault = Unit {0}
-TicksEndBy channels history (OutFault channel) = (0 < ticks history) × IsConfigured channels channel
+-- what the side that makes ticks has met, by the history of the run
+abbrev pub TicksEndBy : List Event → TickEnd → Type 0
+TicksEndBy history ClockClosed = Unit {0}
+TicksEndBy history (Ended at) = stop_at history ≡ Some at
+TicksEndBy history TicksOver = ticks history ≡ MAX_TICKS
+TicksEndBy history ClockFault = Unit {0}
+TicksEndBy history (OutFault channel) = Unit {0}
 
 -- whether the pulses ended since a stop was found
 abbrev pub is_found : TickEnd → Bool
@@ -84,7 +83,7 @@ is_found TicksOver = false
 is_found ClockFault = false
 is_found (OutFault channel) = false
 
--- who made the stop: a connection, or the server itself, if the pulses ended for another cause or a door failed
+-- who made the stop: a connection, or the server itself, if no tick found a stop or a door failed
 abbrev pub IsStoppedBy : {L : Type 0} → TickEnd → List (DoorRun L) → Tag → Type 0
 IsStoppedBy {L} ticker runs tag =
     (tag ≡ server → (is_found ticker ≡ false) ⊎ (list_any (λ (run : DoorRun L). is_door_fault run.end) runs ≡ true))
@@ -102,27 +101,29 @@ ends_so false = serve.Ended
 module _ {C D O L : Type 0} where
   -- a run, from the devices that it was given to those that it gives back
   pub record HasRun (words : DeviceStates C D O L) (tells : L → SinkState) (program : Program) (end : ServeEnd) (devices : Devices C D O × Devices C D O) : Type 0 where
-    -- the history, how the pulses ended, the work at each door, and whether the text was written
+    -- the history, how the ticks ended and what the side that makes them has met, the work at each door, and whether the text was written
     pub history : List Event
     pub ticker : TickEnd
+    pub met : TickEnd
     pub runs : List (DoorRun L)
     pub written : Sent
     -- no batch of the history is empty, and it has one stop, as its last event; the journal may hold its commands
     pub whole : IsHistory history
     pub within : held history ≤ program.config.journal_limit
     pub stopped : EndsWithStop history
-    pub stopped_by : IsStoppedBy ticker runs stopped.tag
+    pub stopped_by : IsStoppedBy met runs stopped.tag
     -- each event is a tick, the server's own stop, or of a link that a door was given back
     pub made : All (IsMadeBy runs) history
     -- each link that a door was given back is explained by the history
     pub doors : EachDoor (λ worker run before after. HasServed (setting_of program tells worker) history run (words.door before) (words.door after))
         1 runs devices.0.doors.items devices.1.doors.items
-    -- each output took the frames of its channel at all ticks of the history
-    pub outs : EachOutput (λ channel before after. IsWritten ticker (record { setup = setup_of program; history = history }) channel (words.out before) (words.out after))
-        1 devices.0.outs.items devices.1.outs.items
+    -- each output took the frames of its channel at all ticks of the history, or up to the tick at which one of them failed
+    pub outs : AreWritten words.out ticker (record { setup = setup_of program; history = history }) devices.0.outs.items devices.1.outs.items
+    -- the ticks ended with what was met, unless an output failed
+    pub meets : Meets (length program.config.channels) ticker met
     -- a pulse was taken for each tick, and one more if a tick was refused
-    pub clock : words.clock devices.1.clock ≡ clock_at_end ticker (ticks history) (words.clock devices.0.clock)
-    pub pulses : TicksEndBy (length program.config.channels) history ticker
+    pub clock : words.clock devices.1.clock ≡ clock_at_end met (ticks history) (words.clock devices.0.clock)
+    pub pulses : TicksEndBy history met
     -- the text of the history was written, or a prefix of it
     pub text : Sends written (history_text (media_names program.media) history) (words.out devices.0.history) (words.out devices.1.history)
     pub ending : end ≡ ends_so (has_device_fault ticker runs written)

@@ -10,7 +10,7 @@ use Rattle.play_outside.specs.declared.folder.FileFault.{FileFault}
 use Rattle.play_outside.specs.declared.folder.FileFault.TheVariants as fault
 use Rattle.play_outside.specs.declared.sink.WriteStep.{WriteStep}
 use Rattle.play_outside.specs.declared.sink.WriteStep.TheVariants.{Took, Failed}
-use Rattle.play_server.specs.SiteState.{SiteState, after_call, after_site_fault, after_line}
+use Rattle.play_server.specs.SiteState.{SiteState, after_call, after_call_without_memory, after_site_fault, after_line}
 use Rattle.play_server.specs.declared.site.ReadyCall.{ReadyCall}
 
 -- how clocks, doors and outputs are read: what each of them tells
@@ -56,10 +56,10 @@ pub record AreReady {C D O L : Type 0} (words : DeviceStates C D O L) (config : 
 abbrev pub ready_call : ConfigView → Option (List ℕ) → Bool → ReadyCall
 ready_call config history ok = record { config = config; history = history; ok = ok }
 
--- `ready` gave no devices: it failed, or memory ran out and nothing changed
+-- `ready` gave no devices: it failed, or memory ran out. Either is told, and nothing else changed
 abbrev pub IsNotReady : {C D O : Type 0} → FileFault → ReadyCall → SiteState C D O → SiteState C D O → Type 0
 IsNotReady fault.Failed call before after = after ≡ after_site_fault (after_call call before)
-IsNotReady fault.OutOfMemory call before after = after ≡ before
+IsNotReady fault.OutOfMemory call before after = after ≡ after_call_without_memory before
 
 -- the whole line was said, or the site failed and said nothing of it
 abbrev pub Says : {C D O : Type 0} → WriteStep → List ℕ → SiteState C D O → SiteState C D O → Type 0

@@ -4,10 +4,11 @@ use Rattle.play_outside.specs.Faults.{one_more}
 use Rattle.play_outside.specs.declared.devices.Devices.{Devices}
 use Rattle.play_server.specs.declared.site.ReadyCall.{ReadyCall}
 
--- the calls of `ready` that did not run out of memory, in order; the devices that were finished last, and how often devices
--- were finished; and the bytes of the lines that were said, each with a line feed at its end
+-- the calls of `ready` that did not run out of memory, in order, and how many did; the devices that were finished last, and
+-- how often devices were finished; and the bytes of the lines that were said, each with a line feed at its end
 pub record SiteTold (C D O : Type 0) : Type 0 where
   pub calls : List ReadyCall
+  pub calls_without_memory : ℕ
   pub finished : Option (Devices C D O)
   pub finishes : ℕ
   pub said : List ℕ
@@ -21,6 +22,10 @@ pub record SiteState (C D O : Type 0) : Type 0 where
 abbrev pub one_call : {C D O : Type 0} → ReadyCall → SiteTold C D O → SiteTold C D O
 one_call call told = record told { calls = told.calls ++ call ∷ [] }
 
+-- what is told after a call of `ready` ran out of memory
+abbrev pub one_call_without_memory : {C D O : Type 0} → SiteTold C D O → SiteTold C D O
+one_call_without_memory told = record told { calls_without_memory = one_more told.calls_without_memory }
+
 -- what is told after devices were finished
 abbrev pub one_finish : {C D O : Type 0} → Devices C D O → SiteTold C D O → SiteTold C D O
 one_finish devices told = record told { finished = Some devices; finishes = one_more told.finishes }
@@ -32,6 +37,10 @@ one_line line told = record told { said = told.said ++ line ++ 10 ∷ [] }
 -- the site after a call of `ready`
 abbrev pub after_call : {C D O : Type 0} → ReadyCall → SiteState C D O → SiteState C D O
 after_call call state = record state { told = option_map (one_call call) state.told }
+
+-- the site after a call of `ready` ran out of memory
+abbrev pub after_call_without_memory : {C D O : Type 0} → SiteState C D O → SiteState C D O
+after_call_without_memory state = record state { told = option_map one_call_without_memory state.told }
 
 -- the site after one more fault
 abbrev pub after_site_fault : {C D O : Type 0} → SiteState C D O → SiteState C D O

@@ -18,7 +18,7 @@ use Rattle.play_server.specs.Program.{AtSite, SaysLine, ServesOn, asked_of}
 use Rattle.play_server.specs.Run.{HasRun, Program}
 use Rattle.play_server.specs.ServerWords.{Accepts, playd_app}
 use Rattle.play_server.specs.Site.{DeviceStates}
-use Rattle.play_server.specs.SiteState.{SiteState}
+use Rattle.play_server.specs.SiteState.{SiteState, after_call_without_memory}
 use Rattle.play_server.specs.declared.served.ServeEnd.{ServeEnd}
 use Rattle.play_server.specs.declared.served.ServeEnd.TheVariants as serve
 use Rattle.play_server.specs.declared.words.ServerWords.{ServerWords}
@@ -110,12 +110,14 @@ module _ {C D O L : Type 0} where
     pub folder : moments.1.folder ≡ moments.0.folder
     pub site : moments.1.site.faults ≡ moments.0.site.faults
 
-  -- memory ran out, and no call was made on a device: the site gave none, or it was given back what it gave. Then a line was said
+  -- memory ran out, and no call was made on a device: the site was not asked for any; or it was asked once and gave none; or it was
+  -- given back what it gave. Then a line was said
   abbrev pub EndsUncalled : DeviceStates C D O L → (L → SinkState) → List (List ℕ) → AtSite C D O × AtSite C D O → Type 0
   EndsUncalled device tells line moments =
       SaysLine fault.OutOfMemory moments.0.site moments.1.site
+      ⊎ (SaysLine fault.OutOfMemory (after_call_without_memory moments.0.site) moments.1.site
       ⊎ ((run : HasServedClients device tells line serve.OutOfMemory moments)
-      × (run.served.finished ≡ run.served.given) × SaysLine fault.OutOfMemory run.site moments.1.site)
+      × (run.served.finished ≡ run.served.given) × SaysLine fault.OutOfMemory run.site moments.1.site))
 
   -- the exit status of a call of the program has its cause
   pub record HasItsCause (words : DeviceStates C D O L) (tells : L → SinkState) (line : List (List ℕ)) (status : ℕ) (moments : AtSite C D O × AtSite C D O) : Type 0 where

@@ -1,3 +1,4 @@
 pub mod ServerCommand
 pub mod Workers
 pub mod Threads
+pub mod Ending

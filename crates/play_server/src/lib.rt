@@ -6,6 +6,7 @@
 #![tactic(auto)]
 
 mod connection_workers;
+mod ending;
 pub mod examples;
 mod history;
 mod in_memory;

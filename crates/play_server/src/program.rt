@@ -1,9 +1,10 @@
 //! The program: the words, the folder, the devices and the exit status.
 ghost use Rattle.std.specs.Prelude.{◌≡◌, ◌≤◌, ◌∷◌, Err, codes, map, option_map, string_bytes};
-ghost use Rattle.play_server.specs.Program.{RunsLine, RunsOn, RunsServer, SaysLine, asked_of, fault_of_words};
+ghost use Rattle.play_server.specs.Program.{RunsLine, RunsOn, RunsServer, asked_of, fault_of_words};
 ghost use Rattle.play_server.specs.Site.{device_states};
 ghost use Rattle.play_server.specs.Statuses.{HasItsCause};
 
+use crate::ending::end_with;
 use crate::served::{ServeEnd, Served};
 use crate::serving::serve;
 use crate::site::Site;
@@ -29,8 +30,8 @@ use std::thread::Threads;
 /// | 4 | a read of the folder, the site, or a device of the run failed | `E device` |
 /// | 5 | memory ran out before a call was made on a device | `E memory` |
 ///
-/// The devices are finished whatever the end of the run was. A line with a
-/// name or a number is not said if memory runs out for it, and a line that could not be said changes no status.
+/// The devices are finished whatever the end of the run was. If memory runs out for a line that has a name, the status is 5
+/// and the line is `E memory`, which takes no memory. A line that could not be said changes no status.
 pub fn serve_main<R: Threads + Wait + Sync, E: Site>(
     rt: &R,
     alloc: Global,
@@ -67,10 +68,7 @@ fn serve_and_say<R: Threads + Wait + Sync, E: Site>(
 {
     match serve_words(rt, alloc, words, site) {
         Ok(()) => 0,
-        Err(fault) => {
-            say_fault(alloc, &fault, site);
-            fault.status()
-        }
+        Err(fault) => end_with(alloc, &fault, site),
     }
 }
 
@@ -129,23 +127,6 @@ fn journal_path(words: &ServerWords) -> Option<&str>
     ensures { option_map (λ path. path.now) result ≡ option_map string_bytes words.now.journal }
 {
     words.journal.as_ref().map(|path| path.as_str())
-}
-
-/// Says the line of a fault, if it takes no memory or there is memory for it.
-fn say_fault<E: Site>(alloc: Global, fault: &RunFault, site: &mut E)
-    ensures said { SaysLine fault.now (E.state site.old) (E.state site.new) }
-    ensures folder { E.folder site.new ≡ E.folder site.old }
-{
-    match fault.short_line() {
-        Some(line) => {
-            let _ = site.say(line);
-        }
-        None => {
-            if let Ok(line) = fault.line(alloc) {
-                let _ = site.say(line.as_str());
-            }
-        }
-    }
 }
 
 impl From<WordsFault> for RunFault {

@@ -8,7 +8,8 @@ use band_render::Renderer;
 use clip_format::MediaTable;
 use play_outside::Listener;
 use play_session::Session;
-use play_types::{Config, MediaNames, Scenes};
+use play_types::{Config, MediaNames};
+use scene_pipe::ScenePipe;
 use stage_core::Stage;
 use stage_lock::{Pass, SharedStage};
 use std::alloc::{AllocError, Global};
@@ -18,7 +19,8 @@ use std::alloc::{AllocError, Global};
 pub(crate) struct RunMemory<D> {
     pub(crate) names: MediaNames,
     pub(crate) renderer: Renderer,
-    pub(crate) scenes: Scenes,
+    /// What the scenes of a tick go through.
+    pub(crate) pipe: ScenePipe,
     pub(crate) stage: SharedStage,
     /// The pass of the ticker, and after it one for each connection worker.
     pub(crate) passes: Vec<Pass>,
@@ -42,14 +44,14 @@ impl<D: Listener> RunMemory<D> {
     {
         let names = media.names(alloc)?;
         let renderer = Renderer::new(alloc, config, render_workers)?;
-        let scenes = Scenes::new(alloc, config)?;
+        let pipe = ScenePipe::new(alloc, config)?;
         let sessions = sessions(alloc, config.connections())?;
         let connection_workers = Vec::with_capacity(alloc, config.connections() as usize)?;
         let (stage, passes) = share(alloc, config)?;
         Ok(RunMemory {
             names,
             renderer,
-            scenes,
+            pipe,
             stage,
             passes,
             sessions,

@@ -79,7 +79,7 @@ fn run<R: Threads + Wait + Sync, C: Clock, D: Listener, O: Sink + Send>(
     let RunMemory {
         names,
         renderer,
-        scenes,
+        pipe,
         stage,
         mut passes,
         sessions,
@@ -92,10 +92,12 @@ fn run<R: Threads + Wait + Sync, C: Clock, D: Listener, O: Sink + Send>(
         mut history,
     } = devices;
     engage(&mut connection_workers, &mut passes, sessions, &mut doors);
+    let (stage_end, write_end) = pipe.split();
     let mut ticker = TickerThread {
         pass: passes.pop().unwrap(),
         renderer,
-        scenes,
+        stage_end,
+        write_end,
         clock,
         outs,
     };

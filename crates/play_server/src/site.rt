@@ -52,7 +52,7 @@ pub trait Site {
     /// faults, the doors and the outputs have their places, from 1 on, as marks, and the output for the history has the
     /// mark 0.
     ///
-    /// A failed call raises the count of faults by one. If memory runs out all stays as it was.
+    /// A failed call raises the count of faults by one. If memory runs out, the call is told by a number alone.
     fn ready(
         &mut self,
         alloc: Global,

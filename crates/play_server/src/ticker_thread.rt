@@ -6,24 +6,25 @@ use band_render::Renderer;
 use clip_format::MediaTable;
 use play_outside::{Clock, Sink};
 use play_ticker::{TickEnd, Ticker};
-use play_types::Scenes;
+use scene_pipe::{StageEnd, WriteEnd};
 use stage_lock::{Pass, SharedStage};
 use std::sync::Wait;
 use std::thread::Threads;
 
-/// What the thread of the ticker owns: its pass, the frames that were shown last, the scenes of the last tick, the clock, and
-/// the output of each channel.
+/// What the thread of the ticker owns: its pass, the frames that were shown last, both ends of the pipe that scenes go through, the
+/// clock, and the output of each channel.
 #[derive(Drop)]
 pub(crate) struct TickerThread<C, O> {
     pub(crate) pass: Pass,
     pub(crate) renderer: Renderer,
-    pub(crate) scenes: Scenes,
+    pub(crate) stage_end: StageEnd,
+    pub(crate) write_end: WriteEnd,
     pub(crate) clock: C,
     pub(crate) outs: Vec<O>,
 }
 
-impl<C: Clock, O: Sink> TickerThread<C, O> {
-    /// Makes a tick for each pulse of the clock, until no more are made, and returns why.
+impl<C: Clock, O: Sink + Send> TickerThread<C, O> {
+    /// Makes a tick for each pulse of the clock, until no more are made, and returns why. Another thread renders and writes.
     pub(crate) fn run<R: Threads + Wait + Sync>(
         &mut self,
         rt: &R,
@@ -38,7 +39,8 @@ impl<C: Clock, O: Sink> TickerThread<C, O> {
             rt,
             &mut self.pass,
             &mut self.renderer,
-            &mut self.scenes,
+            &mut self.stage_end,
+            &mut self.write_end,
             &mut self.clock,
             &mut self.outs,
         )

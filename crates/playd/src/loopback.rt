@@ -7,7 +7,7 @@ use clip_format::MediaTable;
 use play_outside::{Devices, PlainSink};
 use play_server::{ServeEnd, serve};
 use play_types::{Channel, ChannelList, Config, Text};
-use real_devices::{RateClock, TcpDoor};
+use real_devices::{DoorGroup, RateClock, TcpDoor};
 use std::alloc::Global;
 use std::io::{self, Write};
 use std::net::{TcpListener, TcpStream};
@@ -35,7 +35,8 @@ fn devices(
 {
     let alloc = rt.alloc();
     let mut doors = Vec::new(alloc);
-    doors.push(TcpDoor::new(listener, rt, 1)?)?;
+    let group = DoorGroup::new(alloc)?;
+    doors.push(TcpDoor::new(listener, rt, group, 1)?)?;
     let mut outs = Vec::new(alloc);
     outs.push(PlainSink::new(1))?;
     Ok(Devices {

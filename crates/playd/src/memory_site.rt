@@ -60,8 +60,13 @@ fn hands_out_devices_once(rt: HostRuntime) -> Result<(), Fail> {
         assert_eq!(rt; doors(&mut site, alloc, config), answer);
     }
     assert_eq!(rt;
-        (site.calls().len(), site.finishes(), site.faults()),
-        (4, 1, 3)
+        (
+            site.calls().len(),
+            site.calls_without_memory(),
+            site.finishes(),
+            site.faults()
+        ),
+        (4, 0, 1, 3)
     );
     Ok(())
 }

@@ -4,16 +4,18 @@ ghost use Rattle.play_outside.specs.Faults.{one_more};
 ghost use Rattle.play_server.specs.SiteState.{after_finish};
 
 use crate::said::{PROGRAM, USAGE_FAULT, say_listening, say_usage};
-use host_system::FolderMedia;
+use host_system::{FolderMedia, ProgramFile, Progress, words_of};
 use play_outside::{FileFault, MediaDir, WriteStep};
 use play_server::Site;
 use play_types::Config;
-use real_devices::{FileSink, RateClock, RealDevices, TcpDoor};
+use real_devices::{FileSink, RateClock, RealDevices, TcpDoor, try_threads};
 use std::alloc::Global;
+use std::env::{self, Env};
 use std::fs::File;
 use std::io::Eprint;
-use std::net::{Net, TcpListener, TcpStream};
+use std::net::{Net, SocketAddr, TcpListener, TcpStream};
 use std::rt::Files;
+use std::thread::Threads;
 use std::time::Clock;
 
 /// Files of the system, and the devices that a configuration names. It says its lines on standard error, and does not tell
@@ -22,18 +24,21 @@ use std::time::Clock;
 pub struct RealSite<R> {
     rt: R,
     media: FolderMedia<R>,
+    program: ProgramFile,
     faults: u64,
 }
 
 impl<R: Files + Eprint + AllocGlobal + Copy + Drop> RealSite<R> {
-    /// Returns the site over a runtime. No call of it has failed yet, and no read of its folder.
-    pub fn new(rt: R) -> RealSite<R>
+    /// Returns the site over a runtime. No call of it has failed yet, and no read of its folder. It says on standard error
+    /// as much of the clips that are read as `progress` allows.
+    pub fn new(rt: R, progress: Progress) -> RealSite<R>
         ensures faults { result.faults ≡ 0 }
         ensures folder { ⟦<FolderMedia<R> as MediaDir>⟧.state result.media ≡ record { files = None; faults = 0 } }
     {
         RealSite {
             rt,
-            media: FolderMedia::new(rt, PROGRAM),
+            media: FolderMedia::new(rt, PROGRAM, progress),
+            program: ProgramFile::find(&rt),
             faults: 0,
         }
     }
@@ -52,6 +57,8 @@ impl<
         + Clock
         + Eprint
         + AllocGlobal
+        + Env
+        + Threads
         + Copy
         + Drop
         + Send,
@@ -74,16 +81,19 @@ impl<
         &mut self.media
     }
 
-    /// Makes the devices that the configuration names, and says where the server listens.
+    /// Makes the devices that the configuration names, if the system has threads for them, and says where the server listens.
     fn ready(
         &mut self,
         alloc: Global,
         config: &Config,
         history: Option<&str>,
     ) -> Result<RealDevices<R>, FileFault> {
-        match real_devices::ready(self.rt, alloc, config, history) {
+        try_threads(&self.rt, alloc, config)?;
+        let source = config_path(&self.rt, alloc);
+        let source = source.as_ref().map(|path| path.as_str());
+        match real_devices::ready(self.rt, alloc, config, source, history) {
             Ok(devices) => {
-                say_listening(&self.rt, config);
+                say_listening(&self.rt, config, address_of(&devices), &self.program);
                 Ok(devices)
             }
             Err(FileFault::Failed) => {
@@ -94,18 +104,18 @@ impl<
         }
     }
 
-    /// Closes the listening socket and the files.
+    /// Closes the listening socket and the files. The file of the history gets its name, if the history was written.
     fn finish(&mut self, devices: RealDevices<R>)
         ensures told { ⟦<RealSite<R> as Site>⟧.state self.new ≡ after_finish devices (⟦<RealSite<R> as Site>⟧.state self.old) }
         ensures folder { self.new.media ≡ self.old.media }
     {
-        drop(devices);
+        real_devices::finish(devices);
     }
 
     /// Says a line on standard error. Before the line of words that are no command line it says which words there are.
     fn say(&mut self, line: &str) -> WriteStep {
         if line == USAGE_FAULT {
-            say_usage(&self.rt);
+            say_usage(&self.rt, &self.program);
         }
         match self.rt.eprintln(line) {
             Ok(()) => WriteStep::Took(line.len()),
@@ -119,4 +129,33 @@ impl<
     ghost folder_is = { λ _ _. refl };
 
     ghost state_stays = { λ _ _. refl };
+}
+
+/// Returns the address that the doors listen on, if the system tells it.
+fn address_of<R: Clock + Eprint + Copy + Drop>(devices: &RealDevices<R>) -> Option<SocketAddr> {
+    devices.doors.first()?.address().ok()
+}
+
+/// The word before the path of the configuration.
+const CONFIG: &str = "--config";
+
+/// Returns the path of the configuration as the words of the program name it, so that no output empties it. If the words
+/// cannot be read once more, it is not known.
+fn config_path<R: Env + AllocGlobal>(rt: &R, alloc: Global) -> Option<String> {
+    let mut is_next = false;
+    for word in words_of(alloc, env::args(rt)).ok()? {
+        if is_next {
+            return Some(word);
+        }
+        if let Some(path) = after_config(word.as_str()) {
+            return String::from_str(alloc, path).ok();
+        }
+        is_next = word.as_str() == CONFIG;
+    }
+    None
+}
+
+/// Returns the path in a word `--config=PATH`.
+fn after_config(word: &str) -> Option<&str> {
+    word.strip_prefix(CONFIG)?.strip_prefix('=')
 }

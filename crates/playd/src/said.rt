@@ -1,7 +1,10 @@
 //! What is said on standard error, for a person. If that cannot be written, nothing is said.
 
+use host_system::ProgramFile;
 use play_types::Config;
+use std::fmt::Display;
 use std::io::Eprint;
+use std::net::SocketAddr;
 
 /// The name of the program, with which each line on standard error begins but for that of a fault.
 pub const PROGRAM: &str = "playd";
@@ -9,9 +12,10 @@ pub const PROGRAM: &str = "playd";
 /// The line of words that are no command line.
 pub const USAGE_FAULT: &str = "E usage";
 
-/// Says which words the program takes, with an example of each form.
-pub fn say_usage<E: Eprint>(errors: &E) {
+/// Says which words the program takes, with an example of each form, and from which sources it was built.
+pub fn say_usage<E: Eprint>(errors: &E, program: &ProgramFile) {
     let _ = errors.eprintln(USAGE);
+    program.say(errors, PROGRAM);
 }
 
 const USAGE: &str = "playd: these words start no server. The words are, in any order,
@@ -21,13 +25,31 @@ with N from 1 to 64, as in
   playd --config studio.toml --workers 4
   playd --config studio.toml --journal evening.script";
 
-/// Says where the server listens, on how many channels it plays, and how many connections it serves at once.
-pub fn say_listening<E: Eprint>(errors: &E, config: &Config) {
-    let address = config.listen().as_str();
+/// Says where the server listens, on how many channels it plays, how many connections it serves at once, and from which
+/// sources the program was built. If the system does not tell the address, it is that of the configuration.
+pub fn say_listening<E: Eprint>(
+    errors: &E,
+    config: &Config,
+    address: Option<SocketAddr>,
+    program: &ProgramFile,
+) {
+    match address {
+        Some(address) => say_ready(errors, config, &address, program),
+        None => say_ready(errors, config, &config.listen().as_str(), program),
+    }
+}
+
+/// Says that the server is ready, at this address.
+fn say_ready<E: Eprint, D: Display>(
+    errors: &E,
+    config: &Config,
+    address: &D,
+    program: &ProgramFile,
+) {
     let (channels, connections) = (config.channels().len(), config.connections());
     let (channel, connection) = (ending(channels == 1), ending(connections == 1));
     let _ = errors.eprintln(format_args!(
-        "{PROGRAM}: listening on {address}, {channels} channel{channel}, {connections} connection{connection}"
+        "{PROGRAM}: listening on {address}, {channels} channel{channel}, {connections} connection{connection}{program}"
     ));
 }
 

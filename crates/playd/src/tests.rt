@@ -11,6 +11,9 @@ use std::test::Fail;
 /// Where the frames and the history go.
 const FILES: [&str; 3] = ["playd_test/a", "playd_test/b", "playd_test/history"];
 
+/// What an earlier run wrote in them.
+const EARLIER: &str = "what an earlier run wrote";
+
 /// Returns a configuration of two channels that listens on an address.
 fn config_of(alloc: Global, address: &str) -> Result<Config, Fail> {
     let mut channels = ChannelList::new(alloc);
@@ -28,12 +31,12 @@ fn gives_devices_again(rt: HostRuntime) -> Result<(), Fail> {
     let alloc = rt.alloc();
     fs::create_dir_all(&rt, "playd_test")?;
     for path in FILES {
-        fs::write(&rt, path, "what an earlier run wrote")?;
+        fs::write(&rt, path, EARLIER)?;
     }
     let port = TcpListener::bind(&rt, "127.0.0.1:0")?.local_addr()?.port();
     let address = format!(in alloc; "127.0.0.1:{port}")?;
     let config = config_of(alloc, address.as_str())?;
-    let mut site = RealSite::new(rt);
+    let mut site = RealSite::new(rt, Progress::Silent);
     let devices = site.ready(alloc, &config, Some(FILES[2]))?;
     // The address is taken.
     assert_eq!(rt;
@@ -43,9 +46,11 @@ fn gives_devices_again(rt: HostRuntime) -> Result<(), Fail> {
     site.finish(devices);
     let devices = site.ready(alloc, &config, None)?;
     site.finish(devices);
-    for name in ["a", "b", "history"] {
-        assert!(rt; site.media().bytes(alloc, "playd_test", name)?.is_empty());
+    for path in [FILES[0], FILES[1]] {
+        assert_eq!(rt; fs::read_to_string(&rt, path)?.as_str(), "");
     }
+    // A history in which nothing was written takes nobody's place.
+    assert_eq!(rt; fs::read_to_string(&rt, FILES[2])?.as_str(), EARLIER);
     fs::remove_dir_all(&rt, "playd_test")?;
     Ok(())
 }
@@ -53,7 +58,7 @@ fn gives_devices_again(rt: HostRuntime) -> Result<(), Fail> {
 /// No clause says that a line can be said.
 #[test]
 fn says_lines(rt: HostRuntime) -> Result<(), Fail> {
-    let mut site = RealSite::new(rt);
+    let mut site = RealSite::new(rt, Progress::Silent);
     for line in ["E device", "E usage"] {
         assert_eq!(rt; site.say(line), WriteStep::Took(line.len()));
     }

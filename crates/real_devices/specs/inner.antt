@@ -1,1 +1,5 @@
 pub mod Schedule
+pub mod Watch
+pub mod Stall
+pub mod Patience
+pub mod Accepting

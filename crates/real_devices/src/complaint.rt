@@ -1,20 +1,66 @@
 //! What is said on standard error, for a person. If that cannot be written, nothing is said.
 
+use crate::pace::{LeftOut, Pace};
 use std::fmt::Display;
 use std::io::Eprint;
+use std::time::Clock;
 
 /// Says why a file failed, or what else this names.
 pub(crate) fn complain<E: Eprint, D: Display>(errors: &E, of: &str, why: &D) {
     let _ = errors.eprintln(format_args!("playd: {of}: {why}"));
 }
 
-/// Says why a connection failed.
-pub(crate) fn complain_of_client<E: Eprint, C: Display, D: Display>(
-    errors: &E,
+/// Says why a connection failed, if a line of this kind may be written now.
+pub(crate) fn complain_of_client<R: Clock + Eprint, C: Display, D: Display>(
+    rt: &R,
+    pace: &Pace,
     client: &C,
     why: &D,
 ) {
-    let _ = errors.eprintln(format_args!("playd: connection of {client}: {why}"));
+    if let Some(left_out) = pace.next(rt) {
+        let _ = rt.eprintln(format_args!("playd: connection of {client}: {why}{left_out}"));
+    }
+}
+
+/// Says what is wrong with the listening socket, which goes on, if a line of this kind may be written now.
+pub(crate) fn complain_of_socket<R: Clock + Eprint, D: Display>(rt: &R, pace: &Pace, why: &D) {
+    if let Some(left_out) = pace.next(rt) {
+        let _ = rt.eprintln(format_args!("playd: listening socket: {why}{left_out}"));
+    }
+}
+
+/// Says how many lines about connections, or about the listening socket, were left out, if any were.
+pub(crate) fn say_left_out<E: Eprint>(errors: &E, of: &str, left_out: LeftOut) {
+    if !left_out.is_none() {
+        let _ = errors.eprintln(format_args!("playd: {of}{left_out}"));
+    }
+}
+
+/// Says which name a file got that stood in the way.
+pub(crate) fn say_kept<E: Eprint>(errors: &E, path: &str, kept: &str) {
+    let _ = errors.eprintln(format_args!("playd: {path}: what stood here is {kept} now"));
+}
+
+/// Says why a file keeps the name that it has until it is whole.
+pub(crate) fn say_stays<E: Eprint, D: Display>(errors: &E, part: &str, why: &D) {
+    let _ = errors.eprintln(format_args!("playd: {part}: keeps this name: {why}"));
+}
+
+/// Says that the run waits until somebody reads a named pipe.
+pub(crate) fn say_waits_for_reader<E: Eprint>(errors: &E, pipe: &str) {
+    let _ = errors.eprintln(format_args!("playd: {pipe}: waiting for a reader"));
+}
+
+/// Says that the system has too few threads for a run.
+pub(crate) fn say_few_threads<E: Eprint>(errors: &E, started: usize, wanted: u32) {
+    let _ = errors.eprintln(format_args!("playd: threads: {started} of {wanted} could be started"));
+}
+
+/// Says that an output waits for its reader, and all channels with it.
+pub(crate) fn say_stalled<E: Eprint>(errors: &E, output: &str) {
+    let _ = errors.eprintln(format_args!(
+        "playd: {output}: its reader has taken nothing for a second, and all channels wait for it"
+    ));
 }
 
 /// Says that a clock stood still, and how many pulses it left out for that.

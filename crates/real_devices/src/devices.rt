@@ -4,18 +4,27 @@ ghost use Rattle.std.specs.List.{range_with_len};
 ghost use Rattle.real_devices.specs.Fresh.{quiet_clock, quiet_door, quiet_sink};
 ghost use Rattle.real_devices.specs.State.{clock_state, door_state, file_of, file_state};
 
-use crate::complaint::complain;
+use crate::complaint::{complain, say_waits_for_reader};
+use crate::door_group::DoorGroup;
+use crate::file_limit::{FileRoom, largest_file};
 use crate::file_sink::FileSink;
+use crate::journal_names::JournalNames;
 use crate::rate_clock::RateClock;
 use crate::tcp_door::TcpDoor;
+use crate::used_files::{Use, UsedFiles};
 use play_outside::{Devices, FileFault};
-use play_types::{ChannelList, Config};
+use play_types::Config;
 use std::alloc::Global;
-use std::fs::{self, File};
+use std::fs::{self, File, Metadata, OpenOptions};
 use std::io::{self, Eprint, ErrorKind};
 use std::net::{Net, TcpListener, TcpStream};
+use std::os::fd::OwnedFd;
+use std::os::unix::fs::FileTypeExt;
 use std::rt::Files;
 use std::time::Clock;
+
+/// How the name of a clip's file ends, in upper or lower case.
+const CLIP_ENDING: &[u8] = b".rclp";
 
 /// The real devices of a server, over a runtime of this type.
 pub type RealDevices<R> = Devices<RateClock<R>, TcpDoor<R>, FileSink<File, R>>;
@@ -24,17 +33,28 @@ pub type RealDevices<R> = Devices<RateClock<R>, TcpDoor<R>, FileSink<File, R>>;
 /// one listening socket, an output for each of its channels, and one for the history. The doors and the outputs have
 /// the marks 1, 2 and so on, and the output of the history has the mark 0. No call of a device was made yet.
 ///
-/// Each file is made, or emptied. Without a path for the history its output takes every byte and keeps none. `Failed`
-/// comes if two outputs have one path, the address cannot be read or listened on, or a file cannot be written, and
-/// standard error says which.
+/// `source` is the path of the configuration's own file, if it has one. Each output is made, or emptied if all devices
+/// could be made. The history is written beside the file of its path, and [`finish`] gives it the name; only what is no
+/// regular file is written as it is. Without a path for the history its output takes every byte and keeps none.
+///
+/// `Failed` comes if the address cannot be read or listened on, a file cannot be written, or an output has a file that is
+/// the configuration, a clip of the media folder or another output, by whatever path. Standard error says which.
+/// Character devices may be written by any number of outputs.
 pub fn ready<
     R: Net<Listener = TcpListener, Stream = TcpStream>
         + Files<File = File>
         + Clock
         + Eprint
+        + AllocGlobal
         + Copy
         + Drop,
->(rt: R, alloc: Global, config: &Config, history: Option<&str>) -> Result<RealDevices<R>, FileFault>
+>(
+    rt: R,
+    alloc: Global,
+    config: &Config,
+    source: Option<&str>,
+    history: Option<&str>,
+) -> Result<RealDevices<R>, FileFault>
     ensures doors { IfOk result (λ devices. map door_state devices.doors.items
         ≡ map quiet_door (range_with_len 1 config.now.connections)) }
     ensures outs { IfOk result (λ devices. map file_state devices.outs.items
@@ -43,20 +63,22 @@ pub fn ready<
     ensures history { IfOk result (λ devices. file_state devices.history ≡ quiet_sink 0) }
     ensures kept { IfOk result (λ devices. IsNone history.entry → file_of devices.history ≡ None) }
 {
-    if let Some(path) = find_twice(config.channels(), history) {
-        complain(&rt, path, &"more than one output has this path");
-        return Err(FileFault::Failed);
-    }
+    let Ok(group) = DoorGroup::new(alloc) else {
+        return Err(FileFault::OutOfMemory);
+    };
     let address = config.listen().as_str();
-    let doors = match listen(rt, alloc, address, config.connections()) {
+    let doors = match listen(rt, alloc, address, &group, config.connections()) {
         Ok(doors) => doors,
         Err(error) => return Err(not_made(&rt, address, &error)),
     };
-    let outs = make_outs(rt, alloc, config)?;
-    let history = match history {
-        Some(path) => make_sink(rt, alloc, path, 0)?,
-        None => FileSink::new(String::new(alloc), None, rt, 0),
+    let mut run = RunFiles {
+        used: files_in_use(rt, alloc, config, source)?,
+        largest: largest_file(&rt),
+        group,
     };
+    let outs = make_outs(rt, alloc, config, &mut run)?;
+    let history = make_history(rt, alloc, history, &mut run)?;
+    empty_all(&rt, config, &outs)?;
     let clock = RateClock::new(rt, config.rate());
     Ok(Devices {
         clock,
@@ -66,33 +88,83 @@ pub fn ready<
     })
 }
 
-/// Returns a path that more than one output has.
-fn find_twice<'a>(channels: &'a ChannelList, history: Option<&'a str>) -> Option<&'a str> {
-    for (place, channel) in channels.iter().enumerate() {
-        let path = channel.output().as_str();
-        if is_among(channels, place, path) {
-            return Some(path);
+/// Ends the devices of a run. The history gets its name, if it was written and no write of it failed; what stood there
+/// is kept under a name with a number. The listening socket and all files are closed.
+pub fn finish<R: Files<File = File> + Clock + Eprint + Copy + Drop>(devices: RealDevices<R>) {
+    let Devices { doors, history, .. } = devices;
+    if let Some(door) = doors.first() {
+        door.say_left_out();
+    }
+    history.finish();
+}
+
+/// What the outputs of a run share while they are made.
+#[derive(Drop)]
+struct RunFiles {
+    /// The files that have a use already.
+    used: UsedFiles,
+    /// How many bytes a file may have, if that is limited.
+    largest: Option<u64>,
+    /// The doors that serve the run.
+    group: DoorGroup,
+}
+
+/// Returns the files that no output may have: the configuration and the clips of its media folder, as far as the system
+/// tells them.
+fn files_in_use<R: Files<File = File> + AllocGlobal + Copy + Drop>(
+    rt: R,
+    alloc: Global,
+    config: &Config,
+    source: Option<&str>,
+) -> Result<UsedFiles, FileFault> {
+    let mut used = UsedFiles::new(alloc);
+    if let Some(source) = source {
+        if let Ok(found) = fs::metadata(&rt, source) {
+            used.add(&found, Use::Config)?;
         }
     }
-    match history {
-        Some(path) if is_among(channels, channels.len(), path) => Some(path),
-        _ => None,
+    add_clips(rt, config.media().as_str(), &mut used)?;
+    Ok(used)
+}
+
+/// Adds the clips of a folder.
+fn add_clips<R: Files<File = File> + AllocGlobal + Copy + Drop>(
+    rt: R,
+    folder: &str,
+    used: &mut UsedFiles,
+) -> Result<(), FileFault> {
+    let Ok(entries) = fs::read_dir(&rt, folder) else {
+        return Ok(());
+    };
+    for entry in entries {
+        let Ok(entry) = entry else {
+            continue;
+        };
+        if !is_clip(entry.file_name()) {
+            continue;
+        }
+        if let Ok(found) = fs::metadata(&rt, entry.path()) {
+            used.add(&found, Use::Clip)?;
+        }
+    }
+    Ok(())
+}
+
+/// Returns whether a file has the name of a clip.
+fn is_clip(name: &str) -> bool {
+    let name = name.as_bytes();
+    match name.len().checked_sub(CLIP_ENDING.len()) {
+        Some(at) => name[at..].eq_ignore_ascii_case(CLIP_ENDING),
+        None => false,
     }
 }
 
-/// Returns whether one of the first `count` channels has this output.
-fn is_among(channels: &ChannelList, count: usize, path: &str) -> bool {
-    channels
-        .iter()
-        .take(count)
-        .any(|channel| channel.output().is_same(path))
-}
-
-/// Makes so many doors on one socket, which listens on an address. The first has the mark 1.
+/// Makes so many doors of a group on one socket, which listens on an address. The first has the mark 1.
 fn listen<R: Net<Listener = TcpListener, Stream = TcpStream> + Clock + Eprint + Copy + Drop>(
     rt: R,
     alloc: Global,
     address: &str,
+    group: &DoorGroup,
     count: u32,
 ) -> io::Result<Vec<TcpDoor<R>>>
     ensures { IfOk result (λ doors. map door_state doors.items ≡ map quiet_door (range_with_len 1 count)) }
@@ -101,17 +173,18 @@ fn listen<R: Net<Listener = TcpListener, Stream = TcpStream> + Clock + Eprint + 
     let mut doors = Vec::new(alloc);
     for place in 0..count {
         let mark = u64::from(place) + 1;
-        let door = TcpDoor::new(listener.try_clone()?, rt, mark)?;
+        let door = TcpDoor::new(listener.try_clone()?, rt, group.try_clone()?, mark)?;
         doors.push(door)?;
     }
     Ok(doors)
 }
 
 /// Makes the output of each channel. That of channel 1 has the mark 1.
-fn make_outs<R: Files<File = File> + Eprint + Copy + Drop>(
+fn make_outs<R: Files<File = File> + Clock + Eprint + Copy + Drop>(
     rt: R,
     alloc: Global,
     config: &Config,
+    run: &mut RunFiles,
 ) -> Result<Vec<FileSink<File, R>>, FileFault>
     ensures { IfOk result (λ outs. map file_state outs.items ≡ map quiet_sink (range_with_len 1 (length config.now.channels))) }
 {
@@ -119,7 +192,7 @@ fn make_outs<R: Files<File = File> + Eprint + Copy + Drop>(
     let mut mark = 0;
     for channel in config.channels().iter() {
         mark += 1;
-        let out = make_sink(rt, alloc, channel.output().as_str(), mark)?;
+        let out = make_sink(rt, alloc, channel.output().as_str(), mark, run)?;
         let Ok(()) = outs.push(out) else {
             return Err(FileFault::OutOfMemory);
         };
@@ -127,19 +200,160 @@ fn make_outs<R: Files<File = File> + Eprint + Copy + Drop>(
     Ok(outs)
 }
 
-/// Makes a file, or empties it, for a sink with this mark.
-fn make_sink<R: Files<File = File> + Eprint + Copy + Drop>(
+/// Makes the output of the history. If the path is that of a regular file, or of none yet, it is written beside it.
+fn make_history<R: Files<File = File> + Clock + Eprint + Copy + Drop>(
+    rt: R,
+    alloc: Global,
+    path: Option<&str>,
+    run: &mut RunFiles,
+) -> Result<FileSink<File, R>, FileFault>
+    ensures state { IfOk result (λ sink. file_state sink ≡ quiet_sink 0) }
+    ensures kept { IfOk result (λ sink. IsNone path.entry → file_of sink ≡ None) }
+{
+    let Some(path) = path else {
+        return Ok(FileSink::new(String::new(alloc), None, rt, 0));
+    };
+    match file_at(&rt, alloc, path)? {
+        FileAt::Special => make_sink(rt, alloc, path, 0, run),
+        FileAt::Regular(path) => make_part(rt, alloc, path.as_str(), run),
+    }
+}
+
+/// Makes the file that a history is written to until it is whole.
+fn make_part<R: Files<File = File> + Clock + Eprint + Copy + Drop>(
+    rt: R,
+    alloc: Global,
+    path: &str,
+    run: &mut RunFiles,
+) -> Result<FileSink<File, R>, FileFault>
+    ensures { IfOk result (λ sink. file_state sink ≡ quiet_sink 0) }
+{
+    refuse_used(&rt, path, &run.used)?;
+    let mut names = JournalNames::new(alloc, path)?;
+    if let Err(error) = names.keep_part(&rt) {
+        return Err(not_made(&rt, names.part(), &error));
+    }
+    let sink = make_sink(rt, alloc, names.part(), 0, run)?;
+    Ok(sink.with_names(names))
+}
+
+/// What is at the path of a history.
+#[derive(Drop)]
+enum FileAt {
+    /// A regular file of this path, which no link stands for, or none yet.
+    Regular(String),
+    /// A device, a pipe or what else there is, or a path that cannot be one of a file.
+    Special,
+}
+
+/// Returns what is at a path, and follows links.
+fn file_at<R: Files>(rt: &R, alloc: Global, path: &str) -> Result<FileAt, FileFault> {
+    if path.is_empty() {
+        return Ok(FileAt::Special);
+    }
+    if let Ok(found) = fs::metadata(rt, path) {
+        if !found.is_file() {
+            return Ok(FileAt::Special);
+        }
+    }
+    match fs::symlink_metadata(rt, path) {
+        Ok(found) if found.is_symlink() => match rt.canonicalize(alloc, path) {
+            Ok(target) => Ok(FileAt::Regular(target.into_string())),
+            Err(_) => Ok(FileAt::Special),
+        },
+        _ => Ok(FileAt::Regular(String::from_str(alloc, path)?)),
+    }
+}
+
+/// Fails if a file has a use already, and says which.
+fn refuse_used<R: Files + Eprint>(rt: &R, path: &str, used: &UsedFiles) -> Result<(), FileFault> {
+    let Ok(found) = fs::metadata(rt, path) else {
+        return Ok(());
+    };
+    match used.find(&found) {
+        Some(has) => {
+            complain(rt, path, &has);
+            Err(FileFault::Failed)
+        }
+        None => Ok(()),
+    }
+}
+
+/// Makes a file, or opens it and leaves what it holds, for a sink with this mark. It fails if the file has a use already,
+/// and has one from then on. If a named pipe has this path, it waits until somebody reads it, and standard error says so.
+fn make_sink<R: Files<File = File> + Clock + Eprint + Copy + Drop>(
     rt: R,
     alloc: Global,
     path: &str,
     mark: u64,
+    run: &mut RunFiles,
 ) -> Result<FileSink<File, R>, FileFault>
     ensures { IfOk result (λ sink. file_state sink ≡ quiet_sink mark) }
 {
     let name = String::from_str(alloc, path)?;
-    match fs::create(&rt, path) {
-        Ok(file) => Ok(FileSink::new(name, Some(file), rt, mark)),
-        Err(error) => Err(not_made(&rt, path, &error)),
+    refuse_used(&rt, path, &run.used)?;
+    if is_pipe(&rt, path) {
+        say_waits_for_reader(&rt, path);
+    }
+    let (file, found) = match open(&rt, path) {
+        Ok(opened) => opened,
+        Err(error) => return Err(not_made(&rt, path, &error)),
+    };
+    run.used.add(&found, Use::Output)?;
+    let Ok(group) = run.group.try_clone() else {
+        return Err(FileFault::OutOfMemory);
+    };
+    let room = FileRoom::new(run.largest.filter(|_| found.is_file()));
+    Ok(FileSink::new(name, Some(file), rt, mark).of_run(room, group))
+}
+
+/// Opens a file to write, and makes it if there is none. Returns it with what the system tells of it. If it is no regular
+/// file, no write to it waits.
+fn open<R: Files<File = File>>(rt: &R, path: &str) -> io::Result<(File, Metadata)> {
+    let mut how = OpenOptions::new();
+    let file = how.write(true).create(true).open(rt, path)?;
+    let found = file.metadata()?;
+    if !found.is_file() {
+        set_nonblocking(&file)?;
+    }
+    Ok((file, found))
+}
+
+/// Lets writes to a pipe or a device return at once if it takes nothing. The system has one call for these and for sockets.
+fn set_nonblocking(file: &File) -> io::Result<()> {
+    TcpStream::from(OwnedFd::from(file.try_clone()?)).set_nonblocking(true)
+}
+
+/// Empties the outputs of all channels that are regular files.
+fn empty_all<R: Clock + Eprint + Drop>(
+    rt: &R,
+    config: &Config,
+    outs: &[FileSink<File, R>],
+) -> Result<(), FileFault> {
+    for (out, channel) in outs.iter().zip(config.channels().iter()) {
+        if let Err(error) = empty(out.file()) {
+            return Err(not_made(rt, channel.output().as_str(), &error));
+        }
+    }
+    Ok(())
+}
+
+/// Empties a file, if it is a regular one.
+fn empty(file: Option<&File>) -> io::Result<()> {
+    let Some(file) = file else {
+        return Ok(());
+    };
+    if file.metadata()?.is_file() {
+        file.set_len(0)?;
+    }
+    Ok(())
+}
+
+/// Returns whether a named pipe has this path.
+fn is_pipe<R: Files>(rt: &R, path: &str) -> bool {
+    match fs::metadata(rt, path) {
+        Ok(found) => found.file_type().is_fifo(),
+        Err(_) => false,
     }
 }
 

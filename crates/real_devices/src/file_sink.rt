@@ -5,23 +5,30 @@ ghost use Rattle.real_devices.specs.Fresh.{quiet_sink};
 ghost use Rattle.real_devices.specs.State.{file_of, file_state};
 ghost use Rattle.real_devices.specs.Stream.{AddsTo, contents_of};
 
-use crate::complaint::complain;
-use crate::patience::{Patience, write_some};
+use crate::door_group::DoorGroup;
+use crate::file_limit::FileRoom;
+use crate::journal_names::JournalNames;
+use crate::output::Output;
 use play_outside::{Sink, WriteStep};
-use std::io::{Eprint, Write};
+use std::fs::File;
+use std::io::{self, Eprint, Write};
+use std::rt::Files;
+use std::time::Clock;
 
 /// Writes to a file, and keeps nothing back: what a write took, the system took. Without a file it takes every byte and
-/// keeps none. It says on standard error why a write failed. It does not tell what was taken.
+/// keeps none. It says on standard error why a write failed, and that its reader has taken nothing for a second, if it is a
+/// pipe that does not block. It does not tell what was taken.
 #[derive(Drop)]
 pub struct FileSink<W, E> {
-    name: String,
+    output: Output<E>,
     file: Option<W>,
-    errors: E,
     faults: u64,
     mark: u64,
+    /// The names of the file, if it gets another one when it is whole.
+    names: Option<JournalNames>,
 }
 
-impl<W: Write + Drop, E: Eprint + Drop> FileSink<W, E> {
+impl<W: Write + Drop, E: Clock + Eprint + Drop> FileSink<W, E> {
     /// Returns a sink over a file, or over none, with this mark. No write has failed yet. The name of the file is for
     /// standard error alone.
     pub fn new(name: String, file: Option<W>, errors: E, mark: u64) -> FileSink<W, E>
@@ -29,19 +36,81 @@ impl<W: Write + Drop, E: Eprint + Drop> FileSink<W, E> {
         ensures file { file_of result ≡ file }
     {
         FileSink {
-            name,
+            output: Output::new(name, errors),
             file,
-            errors,
             faults: 0,
             mark,
+            names: None,
+        }
+    }
+
+    /// Returns the sink with a file that takes no more than this room, as one of the run that these doors serve.
+    pub(crate) fn of_run(self, room: FileRoom, group: DoorGroup) -> FileSink<W, E>
+        ensures state { file_state result ≡ file_state self }
+        ensures file { file_of result ≡ file_of self }
+    {
+        FileSink {
+            output: self.output.of_run(room, group),
+            ..self
+        }
+    }
+
+    /// Returns the sink with the names of its file, which gets another one when it is whole.
+    pub(crate) fn with_names(self, names: JournalNames) -> FileSink<W, E>
+        ensures state { file_state result ≡ file_state self }
+        ensures file { file_of result ≡ file_of self }
+    {
+        FileSink {
+            names: Some(names),
+            ..self
+        }
+    }
+
+    /// Returns the file, if there is one.
+    pub(crate) fn file(&self) -> Option<&W> {
+        self.file.as_ref()
+    }
+}
+
+impl<R: Files<File = File> + Clock + Eprint + Drop> FileSink<File, R> {
+    /// Ends the writing of a file that gets another name when it is whole: gives it the name if something was written and no
+    /// write failed. If nothing was written, it is removed. Else it keeps its name, and standard error says so.
+    pub(crate) fn finish(self) {
+        let (Some(file), Some(names)) = (self.file, self.names) else {
+            return;
+        };
+        let mut names = names;
+        let rt = self.output.errors();
+        if self.faults > 0 {
+            names.say_stays(rt, &"the history is not whole");
+            return;
+        }
+        match settle(rt, &file, &mut names) {
+            Ok(()) => {}
+            Err(error) => names.say_stays(rt, &error),
         }
     }
 }
 
-impl<W: Write + Drop, E: Eprint + Drop> Sink for FileSink<W, E> {
+/// Gives a file without a failed write its name, or removes it if nothing was written.
+fn settle<R: Files<File = File> + Eprint>(
+    rt: &R,
+    file: &File,
+    names: &mut JournalNames,
+) -> io::Result<()> {
+    if file.metadata()?.len() == 0 {
+        names.remove(rt);
+        return Ok(());
+    }
+    file.sync_all()?;
+    names.give(rt)
+}
+
+impl<W: Write + Drop, E: Clock + Eprint + Drop> Sink for FileSink<W, E> {
     ghost state = { file_state };
 
-    /// Writes a prefix of the piece. An interrupted write is made again, but for the last of `INTERRUPTIONS` interruptions.
+    /// Writes a prefix of the piece, and waits until the reader of a pipe takes something, but for ten seconds together once
+    /// the run ends. An interrupted write is made again, but for the last of `INTERRUPTIONS` interruptions.
     fn write(&mut self, piece: &[u8]) -> WriteStep
         requires { 0 < length piece.now }
         ensures writes { Writes result piece.now (file_state self.old) (file_state self.new) }
@@ -51,10 +120,10 @@ impl<W: Write + Drop, E: Eprint + Drop> Sink for FileSink<W, E> {
         let Some(file) = &mut self.file else {
             return WriteStep::Took(piece.len());
         };
-        match write_some(file, piece, Patience::FILE) {
+        match self.output.write(file, piece) {
             Ok(count) => WriteStep::Took(count),
             Err(error) => {
-                complain(&self.errors, self.name.as_str(), &error);
+                self.output.complain(&error);
                 self.faults = self.faults.saturating_add(1);
                 WriteStep::Failed
             }

@@ -2,21 +2,37 @@
 //!
 //! Each device makes the real call, meets its trait of `play_outside`, and says on standard error why a call failed. It
 //! counts its faults, and the looks that found nothing yet, and does not tell what was read, written or given. `ready`
-//! makes all devices that a configuration names.
+//! makes all devices that a configuration names, and `finish` ends them.
 #![tactic(auto)]
 
 mod complaint;
 mod devices;
+mod door_group;
+mod error_lines;
+mod file_limit;
 mod file_sink;
+mod host;
+mod journal_names;
+mod output;
+mod pace;
 mod patience;
 mod rate_clock;
 mod schedule;
+mod stall;
 mod tcp_door;
 mod tcp_link;
+mod thread_trial;
+mod used_files;
+mod watch;
 
-pub use devices::{RealDevices, ready};
+pub use devices::{RealDevices, finish, ready};
+pub use door_group::DoorGroup;
+pub use error_lines::ErrorLines;
 pub use file_sink::FileSink;
-pub use patience::{INTERRUPTIONS, WRITE_WAITS};
+pub use host::Host;
+pub use patience::{INTERRUPTIONS, RESTORED_WAITS, RESTORING_BYTES, WRITE_WAITS};
 pub use rate_clock::RateClock;
 pub use tcp_door::TcpDoor;
 pub use tcp_link::TcpLink;
+pub use thread_trial::try_threads;
+pub use watch::SILENT_SECONDS;

@@ -1,55 +1,74 @@
 //! Writes that are tried again.
-ghost use Rattle.std.specs.Prelude.{◌<◌, ◌≤◌, length, take, IfOk, MatchResult};
+ghost use Rattle.std.specs.Prelude.{◌≡◌, ◌↔◌, ◌-◌, ◌<◌, ◌≤◌, length, take, IfOk, IsTrue, MatchResult};
 ghost use Rattle.std.specs.Io.KnownBytes.{Appends, Keeps};
+ghost use Rattle.real_devices.specs.inner.Patience.{after_write};
 
 use std::io::{self, Error, ErrorKind, Write};
 
 /// The interruption of this number in one call counts as a failure.
 pub const INTERRUPTIONS: u32 = 1_000;
 
-/// The wait of this number in one write to a client counts as a failure. Each lasts a tenth of a second.
+/// For how many waits, of a tenth of a second each, a client may keep the replies between two of its reads waiting.
 pub const WRITE_WAITS: u32 = 100;
 
-/// How often a call may still be made again.
+/// How many bytes that a client takes give `RESTORED_WAITS` back to it.
+pub const RESTORING_BYTES: u32 = 65_536;
+
+/// How many waits a client gets back for `RESTORING_BYTES` that it takes.
+pub const RESTORED_WAITS: u32 = 10;
+
+/// How often writes may still wait.
 #[derive(Clone, Copy, Debug, PartialEq, Eq)]
 pub(crate) struct Patience {
-    interruptions: u32,
     waits: u32,
+    /// How many bytes were taken since the last ones that gave waits back.
+    taken: u32,
 }
 
 impl Patience {
     /// For a file, of which no call is made again after a wait.
-    pub(crate) const FILE: Patience = Patience {
-        interruptions: INTERRUPTIONS,
-        waits: 1,
-    };
+    pub(crate) const FILE: Patience = Patience { waits: 1, taken: 0 };
 
     /// For a client, which may take nothing for ten seconds.
     pub(crate) const CLIENT: Patience = Patience {
-        interruptions: INTERRUPTIONS,
         waits: WRITE_WAITS,
+        taken: 0,
     };
 
-    /// Counts an error of this kind, and returns whether the call is made again.
-    fn allows(&mut self, kind: ErrorKind) -> bool {
-        if matches!(kind, ErrorKind::Interrupted) {
-            self.interruptions = self.interruptions.saturating_sub(1);
-            return self.interruptions > 0;
-        }
-        if matches!(kind, ErrorKind::WouldBlock | ErrorKind::TimedOut) {
-            self.waits = self.waits.saturating_sub(1);
-            return self.waits > 0;
-        }
-        false
+    /// Counts a wait, and returns whether there may be more.
+    fn wait(&mut self) -> bool
+        ensures waits { self.new ≡ record self.old { waits = self.old.waits - 1 } }
+        ensures more { IsTrue result ↔ (0 < self.new.waits) }
+    {
+        self.waits = self.waits.saturating_sub(1);
+        self.waits > 0
+    }
+
+    /// Counts a write of `asked` bytes that took `count` of them.
+    pub(crate) fn count(&mut self, count: usize, asked: usize)
+        ensures { self.new ≡ after_write count asked self.old }
+    {
+        let taken = u128::from(self.taken) + count as u128;
+        let restored = u128::from(RESTORED_WAITS) * (taken / u128::from(RESTORING_BYTES));
+        let waits = (u128::from(self.waits) + restored).min(u128::from(WRITE_WAITS)) as u32;
+        self.waits = waits.saturating_sub(u32::from(count < asked));
+        self.taken = (taken % u128::from(RESTORING_BYTES)) as u32;
+    }
+
+    /// Returns whether no wait is left.
+    pub(crate) fn is_spent(&self) -> bool
+        ensures { IsTrue result ↔ (self.now.waits ≡ 0) }
+    {
+        self.waits == 0
     }
 }
 
 /// Writes a prefix of the piece, at least one byte, and returns how many bytes were taken. The write is made again after
-/// interruptions and waits as far as the patience allows.
+/// interruptions, and after waits as far as the patience allows.
 pub(crate) fn write_some<W: Write>(
     output: &mut W,
     piece: &[u8],
-    patience: Patience,
+    patience: &mut Patience,
 ) -> io::Result<usize>
     requires { 0 < length piece.now }
     ensures count { IfOk result (λ count. (0 < count) × (count ≤ length piece.now)) }
@@ -57,17 +76,29 @@ pub(crate) fn write_some<W: Write>(
         (λ count. Appends (W.contents output.old) (W.contents output.new) (take count piece.now))
         (λ error. Keeps (W.contents output.old) (W.contents output.new)) }
 {
-    let mut patience = patience;
+    let mut interruptions = INTERRUPTIONS;
     for _ in 0..INTERRUPTIONS + WRITE_WAITS {
         match output.write(piece) {
             Ok(0) => return Err(Error::from(ErrorKind::WriteZero)),
             Ok(count) => return Ok(count),
             Err(error) => {
-                if !patience.allows(error.kind()) {
+                if !goes_on(&mut interruptions, patience, error.kind()) {
                     return Err(error);
                 }
             }
         }
     }
     Err(Error::from(ErrorKind::TimedOut))
+}
+
+/// Counts an error of this kind, and returns whether the call is made again.
+fn goes_on(interruptions: &mut u32, patience: &mut Patience, kind: ErrorKind) -> bool {
+    match kind {
+        ErrorKind::Interrupted => {
+            *interruptions = interruptions.saturating_sub(1);
+            *interruptions > 0
+        }
+        ErrorKind::WouldBlock | ErrorKind::TimedOut => patience.wait(),
+        _ => false,
+    }
 }

@@ -1,18 +1,36 @@
 //! A place where connections over TCP come.
-ghost use Rattle.std.specs.Prelude.{◌≡◌, IfOk};
-ghost use Rattle.real_devices.specs.Fresh.{quiet_door};
-ghost use Rattle.real_devices.specs.State.{door_state};
+ghost use Rattle.std.specs.Prelude.{◌≡◌, ◌↔◌, ◌<◌, IfOk, IsTrue};
+ghost use Rattle.std.specs.IoError.{raw_os_error};
+ghost use Rattle.play_outside.specs.Listener.{Arrives, IfCame};
+ghost use Rattle.play_outside.specs.declared.listener.TheConstants.{MOST_AWAY};
+ghost use Rattle.real_devices.specs.Fresh.{quiet_door, quiet_sink};
+ghost use Rattle.real_devices.specs.State.{door_state, link_state};
+ghost use Rattle.real_devices.specs.inner.Accepting.{HasFailed};
 
-use crate::complaint::{complain, complain_of_client};
+use crate::complaint::{complain, complain_of_client, complain_of_socket, say_left_out};
+use crate::door_group::DoorGroup;
 use crate::tcp_link::{TcpLink, is_pause};
 use play_outside::{Arrival, Listener};
 use std::io::{self, Eprint, ErrorKind};
-use std::net::{TcpListener, TcpStream};
+use std::net::{SocketAddr, TcpListener, TcpStream};
+use std::os::fd::OwnedFd;
 use std::thread;
 use std::time::{Clock, Duration};
 
-/// For how many milliseconds a door sleeps if no connection has come.
-const PAUSE_MILLIS: u64 = 5;
+/// For how many milliseconds a door waits for a connection in one call.
+const LOOK_MILLIS: u64 = 1_000;
+
+/// For how many milliseconds a door sleeps after an error of its socket that passes.
+const PAUSE_MILLIS: u64 = 100;
+
+/// Linux's numbers of the errors of `accept` that do not pass.
+const BAD_DESCRIPTOR: i32 = 9;
+
+const BAD_ADDRESS: i32 = 14;
+
+const INVALID_ARGUMENT: i32 = 22;
+
+const NOT_A_SOCKET: i32 = 88;
 
 /// A listening socket, which doors may share. It says on standard error why a call failed. It does not tell what was
 /// given back.
@@ -20,6 +38,9 @@ const PAUSE_MILLIS: u64 = 5;
 pub struct TcpDoor<R> {
     listener: TcpListener,
     rt: R,
+    group: DoorGroup,
+    /// Whether the door is counted as free.
+    is_free: bool,
     away: u32,
     faults: u64,
     idles: u64,
@@ -27,20 +48,105 @@ pub struct TcpDoor<R> {
 }
 
 impl<R: Clock + Eprint + Copy + Drop> TcpDoor<R> {
-    /// Takes a listening socket, which no longer waits for connections from then on. The door has this mark, and no call
-    /// of it was made yet. An error of the system is handed on.
-    pub fn new(listener: TcpListener, rt: R, mark: u64) -> io::Result<TcpDoor<R>>
+    /// Takes a listening socket, in whose calls it waits for half a second from then on. The door is of this group,
+    /// in which all doors of the socket are. It has this mark, and no call of it was made yet. An error of the system is
+    /// handed on.
+    pub fn new(listener: TcpListener, rt: R, group: DoorGroup, mark: u64) -> io::Result<TcpDoor<R>>
         ensures { IfOk result (λ door. door_state door ≡ quiet_door mark) }
     {
-        listener.set_nonblocking(true)?;
+        listener.set_nonblocking(false)?;
+        limit_wait(&listener)?;
         Ok(TcpDoor {
             listener,
             rt,
+            group,
+            is_free: false,
             away: 0,
             faults: 0,
             idles: 0,
             mark,
         })
+    }
+
+    /// Returns the address that the socket listens on, with the port that the system chose if 0 was asked for.
+    pub fn address(&self) -> io::Result<SocketAddr> {
+        self.listener.local_addr()
+    }
+
+    /// Says how many lines about the doors of the group and their connections were left out since the last ones.
+    pub fn say_left_out(&self) {
+        say_left_out(&self.rt, "connections", self.group.clients().take());
+        say_left_out(&self.rt, "listening socket", self.group.socket().take());
+    }
+
+    /// Counts the door as free if it is not.
+    fn be_free(&mut self)
+        ensures { door_state self.new ≡ door_state self.old }
+    {
+        if !self.is_free {
+            self.is_free = true;
+            self.group.add_free();
+        }
+    }
+
+    /// Counts the door as free no longer.
+    fn be_taken(&mut self)
+        ensures { door_state self.new ≡ door_state self.old }
+    {
+        self.is_free = false;
+        self.group.take_free();
+    }
+
+    /// Makes a link of a connection that was accepted, unless its client has reset it since.
+    fn link(&self, stream: TcpStream, client: SocketAddr) -> io::Result<TcpLink<TcpStream, R>>
+        ensures { IfOk result (λ link. link_state link ≡ quiet_sink self.now.mark) }
+    {
+        if let Some(error) = stream.take_error()? {
+            return Err(error);
+        }
+        TcpLink::new(stream, client, self.rt, self.group.try_clone()?, self.mark)
+    }
+
+    /// Takes a connection that waits, if one comes in half a second.
+    fn look(&mut self) -> Arrival<TcpLink<TcpStream, R>>
+        requires { self.old.away < MOST_AWAY }
+        ensures arrives { Arrives result (door_state self.old) (door_state self.new) }
+        ensures fresh { IfCame result (λ line. link_state line ≡ quiet_sink self.old.mark) }
+    {
+        self.be_free();
+        match self.listener.accept() {
+            Ok((stream, client)) => match self.link(stream, client) {
+                Ok(line) => {
+                    self.be_taken();
+                    self.away += 1;
+                    Arrival::Came(line)
+                }
+                Err(error) => {
+                    complain_of_client(&self.rt, self.group.clients(), &client, &error);
+                    self.idles = self.idles.saturating_add(1);
+                    Arrival::Again
+                }
+            },
+            Err(error) if has_failed(&error) => {
+                complain(&self.rt, "listening socket", &error);
+                self.faults = self.faults.saturating_add(1);
+                Arrival::Failed
+            }
+            Err(error) => {
+                self.wait_after(&error);
+                self.idles = self.idles.saturating_add(1);
+                Arrival::Again
+            }
+        }
+    }
+
+    /// Says what is wrong with the socket, and lets some time pass, if it is more than that no connection has come.
+    fn wait_after(&self, error: &io::Error) {
+        if is_pause(error.kind()) || is_of_client(error.kind()) {
+            return;
+        }
+        complain_of_socket(&self.rt, self.group.socket(), error);
+        thread::sleep(&self.rt, Duration::from_millis(PAUSE_MILLIS));
     }
 }
 
@@ -49,49 +155,54 @@ impl<R: Clock + Eprint + Copy + Drop + Send> Listener for TcpDoor<R> {
 
     ghost state = { door_state };
 
-    /// Takes a connection that waits. If none does, it sleeps for a few milliseconds. A connection that its client has
-    /// ended before it was taken is no failure.
+    /// Takes a connection that waits. If none comes in half a second there is none yet. Nor is there one if the
+    /// client has ended it before it was taken, or the system is short of something that may come back.
     fn next(&mut self) -> Arrival<TcpLink<TcpStream, R>> {
-        match self.listener.accept() {
-            Ok((stream, client)) => match TcpLink::new(stream, client, self.rt, self.mark) {
-                Ok(line) => {
-                    self.away += 1;
-                    Arrival::Came(line)
-                }
-                Err(error) => {
-                    complain_of_client(&self.rt, &client, &error);
-                    self.idles = self.idles.saturating_add(1);
-                    Arrival::Again
-                }
-            },
-            Err(error) if is_pause(error.kind()) || is_of_client(error.kind()) => {
-                thread::sleep(&self.rt, Duration::from_millis(PAUSE_MILLIS));
-                self.idles = self.idles.saturating_add(1);
-                Arrival::Again
-            }
-            Err(error) => {
-                complain(&self.rt, "listening socket", &error);
-                self.faults = self.faults.saturating_add(1);
-                Arrival::Failed
-            }
-        }
+        self.group.begin_call();
+        let arrival = self.look();
+        self.group.end_call();
+        arrival
     }
 
-    /// Closes the connection.
+    /// Closes the connection. The door is free from then on.
     fn give_back(&mut self, line: TcpLink<TcpStream, R>) {
+        self.group.begin_call();
+        if line.has_freed() {
+            self.is_free = true;
+        }
+        self.be_free();
         line.close(&self.rt);
         self.away -= 1;
+        self.group.end_call();
     }
 }
 
-/// Returns whether an error of the listening socket is one of a single connection.
+/// Limits how long a call of `accept` waits. The system has one limit for the reads of a stream and the calls of a
+/// listening socket.
+fn limit_wait(listener: &TcpListener) -> io::Result<()> {
+    let socket = OwnedFd::from(listener.try_clone()?);
+    let wait = Duration::from_millis(LOOK_MILLIS);
+    TcpStream::from(socket).set_read_timeout(Some(wait))
+}
+
+/// Returns whether an error of the listening socket is one that does not pass. All others may: too many open files, want
+/// of memory, what a firewall forbids, and what is wrong with the network or a single connection.
+fn has_failed(error: &io::Error) -> bool
+    ensures { IsTrue result ↔ HasFailed (raw_os_error error.now) }
+{
+    match error.raw_os_error() {
+        Some(code) => matches!(
+            code,
+            BAD_DESCRIPTOR | BAD_ADDRESS | INVALID_ARGUMENT | NOT_A_SOCKET
+        ),
+        None => false,
+    }
+}
+
+/// Returns whether an error of the listening socket says that the client of a connection has gone.
 fn is_of_client(kind: ErrorKind) -> bool {
     matches!(
         kind,
-        ErrorKind::ConnectionAborted
-            | ErrorKind::ConnectionReset
-            | ErrorKind::HostUnreachable
-            | ErrorKind::NetworkUnreachable
-            | ErrorKind::NetworkDown
+        ErrorKind::ConnectionAborted | ErrorKind::ConnectionReset
     )
 }

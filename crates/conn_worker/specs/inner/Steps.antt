@@ -1,5 +1,5 @@
 -- What following one step does.
-use Rattle.std.specs.Prelude.{◌≡◌, ℕ, ◌+◌, ◌≤◌, Some, None, Result, Ok, Err, List, ◌++◌}
+use Rattle.std.specs.Prelude.{◌≡◌, ℕ, ◌+◌, ◌≤◌, Option, Some, None, Result, Ok, Err, List, ◌++◌}
 use mathlib.Core.List.{IsPrefix}
 use Rattle.play_types.specs.Commands.{answer_reply}
 use Rattle.play_types.specs.History.{stop_at}
@@ -61,12 +61,13 @@ pub record FindsStop (at : ℕ) (before after : PassView) : Type 0 where
   pub stop : stop_at history ≡ Some at
   pub after_is : after ≡ looked before history
 
--- a step was followed, and the reply to it was sent
-pub record Follows (service : Service) (step : Step) (sent : Sent) (before after : Standing) : Type 0 where
+-- a step was followed, and the reply to it was sent, with the token of its line
+pub record Follows (service : Service) (token : Option (List ℕ)) (step : Step) (sent : Sent) (before after : Standing) : Type 0 where
   pub one : Followed
   pub step_is : one.step ≡ step
+  pub token_is : one.token ≡ token
   pub makes : MakesStep service one before.pass after.pass
-  pub sends : Sends sent (sent_bytes service (reply_of service one)) before.link after.link
+  pub sends : Sends sent (sent_bytes service one) before.link after.link
 
 -- the reply to a command or a batch of this name, or the end of the call if the stage was stopped
 abbrev pub replied : Name → Result Answer ApplyFault → Result Reply LinkEnd

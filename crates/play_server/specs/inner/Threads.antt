@@ -2,7 +2,6 @@
 use Rattle.std.specs.Prelude.{◌≡◌, ℕ, ◌+◌, ◌≤◌, List, [], length, map, vec_capacity, vec_len}
 use Rattle.std.specs.List.{AllZip, range_with_len}
 use Rattle.play_types.specs.Config.{ConfigView}
-use Rattle.play_types.specs.History.{ticks}
 use Rattle.play_outside.specs.ClockState.{ClockState}
 use Rattle.play_outside.specs.SinkState.{SinkState}
 use Rattle.clip_format.specs.Table.{Entry, media_names}
@@ -11,9 +10,10 @@ use Rattle.play_scene.specs.Frames.{zero_frame}
 use Rattle.stage_lock.specs.Views.{PassView, SharedView, Sizes}
 use Rattle.stage_lock.specs.Calls.{new_pass, new_passes}
 use Rattle.conn_worker.specs.declared.server.Server.{Server}
-use Rattle.play_ticker.specs.Ends.{EndsPass, clock_at_end}
+use Rattle.scene_pipe.specs.Calls.{AreNewEnds}
+use Rattle.play_ticker.specs.Ends.{HasEnded}
 use Rattle.play_ticker.specs.Frames.{AreBlank, tick_positions}
-use Rattle.play_ticker.specs.Outputs.{EachOutput, IsWritten}
+use Rattle.play_ticker.specs.Outputs.{AreWritten}
 use Rattle.play_ticker.specs.declared.ending.TickEnd.{TickEnd}
 use Rattle.play_server.specs.inner.Workers.{DoorStates, HasWorkedAt}
 use Rattle.play_server.specs.declared.connection_workers.ConnectionWorker.{ConnectionWorker}
@@ -29,7 +29,7 @@ sizes_for config =
 pub record IsRunMemory {D : Type 0} (config : ConfigView) (media : List Entry) (memory : RunMemory D) : Type 0 where
   pub names : memory.names ≡ media_names media
   pub renderer : memory.renderer ≡ map zero_frame config.channels
-  pub scenes : length memory.scenes ≡ length config.channels
+  pub pipe : memory.pipe ≡ length config.channels
   pub sizes : memory.stage.sizes ≡ sizes_for config
   pub passes : memory.passes.items ≡ new_passes memory.stage
   pub sessions : vec_len memory.sessions ≡ config.connections
@@ -53,15 +53,15 @@ pub record TickerStates (C O : Type 0) : Type 0 where
 abbrev pub ticker_states : {C O : Type 0} → (C → ClockState) → (O → SinkState) → TickerStates C O
 ticker_states clock out = record { clock = clock; out = out }
 
--- a ticker before its first tick: its pass has number 0 and has made nothing, nothing was rendered, and its frames, scenes and
--- outputs are as many as the channels of the stage
+-- a ticker before its first tick: its pass has number 0 and has made nothing, nothing was rendered, its pipe is new, and its frames, the
+-- channels of the pipe and the outputs are as many as the channels of the stage
 pub record IsNewTicker {C O : Type 0} (stage : SharedView) (ticker : TickerThread C O) : Type 0 where
   pub of : ticker.pass.stage ≡ stage
   pub number : ticker.pass.number ≡ 0
   pub made : ticker.pass.made ≡ []
   pub frames_many : length ticker.renderer ≡ stage.sizes.channels
   pub blank : AreBlank ticker.renderer
-  pub scenes_many : length ticker.scenes ≡ stage.sizes.channels
+  pub pipe : AreNewEnds stage.sizes.channels ticker.stage_end ticker.write_end
   pub outs_many : vec_len ticker.outs ≡ stage.sizes.channels
 
 -- a ticker took pulses, from the first of two moments to the second, and its pulses ended so
@@ -69,11 +69,8 @@ pub record HasTicked {C O : Type 0} (states : TickerStates C O) (setup : Setup) 
   pub of : moments.1.pass.stage ≡ stage
   pub number : moments.1.pass.number ≡ 0
   pub made : moments.1.pass.made ≡ tick_positions moments.1.pass.seen
-  pub outs : EachOutput
-      (λ channel before after. IsWritten tick_end (record { setup = setup; history = moments.1.pass.seen }) channel (states.out before) (states.out after))
-      1 moments.0.outs.items moments.1.outs.items
-  pub clock : states.clock moments.1.clock ≡ clock_at_end tick_end (ticks moments.1.pass.seen) (states.clock moments.0.clock)
-  pub end : EndsPass tick_end moments.0.pass moments.1.pass
+  pub outs : AreWritten states.out tick_end (record { setup = setup; history = moments.1.pass.seen }) moments.0.outs.items moments.1.outs.items
+  pub ended : HasEnded tick_end (record { pass = moments.0.pass; clock = states.clock moments.0.clock }) (record { pass = moments.1.pass; clock = states.clock moments.1.clock })
 
 -- what the threads of a run own at one moment
 pub record Moment (C D O : Type 0) : Type 0 where

@@ -6,12 +6,24 @@ use crate::site::ReadyCall;
 use play_types::{ByteList, Channel, ChannelList, Config, Text};
 use std::alloc::{AllocError, Global};
 
-/// Copies what `ready` is called with, as a call that gave no devices.
-pub(crate) fn copy_call(
+/// Copies what `ready` is called with, as a call that gave no devices, and reserves the room to keep it among `calls`.
+pub(crate) fn new_call(
     alloc: Global,
     config: &Config,
     history: Option<&str>,
+    calls: &mut Vec<ReadyCall>,
 ) -> Result<ReadyCall, AllocError>
+    ensures call { IfOk result (λ call. call ≡ ready_call config.now (option_map (λ path. path.now) history.entry) false) }
+    ensures room { IfOk result (λ _. vec_len calls.new < vec_capacity calls.new) }
+    ensures calls { calls.new.items ≡ calls.old.items }
+{
+    let call = copy_call(alloc, config, history)?;
+    calls.reserve(1)?;
+    Ok(call)
+}
+
+/// Copies what `ready` is called with, as a call that gave no devices.
+fn copy_call(alloc: Global, config: &Config, history: Option<&str>) -> Result<ReadyCall, AllocError>
     ensures { IfOk result (λ call. call ≡ ready_call config.now (option_map (λ path. path.now) history.entry) false) }
 {
     let config = copy_config(alloc, config)?;

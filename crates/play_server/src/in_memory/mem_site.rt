@@ -4,7 +4,7 @@ ghost use Rattle.play_server.specs.Site.{AreNew, AreReady, IsNotReady, Says, dev
 ghost use Rattle.play_server.specs.SiteState.{after_call, after_finish};
 ghost use Rattle.play_server.specs.MemSite.{fails_next, is_ready};
 
-use super::copies::{copy_call, push_line};
+use super::copies::{new_call, push_line};
 use super::kept_devices::KeptDevices;
 use super::planned_faults::PlannedFaults;
 use crate::site::{ReadyCall, Site};
@@ -19,6 +19,7 @@ pub struct MemSite<C: Clock, D: Listener, O: Sink> {
     media: MemMedia,
     held: Option<KeptDevices<C, D, O>>,
     calls: Vec<ReadyCall>,
+    calls_without_memory: u64,
     finished: Option<Devices<C, D, O>>,
     finishes: u64,
     said: Vec<u8>,
@@ -39,7 +40,7 @@ impl<C: Clock, D: Listener, O: Sink + Send> MemSite<C, D, O> {
         fails: Vec<u64>,
     ) -> Result<MemSite<C, D, O>, AllocError>
         requires { AreNew (device_states C.state D.state O.state) devices }
-        ensures fresh { IfOk result (λ site. ⟦<MemSite<C, D, O> as Site>⟧.state site ≡ record { told = Some (record { calls = []; finished = None; finishes = 0; said = [] }); faults = 0 }) }
+        ensures fresh { IfOk result (λ site. ⟦<MemSite<C, D, O> as Site>⟧.state site ≡ record { told = Some (record { calls = []; calls_without_memory = 0; finished = None; finishes = 0; said = [] }); faults = 0 }) }
         ensures folder { IfOk result (λ site. ⟦<MemSite<C, D, O> as Site>⟧.folder site ≡ media) }
         ensures devices { IfOk result (λ site. option_map (λ kept. kept.devices) site.held ≡ Some devices) }
         ensures room { IfOk result (λ site. vec_capacity site.said - vec_len site.said ≡ room) }
@@ -49,6 +50,7 @@ impl<C: Clock, D: Listener, O: Sink + Send> MemSite<C, D, O> {
             media,
             held: Some(KeptDevices::new(devices)),
             calls: Vec::new(alloc),
+            calls_without_memory: 0,
             finished: None,
             finishes: 0,
             said,
@@ -61,6 +63,13 @@ impl<C: Clock, D: Listener, O: Sink + Send> MemSite<C, D, O> {
         ensures { option_map (λ told. told.calls) (⟦<MemSite<C, D, O> as Site>⟧.state self.now).told ≡ Some result.now }
     {
         self.calls.as_slice()
+    }
+
+    /// Returns how many calls of `ready` ran out of memory.
+    pub fn calls_without_memory(&self) -> u64
+        ensures { option_map (λ told. told.calls_without_memory) (⟦<MemSite<C, D, O> as Site>⟧.state self.now).told ≡ Some result }
+    {
+        self.calls_without_memory
     }
 
     /// Returns the devices that were finished last.
@@ -101,7 +110,7 @@ impl<C: Clock, D: Listener, O: Sink + Send> Site for MemSite<C, D, O> {
 
     type Out = O;
 
-    ghost state = { λ s. record { told = Some (record { calls = s.calls.items; finished = s.finished; finishes = s.finishes; said = s.said.items }); faults = s.planned.faults } };
+    ghost state = { λ s. record { told = Some (record { calls = s.calls.items; calls_without_memory = s.calls_without_memory; finished = s.finished; finishes = s.finishes; said = s.said.items }); faults = s.planned.faults } };
 
     ghost folder = { λ s. s.media };
 
@@ -127,8 +136,10 @@ impl<C: Clock, D: Listener, O: Sink + Send> Site for MemSite<C, D, O> {
             (λ _. self.new.held ≡ self.old.held) }
         ensures exact { MatchResult result (λ _. is_ready config.now (fails_next self.old.planned) (option_map (λ kept. kept.devices) self.old.held) ≡ true) (λ fault. fault ≡ FileFault.Failed → is_ready config.now (fails_next self.old.planned) (option_map (λ kept. kept.devices) self.old.held) ≡ false) }
     {
-        let mut call = copy_call(alloc, config, history)?;
-        self.calls.reserve(1)?;
+        let Ok(mut call) = new_call(alloc, config, history, &mut self.calls) else {
+            self.calls_without_memory = self.calls_without_memory.saturating_add(1);
+            return Err(FileFault::OutOfMemory);
+        };
         let fails = self.planned.fails_now();
         let (doors, outs) = (config.connections() as usize, config.channels().len());
         match self.held.take() {

@@ -5,8 +5,8 @@ ghost use Rattle.play_server.specs.Site.{AreNew, AreNumbered, IsNewClock, IsNewD
 
 use super::plan::{Calls, Client, Moment, Plan};
 use play_outside::{
-    Clock, Devices, DoorAnswer, Flag, FlaggedCall, HeldClock, HeldLink, HeldSink, LinkPlan,
-    Listener, MemClock, MemConfig, MemDoor, MemFile, MemLink, MemMedia, MemSink, Sink,
+    Clock, Devices, DoorAnswer, Flag, FlaggedCall, HeldClock, HeldDoor, HeldLink, HeldSink,
+    LinkPlan, Listener, MemClock, MemConfig, MemDoor, MemFile, MemLink, MemMedia, MemSink, Sink,
 };
 use play_server::{MemSite, Site, serve_main};
 use std::alloc::Global;
@@ -15,17 +15,21 @@ use std::sync::{Arc, Wait};
 use std::test::Fail;
 use std::thread::Threads;
 
-/// A site whose doors give links of which a call may wait.
-pub type HeldSite = MemSite<HeldClock, MemDoor<HeldLink>, HeldSink>;
+/// A door of which a call may wait, and so may one of its links.
+pub type Door = HeldDoor<MemDoor<HeldLink>>;
+
+/// A site of which a call of each device may wait.
+pub type HeldSite = MemSite<HeldClock, Door, HeldSink>;
 
 /// The devices of such a site.
-pub type HeldDevices = Devices<HeldClock, MemDoor<HeldLink>, HeldSink>;
+pub type HeldDevices = Devices<HeldClock, Door, HeldSink>;
 
 /// The room of an output, in bytes: more than any run writes.
 const ROOM: usize = 20_000_000;
 
-/// The configurations, each after its path: one channel without sound, with one door and with two, and one that is refused.
-const CONFIGS: [(&str, &str); 3] = [
+/// The configurations, each after its path: one channel without sound, with one door and with two, two channels, and one that is
+/// refused.
+const CONFIGS: [(&str, &str); 4] = [
     (
         "one",
         "listen='l'\nmedia='m'\nrate=25\nconnections=1\nchannel=[{width=1,height=1,output='o'}]",
@@ -33,6 +37,10 @@ const CONFIGS: [(&str, &str); 3] = [
     (
         "two",
         "listen='l'\nmedia='m'\nrate=25\nconnections=2\nchannel=[{width=1,height=1,output='o'}]",
+    ),
+    (
+        "channels",
+        "listen='l'\nmedia='m'\nrate=25\nconnections=1\nchannel=[{width=1,height=1,output='o'},{width=1,height=1,output='p'}]",
     ),
     (
         "zero",
@@ -129,15 +137,13 @@ impl Flags {
 
 /// Returns the planned devices.
 fn devices_of(alloc: Global, plan: &Plan) -> Result<HeldDevices, Fail>
-    ensures { IfOk result (AreNew (device_states ⟦<HeldClock as Clock>⟧.state ⟦<MemDoor<HeldLink> as Listener>⟧.state ⟦<HeldSink as Sink>⟧.state)) }
+    ensures { IfOk result (AreNew (device_states ⟦<HeldClock as Clock>⟧.state ⟦<Door as Listener>⟧.state ⟦<HeldSink as Sink>⟧.state)) }
 {
     let flags = Flags::new(alloc)?;
     let clock = clock_of(alloc, &flags, plan.pulses, &plan.clock)?;
-    let doors = doors_of(alloc, &flags, plan.clients)?;
-    let out = output_of(alloc, &flags, 1, &plan.output)?;
-    let history = output_of(alloc, &flags, 0, &Calls::FREE)?;
-    let mut outs = Vec::new(alloc);
-    outs.push(out)?;
+    let doors = doors_of(alloc, &flags, plan)?;
+    let outs = outputs_of(alloc, &flags, plan.outputs)?;
+    let history = output_of(alloc, &flags, 0, &plan.history)?;
     Ok(Devices {
         clock,
         doors,
@@ -154,6 +160,19 @@ fn clock_of(alloc: Global, flags: &Flags, pulses: u64, calls: &Calls) -> Result<
     Ok(HeldClock::new(clock, flags.at(calls.waits)?, flags.at(calls.sets)?))
 }
 
+/// Returns an output for each channel, marked by their places from 1 on.
+fn outputs_of(alloc: Global, flags: &Flags, calls: &[Calls]) -> Result<Vec<HeldSink>, Fail>
+    ensures new { IfOk result (λ outs. All (λ out. IsNewSink (⟦<HeldSink as Sink>⟧.state out)) outs.items) }
+    ensures marks { IfOk result (λ outs. AreNumbered (λ out. (⟦<HeldSink as Sink>⟧.state out).mark) outs.items) }
+{
+    let mut outs = Vec::new(alloc);
+    for place in 0..calls.len() {
+        let mark = place as u64 + 1;
+        outs.push(output_of(alloc, flags, mark, &calls[place])?)?;
+    }
+    Ok(outs)
+}
+
 /// Returns an output with this mark.
 fn output_of(alloc: Global, flags: &Flags, mark: u64, calls: &Calls) -> Result<HeldSink, Fail>
     ensures new { IfOk result (λ output. IsNewSink (⟦<HeldSink as Sink>⟧.state output)) }
@@ -165,18 +184,14 @@ fn output_of(alloc: Global, flags: &Flags, mark: u64, calls: &Calls) -> Result<H
 }
 
 /// Returns a door for each client, marked by their places from 1 on.
-fn doors_of(
-    alloc: Global,
-    flags: &Flags,
-    clients: &[Client],
-) -> Result<Vec<MemDoor<HeldLink>>, Fail>
-    ensures new { IfOk result (λ doors. All (λ door. IsNewDoor (⟦<MemDoor<HeldLink> as Listener>⟧.state door)) doors.items) }
-    ensures marks { IfOk result (λ doors. AreNumbered (λ door. (⟦<MemDoor<HeldLink> as Listener>⟧.state door).mark) doors.items) }
+fn doors_of(alloc: Global, flags: &Flags, plan: &Plan) -> Result<Vec<Door>, Fail>
+    ensures new { IfOk result (λ doors. All (λ door. IsNewDoor (⟦<Door as Listener>⟧.state door)) doors.items) }
+    ensures marks { IfOk result (λ doors. AreNumbered (λ door. (⟦<Door as Listener>⟧.state door).mark) doors.items) }
 {
     let mut doors = Vec::new(alloc);
-    for place in 0..clients.len() {
+    for place in 0..plan.clients.len() {
         let mark = place as u64 + 1;
-        doors.push(door_of(alloc, flags, mark, &clients[place])?)?;
+        doors.push(door_of(alloc, flags, mark, &plan.clients[place], &plan.doors)?)?;
     }
     Ok(doors)
 }
@@ -187,14 +202,17 @@ fn door_of(
     flags: &Flags,
     mark: u64,
     client: &Client,
-) -> Result<MemDoor<HeldLink>, Fail>
-    ensures new { IfOk result (λ door. IsNewDoor (⟦<MemDoor<HeldLink> as Listener>⟧.state door)) }
-    ensures mark { IfOk result (λ door. (⟦<MemDoor<HeldLink> as Listener>⟧.state door).mark ≡ mark) }
+    calls: &Calls,
+) -> Result<Door, Fail>
+    ensures new { IfOk result (λ door. IsNewDoor (⟦<Door as Listener>⟧.state door)) }
+    ensures mark { IfOk result (λ door. (⟦<Door as Listener>⟧.state door).mark ≡ mark) }
 {
     let mut answers = Vec::new(alloc);
     answers.push(DoorAnswer::Again)?;
     answers.push(DoorAnswer::Line(link_of(alloc, flags, client)?))?;
-    Ok(MemDoor::new(alloc, mark, answers, Vec::new(alloc))?)
+    let fails = Vec::from_slice(alloc, calls.fails)?;
+    let door = MemDoor::new(alloc, mark, answers, fails)?;
+    Ok(HeldDoor::new(door, flags.at(calls.waits)?, flags.at(calls.sets)?))
 }
 
 /// Returns the link of a client.

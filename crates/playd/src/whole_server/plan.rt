@@ -45,12 +45,15 @@ pub struct Client {
     pub replies: &'static str,
 }
 
-/// The devices of a run: a door for each client, and one output.
+/// The devices of a run: a door for each client, an output for each channel, and one for the history.
 #[derive(Clone, Copy)]
 pub struct Plan {
     pub clients: &'static [Client],
+    /// What is planned for each door.
+    pub doors: Calls,
     /// How many pulses the clock gives before it is closed.
     pub pulses: u64,
     pub clock: Calls,
-    pub output: Calls,
+    pub outputs: &'static [Calls],
+    pub history: Calls,
 }

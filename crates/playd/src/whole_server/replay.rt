@@ -47,6 +47,21 @@ pub fn replies_in(alloc: Global, output: &str, tag: &str) -> Result<String, Fail
     Ok(replies)
 }
 
+/// Returns replies without the tokens before them.
+pub fn without_tokens(alloc: Global, replies: &str) -> Result<String, Fail> {
+    let mut plain = String::new(alloc);
+    for line in replies.lines() {
+        let rest = line.strip_prefix("RES ").unwrap_or(line);
+        let reply = match rest.split_once(' ') {
+            Some((_, reply)) if rest.len() < line.len() => reply,
+            _ => rest,
+        };
+        plain.push_str(reply)?;
+        plain.push_str("\r\n")?;
+    }
+    Ok(plain)
+}
+
 /// Returns the hexadecimal digits of the frames in an output, each of which has one row.
 pub fn frames_in(alloc: Global, output: &str) -> Result<String, Fail> {
     let mut frames = String::new(alloc);

@@ -3,7 +3,7 @@
 use super::devices::{HeldDevices, HeldSite, run, site_of};
 use super::plan::Moment::{Answered, Released, Written};
 use super::plan::{Calls, Client, Plan};
-use super::replay::{frames_in, replay, replies_in};
+use super::replay::{frames_in, replay, replies_in, without_tokens};
 use std::alloc::Global;
 use std::process::Abort;
 use std::str;
@@ -11,6 +11,7 @@ use std::test::Fail;
 use std::thread::Threads;
 
 /// A run that ends with status 0 and without a fault.
+#[derive(Clone, Copy)]
 struct Show {
     name: &'static str,
     /// The path of its configuration.
@@ -22,8 +23,9 @@ struct Show {
     is_replayed: bool,
 }
 
-const SHOWS: [Show; 5] = [
+const SHOWS: [Show; 6] = [
     TWO_CONNECTIONS,
+    TOKENS,
     READ_AFTER_REPLY,
     WRITE_AFTER_REPLY,
     READ_AFTER_WRITE,
@@ -33,23 +35,70 @@ const SHOWS: [Show; 5] = [
 /// One client sets a value, asks for it and stops the server, while another one plays. The clock begins when the KILL is
 /// read, and has more pulses than are taken by then.
 ///
-/// The read of the KILL waits for the second frame, and the first frame for the reply to the PLAY, so the PLAY is answered and
-/// its picture is shown before the stop. The lines of the first client are of one length, since a read gives pieces of one length.
+/// The read of the KILL waits for the fifth frame, and the first frame for the reply to the PLAY. At most four ticks are made
+/// before the first frame is taken, so the PLAY is answered and its picture is shown before the stop. The lines of the first client are of one length, since a read gives pieces of one length.
 const TWO_CONNECTIONS: Show = Show {
     name: "two connections",
     config: "two",
+    plan: TWO_CLIENTS,
+    last_frame: "0000ffff",
+    is_replayed: true,
+};
+
+/// The devices of that run.
+const TWO_CLIENTS: Plan = Plan {
+    clients: &[
+        Client {
+            lines: "MIXER 1-0 OPACITY 0.3\r\nMIXER 1-0 OPACITY    \r\nKILL                 \r\n",
+            piece: 23,
+            idle: &[],
+            calls: Calls {
+                waits: Some((5, Written)),
+                sets: Some((5, Released)),
+                ..Calls::FREE
+            },
+            replies: "202 MIXER OK\r\n201 MIXER OK\r\n0.3\r\n202 KILL OK\r\n",
+        },
+        Client {
+            lines: "PLAY 1-5 RED\r\n",
+            piece: 100,
+            idle: &[],
+            calls: Calls {
+                sets: Some((3, Answered)),
+                ..Calls::FREE
+            },
+            replies: "202 PLAY OK\r\n",
+        },
+    ],
+    doors: Calls::FREE,
+    pulses: 4_000_000,
+    clock: Calls {
+        waits: Some((1, Released)),
+        ..Calls::FREE
+    },
+    outputs: &[Calls {
+        waits: Some((1, Answered)),
+        sets: Some((5, Written)),
+        ..Calls::FREE
+    }],
+    history: Calls::FREE,
+};
+
+/// The same with a token on each line of the first client. A replay writes its replies without the tokens.
+const TOKENS: Show = Show {
+    name: "tokens",
     plan: Plan {
         clients: &[
             Client {
-                lines: "MIXER 1-0 OPACITY 0.3\r\nMIXER 1-0 OPACITY    \r\nKILL                 \r\n",
-                piece: 23,
+                lines: "REQ a1 MIXER 1-0 OPACITY 0.3\r\nREQ a2 MIXER 1-0 OPACITY    \r\nREQ a3 KILL                 \r\n",
+                piece: 30,
                 idle: &[],
                 calls: Calls {
                     waits: Some((5, Written)),
                     sets: Some((5, Released)),
                     ..Calls::FREE
                 },
-                replies: "202 MIXER OK\r\n201 MIXER OK\r\n0.3\r\n202 KILL OK\r\n",
+                replies: "RES a1 202 MIXER OK\r\nRES a2 201 MIXER OK\r\n0.3\r\nRES a3 202 KILL OK\r\n",
             },
             Client {
                 lines: "PLAY 1-5 RED\r\n",
@@ -62,19 +111,9 @@ const TWO_CONNECTIONS: Show = Show {
                 replies: "202 PLAY OK\r\n",
             },
         ],
-        pulses: 4_000_000,
-        clock: Calls {
-            waits: Some((1, Released)),
-            ..Calls::FREE
-        },
-        output: Calls {
-            waits: Some((1, Answered)),
-            sets: Some((2, Written)),
-            ..Calls::FREE
-        },
+        ..TWO_CLIENTS
     },
-    last_frame: "0000ffff",
-    is_replayed: true,
+    ..TWO_CONNECTIONS
 };
 
 /// The second read of a link waits until a reply was written to another link.
@@ -105,12 +144,14 @@ const READ_AFTER_REPLY: Show = Show {
                 replies: "200 INFO OK\r\n1 1x1 EMPTY\r\n\r\n",
             },
         ],
+        doors: Calls::FREE,
         pulses: 1,
         clock: Calls {
             waits: Some((2, Released)),
             ..Calls::FREE
         },
-        output: Calls::FREE,
+        outputs: &[Calls::FREE],
+        history: Calls::FREE,
     },
     last_frame: "00000000",
     is_replayed: false,
@@ -132,16 +173,18 @@ const WRITE_AFTER_REPLY: Show = Show {
             },
             replies: "202 PLAY OK\r\n",
         }],
+        doors: Calls::FREE,
         pulses: 1,
         clock: Calls {
             waits: Some((2, Answered)),
             ..Calls::FREE
         },
-        output: Calls {
+        outputs: &[Calls {
             waits: Some((1, Answered)),
             sets: Some((1, Written)),
             ..Calls::FREE
-        },
+        }],
+        history: Calls::FREE,
     },
     last_frame: "00000000",
     is_replayed: true,
@@ -163,15 +206,17 @@ const READ_AFTER_WRITE: Show = Show {
             },
             replies: "201 VERSION OK\r\n2.0 PLAYD\r\n",
         }],
+        doors: Calls::FREE,
         pulses: 1,
         clock: Calls {
             waits: Some((2, Released)),
             ..Calls::FREE
         },
-        output: Calls {
+        outputs: &[Calls {
             sets: Some((1, Written)),
             ..Calls::FREE
-        },
+        }],
+        history: Calls::FREE,
     },
     last_frame: "00000000",
     is_replayed: false,
@@ -205,12 +250,14 @@ const BATCH: Show = Show {
                 replies: "201 MIXER OK\r\n1\r\n",
             },
         ],
+        doors: Calls::FREE,
         pulses: 1,
         clock: Calls {
             waits: Some((1, Released)),
             ..Calls::FREE
         },
-        output: Calls::FREE,
+        outputs: &[Calls::FREE],
+        history: Calls::FREE,
     },
     last_frame: "7f0080ff",
     is_replayed: true,
@@ -245,7 +292,7 @@ fn check_replies(rt: &impl Abort, show: &Show, devices: &HeldDevices) -> Result<
     let name = show.name;
     assert_eq!(rt; devices.doors.len(), show.plan.clients.len(), "{name}");
     for (door, client) in devices.doors.iter().zip(show.plan.clients) {
-        let [line] = door.returned() else {
+        let [line] = door.door().returned() else {
             return Err("one link that was given back")?;
         };
         let line = line.link();
@@ -255,7 +302,8 @@ fn check_replies(rt: &impl Abort, show: &Show, devices: &HeldDevices) -> Result<
     Ok(())
 }
 
-/// Checks that the text of the history, played as a script, gives the frames that were written, and the replies.
+/// Checks that the text of the history, played as a script, gives the frames that were written, and the replies without their
+/// tokens.
 fn check_history<R: Threads + Sync + Abort>(
     rt: &R,
     alloc: Global,
@@ -278,7 +326,7 @@ fn check_history<R: Threads + Sync + Abort>(
             let worker = place.saturating_add(1);
             let tag = format!(in alloc; "{worker}.1 ")?;
             let replies = replies_in(alloc, output, tag.as_str())?;
-            assert_eq!(rt; replies.as_str(), client.replies, "{name}");
+            assert_eq!(rt; replies, without_tokens(alloc, client.replies)?, "{name}");
         }
     }
     Ok(())

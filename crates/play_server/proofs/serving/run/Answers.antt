@@ -6,6 +6,7 @@ use Rattle.play_outside.specs.Sink.{Sends}
 use Rattle.history_model.specs.text.History.{history_text}
 use Rattle.play_journal.specs.Journal.{IsJournal, JournalView}
 use Rattle.stage_core.specs.Stage.{StageView}
+use Rattle.scene_pipe.specs.Calls.{AreNewEnds}
 use Rattle.stage_lock.specs.Closing.{AreAll}
 use Rattle.stage_lock.specs.Views.{PassView, Sizes}
 use Rattle.band_render.specs.Rendered.{sizes}
@@ -73,7 +74,7 @@ run_threads-tick_end-requires-clause-ticker g c κs within =
       made = ap (λ (p : PassView). p.made) popped.1;
       frames_many = ap length c.requires.memory.renderer ∙ length-map c.args.config.now.channels _ ∙ sym channels;
       blank = blank c.args.memory.renderer c.args.config.now.channels c.requires.memory.renderer;
-      scenes_many = c.requires.memory.scenes ∙ sym channels;
+      pipe = subst (λ (n : ℕ). AreNewEnds n c.split-stage_end.result.0 c.split-stage_end.result.1) (c.requires.memory.pipe ∙ sym channels) c.split-stage_end.ensures;
       outs_many = c.requires.outs ∙ sym channels;
     }
 
@@ -149,7 +150,7 @@ close-stage-requires g c =
     let popped = only_one c.pop.new.self.items (ticker_pass stage) c.unwrap.result
     (sym given.0 ∙ c.pop.ensures.items ∙ ap (λ o. c.pop.new.self.items ++ option_to_list o) c.unwrap.ensures) in
     let old : Moment g.row.C.Denot g.row.D.Denot g.row.O.Denot = record {
-      ticker = record { pass = c.unwrap.result; renderer = c.args.memory.renderer; scenes = c.args.memory.scenes; clock = c.args.devices.clock; outs = c.args.devices.outs };
+      ticker = record { pass = c.unwrap.result; renderer = c.args.memory.renderer; stage_end = c.split-stage_end.result.0; write_end = c.split-stage_end.result.1; clock = c.args.devices.clock; outs = c.args.devices.outs };
       workers = c.as_mut_slice.result.now;
     } in
     let new : Moment g.row.C.Denot g.row.D.Denot g.row.O.Denot = record { ticker = c.run_threads-tick_end.new.ticker; workers = c.run_threads-tick_end.new.connection_workers } in
@@ -181,7 +182,7 @@ returns g c =
     let popped = only_one c.pop.new.self.items (ticker_pass stage) c.unwrap.result
     (sym given.0 ∙ c.pop.ensures.items ∙ ap (λ o. c.pop.new.self.items ++ option_to_list o) c.unwrap.ensures) in
     let old : Moment g.row.C.Denot g.row.D.Denot g.row.O.Denot = record {
-      ticker = record { pass = c.unwrap.result; renderer = c.args.memory.renderer; scenes = c.args.memory.scenes; clock = c.args.devices.clock; outs = c.args.devices.outs };
+      ticker = record { pass = c.unwrap.result; renderer = c.args.memory.renderer; stage_end = c.split-stage_end.result.0; write_end = c.split-stage_end.result.1; clock = c.args.devices.clock; outs = c.args.devices.outs };
       workers = c.as_mut_slice.result.now;
     } in
     let new : Moment g.row.C.Denot g.row.D.Denot g.row.O.Denot = record { ticker = c.run_threads-tick_end.new.ticker; workers = c.run_threads-tick_end.new.connection_workers } in

@@ -1,7 +1,7 @@
-use Rattle.std.proofs.Common.{[], take}
-use Rattle.conn_worker.specs.Rounds.{Nothing}
+use Rattle.std.proofs.Common.{take}
+use Rattle.conn_worker.specs.Rounds.{idle_round}
 use Rattle.conn_worker.specs.inner.UnderWay.{Now}
-use Rattle.conn_worker.proofs.Ending.{ends_over, ends_stopped}
+use Rattle.conn_worker.proofs.Ending.{ends_over, ends_stopped, ends_unread}
 use Rattle.conn_worker.proofs.Going.{reads_piece, waits}
 use Rattle.conn_worker.proofs.Pieces.{piece_round}
 use Rattle.conn_worker.proofs.connection.Connection.serve_look.Goals as goal
@@ -21,9 +21,14 @@ returns-in-End-clause-takes g c = λ past same between.
 pub returns-in-None-clause-takes : goal.returns-in-None-clause-takes
 returns-in-None-clause-takes g c = λ past same between.
     let now : Now = record { standing = record { pass = c.args.pass.now; link = g.L.Sink.state c.args.link.now }; session = c.args.session.now } in
-    (record { look = Nothing; followed = [] }, waits past now (g.L.Sink.state c.read.new.self) c.ended.new.pass between c.in-Again.ensures c.in-None.ensures.look)
+    (idle_round c.in-None.ensures.look.history, waits past now (g.L.Sink.state c.read.new.self) c.ended.new.pass between c.in-Again.ensures c.in-None.ensures.look)
 
 pub returns-in-Some-clause-takes : goal.returns-in-Some-clause-takes
 returns-in-Some-clause-takes g c = λ past same between.
     let now : Now = record { standing = record { pass = c.args.pass.now; link = g.L.Sink.state c.args.link.now }; session = c.args.session.now } in
     ends_stopped past now (g.L.Sink.state c.read.new.self) c.ended.new.pass c.in-Some.at between c.in-Again.ensures c.in-Some.ensures.look
+
+pub returns-in-Failed-clause-takes : goal.returns-in-Failed-clause-takes
+returns-in-Failed-clause-takes g c = λ past same between.
+    let now : Now = record { standing = record { pass = c.args.pass.now; link = g.L.Sink.state c.args.link.now }; session = c.args.session.now } in
+    ends_unread past now (g.L.Sink.state c.read.new.self) between c.in-Failed.ensures

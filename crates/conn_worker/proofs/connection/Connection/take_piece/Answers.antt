@@ -1,4 +1,5 @@
-use Rattle.std.proofs.Common.{◌≡◌, ◌+◌, ◌-◌, ◌<◌, List, take, drop, length, ap, sym, subst, ◌∙◌, ◌++◌}
+use Rattle.std.proofs.Common.{◌≡◌, ◌+◌, ◌-◌, ◌<◌, List, take, drop, length, refl, ap, sym, subst, ◌∙◌, ◌++◌}
+use Rattle.std.specs.Prelude.{option_map}
 use Rattle.std.proofs.lemmas.Bool.{false≢true}
 use Rattle.std.proofs.lemmas.Result.{err_from_is_err_and}
 use Rattle.play_types.specs.declared.command.Cmd.{Cmd}
@@ -52,24 +53,26 @@ loop-preserved g c =
     let after : Standing = record { pass = c.follow.new.pass; link = g.L.Sink.state c.follow.new.link } in
     let rest = take (length piece - c.loop.at) (drop c.loop.at piece) in
     let follows = c.in_ok-follow.ensures.follows in
+    let token = option_map (λ t. t.now) c.token.result in
+    let told = follows token (λ kept. refl) in
     let done = c.in_ok-follow.field-0 in
     let step = viewed c.next-step.result c.batch.result.now in
     record {
       within = piece_within piece c.loop.at c.feed-at.result c.loop.session.reader.held c.loop.invariant.within c.feed-at.ensures.count;
       of = c.in_ok-follow.ensures.of;
-      number = goes_number mine step done before after follows ∙ c.loop.invariant.number;
+      number = goes_number mine token step done before after told ∙ c.loop.invariant.number;
       known = given_progress config names c.feed-at.new.self c.next-step.new.self c.next-step.result c.next-step.ensures.gives
           (fed_progress config names c.loop.session c.feed-at.new.self (take c.feed-at.result rest) (c.feed-at.ensures.represents config names) c.loop.invariant.known);
-      going = c.next-step.ensures.ended ∙ goes_going mine c.next-step.result c.batch.result.now done before after follows;
+      going = c.next-step.ensures.ended ∙ goes_going mine token c.next-step.result c.batch.result.now done before after told;
       aimed = c.next-step.ensures.aimed (subst (AreAimed config) (sym c.feed-at.ensures.same.1) c.loop.invariant.aimed);
-      running = goes_running mine step done before after follows c.loop.invariant.running;
+      running = goes_running mine token step done before after told c.loop.invariant.running;
       takes = λ past same way.
           let found = c.loop.invariant.takes past same way in
           let fed = piece_fed service past piece found.0 c.loop.at c.feed-at.result rest before c.loop.session c.feed-at.new.self same
           (rest_of piece c.loop.at c.loop.invariant.within) c.feed-at.ensures.represents c.feed-at.ensures.same found.1 in
           piece_goes service mine past piece found.0 (bytes_in past.rounds ++ take (c.loop.at + c.feed-at.result) piece) before after c.feed-at.new.self c.next-step.new.self c.next-step.result c.batch.result.now done same
           (ap (service_in self) c.loop.invariant.number) c.batch.ensures fed c.next-step.ensures.gives c.next-step.ensures.ended c.next-step.ensures.aimed
-          c.next-step.ensures.unchanged follows;
+          c.next-step.ensures.unchanged c.next-step.ensures.token token c.token.ensures follows;
     }
 
 pub returns-in_err-follow-clause-takes : goal.returns-in_err-follow-clause-takes
@@ -87,6 +90,7 @@ returns-in_err-follow-clause-takes g c = λ past same way.
     let explained : IsExplained past.service c.in_err-follow.field-0.0 past.before after =
     piece_ends service (service_in self c.loop.pass.number) past piece found.0 (c.loop.at + c.feed-at.result) before after c.feed-at.new.self c.next-step.new.self
     c.next-step.result c.batch.result.now c.in_err-follow.field-0.0 same
-    (ap (service_in self) c.loop.invariant.number) c.batch.ensures fed c.next-step.ensures.gives c.in_err-follow.ensures.follows in
+    (ap (service_in self) c.loop.invariant.number) c.batch.ensures fed c.next-step.ensures.gives c.next-step.ensures.token
+    (option_map (λ t. t.now) c.token.result) c.token.ensures c.in_err-follow.ensures.follows in
     let p = err_from_is_err_and c.from_residual.result c.from_residual.ensures.1 in
     subst (λ r. TakesPiece past piece r now) (sym p.1) (subst (λ (e : LinkEnd). IsExplained past.service e past.before after) (sym p.2) explained)

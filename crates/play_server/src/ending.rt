@@ -1,0 +1,67 @@
+//! The end of the program after a fault.
+ghost use Rattle.std.specs.Prelude.{◌≡◌, ◌∷◌, ◌++◌, []};
+ghost use Rattle.server_setup.specs.Fault.{fault_line, status_of};
+ghost use Rattle.server_setup.specs.declared.fault.RunFault.TheVariants.{MediaTotal, OutOfMemory};
+ghost use Rattle.play_server.specs.Program.{SaysLine};
+ghost use Rattle.play_server.specs.inner.Ending.{EndsWithFault};
+
+use crate::site::Site;
+use arrayvec::ArrayString;
+use itoa::Buffer;
+use server_setup::RunFault;
+use std::alloc::Global;
+
+/// How many bytes the line has that tells the length of all clip files, at most.
+const TOTAL_BYTES: usize = 34;
+
+/// Tells a fault: says its line, and returns its exit status.
+///
+/// If memory runs out for a line, that is the fault, whose line takes none.
+pub(crate) fn end_with<E: Site>(alloc: Global, fault: &RunFault, site: &mut E) -> u8
+    ensures ends { EndsWithFault fault.now result (E.state site.old) (E.state site.new) }
+    ensures folder { E.folder site.new ≡ E.folder site.old }
+{
+    if let Some(line) = fault.short_line() {
+        return say(line, fault, site);
+    }
+    if let RunFault::MediaTotal(total) = fault {
+        return say(total_line(*total).as_str(), fault, site);
+    }
+    match fault.line(alloc) {
+        Ok(line) => say(line.as_str(), fault, site),
+        Err(_) => end_without_memory(site),
+    }
+}
+
+/// Tells that memory ran out. It takes no memory.
+fn end_without_memory<E: Site>(site: &mut E) -> u8
+    ensures said { SaysLine OutOfMemory (E.state site.old) (E.state site.new) }
+    ensures status { result ≡ 5 }
+    ensures folder { E.folder site.new ≡ E.folder site.old }
+{
+    let fault = RunFault::OutOfMemory;
+    let line = fault.short_line().unwrap();
+    say(line, &fault, site)
+}
+
+/// Says a line, which is that of the fault, and returns the exit status of the fault. If the line cannot be said, the status
+/// is the same.
+fn say<E: Site>(line: &str, fault: &RunFault, site: &mut E) -> u8
+    requires { line.now ++ 10 ∷ [] ≡ fault_line fault.now }
+    ensures said { SaysLine fault.now (E.state site.old) (E.state site.new) }
+    ensures status { result ≡ status_of fault.now }
+    ensures folder { E.folder site.new ≡ E.folder site.old }
+{
+    let _ = site.say(line);
+    fault.status()
+}
+
+/// Returns the line, without its line feed, of clip files that have `total` bytes together.
+fn total_line(total: u64) -> ArrayString<TOTAL_BYTES>
+    ensures { result.bytes ++ 10 ∷ [] ≡ fault_line (MediaTotal total) }
+{
+    let mut line = ArrayString::new();
+    line.push_str("E media total ");
+    line.push_str(Buffer::new().format(total));
+    line
+}

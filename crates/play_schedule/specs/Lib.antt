@@ -1,0 +1,12 @@
+pub mod Time
+pub mod Line
+pub mod SheetView
+pub mod Due
+pub mod Sheet
+pub mod LineFaults
+pub mod Unfolding
+pub mod Steps
+pub mod Order
+pub mod Cursor
+pub mod Worked
+pub mod inner

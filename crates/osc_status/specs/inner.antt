@@ -1,0 +1,4 @@
+pub mod Reading
+pub mod Views
+pub mod Form
+pub mod Lines

@@ -1,0 +1,4 @@
+pub mod Film
+pub mod Finder
+pub mod Recording
+pub mod inner

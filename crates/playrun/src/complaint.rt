@@ -1,18 +1,77 @@
 //! What is said on standard error, for a person. If that cannot be written, nothing is said.
 
+use host_system::ProgramFile;
+use play_schedule::LineFault;
 use std::io::Eprint;
+use std::rt::Files;
 
 /// The name of the program, with which each line on standard error begins.
 pub const PROGRAM: &str = "playrun";
 
-/// Says which words the program takes, with an example of each form.
-pub fn say_usage<E: Eprint>(errors: &E) {
-    let _ = errors.eprintln(USAGE);
+/// Says which words the program takes, with an example of each form, and from which sources it was built.
+pub fn say_usage<R: Eprint + Files + AllocGlobal>(rt: &R) {
+    let _ = rt.eprintln(USAGE);
+    ProgramFile::find(rt).say(rt, PROGRAM);
+}
+
+/// Says for which word of its text a line of a script is refused. Lines are counted from 1 and words from 0, and a person is told both
+/// from 1.
+pub fn say_refused_word<E: Eprint>(errors: &E, line: u64, text: &[u8], word: usize) {
+    let number = word.saturating_add(1);
+    if let Ok(text) = str::from_utf8(text) {
+        let _ = errors.eprintln(format_args!(
+            "{PROGRAM}: line {line} of the script is refused for word {number} of {text:?}"
+        ));
+    }
+}
+
+/// Says what is wrong with the faulty line of a cue sheet, and which line it is, counted from 1.
+pub fn say_faulty_cue<E: Eprint>(errors: &E, line: u32, fault: LineFault) {
+    let why = why_faulty(fault);
+    let _ = errors.eprintln(format_args!("{PROGRAM}: line {line} of the cue sheet: {why}"));
+}
+
+/// Says that a cue sheet has no END.
+pub fn say_no_end<E: Eprint>(errors: &E) {
+    let _ = errors.eprintln(format_args!("{PROGRAM}: the cue sheet has no line END"));
+}
+
+/// Returns what is wrong with a line of a cue sheet, in words.
+fn why_faulty(fault: LineFault) -> &'static str {
+    match fault {
+        LineFault::TooLong => "it has more than 8192 bytes",
+        LineFault::Beginning =>
+            "it begins with none of AT, AFTER and END, in capitals and before a space, nor with #",
+        LineFault::Time => {
+            "its time is neither a number of ticks nor HH:MM:SS:FF, with MM and SS below 60"
+        }
+        LineFault::Frame => "the frame of its time is not below the rate of the configuration",
+        LineFault::LateTime => "its time is after 20736000 ticks",
+        LineFault::Ticks => "after AFTER has to come a number of ticks, at most 20736000",
+        LineFault::Copies => {
+            "after EVERY have to come N TIMES K, with N at most 20736000 and K from 1 to 100000"
+        }
+        LineFault::Connection => {
+            "where a connection and its text have to come, as in 1.1 PLAY 1-0 RED, there are none"
+        }
+        LineFault::CuePlace => {
+            "it comes after END, or a copy of it after 20736000 ticks, or with it there are more than 1000000 copies"
+        }
+        LineFault::EndPlace => "it is a second END, or it comes before a copy of a line",
+    }
 }
 
 const USAGE: &str = "playrun: these words name no run. The words are one of
   run W H
   run --config FILE [--workers N] [--digest]
-with W and H from 1 to 4096 and N from 1 to 64, as in
+  gen SEED STEPS
+  convert
+  plan --config FILE [--workers N] [--digest]
+  osc --config FILE
+with W and H from 1 to 4096, N from 1 to 64, SEED below 2 to the 64th and STEPS from 1 to 100000, as in
   playrun run 1280 720 < show.script
-  playrun run --config studio.toml --digest < show.script";
+  playrun run --config studio.toml --digest < show.script
+  playrun gen 7 2000
+  playrun convert < logo.rclp > straight.rclp
+  playrun plan --config studio.toml --digest < evening.cues
+  playrun osc --config studio.toml < show.script";

@@ -8,22 +8,30 @@ ghost use Rattle.playrun.specs.Play.{EndsAtOnce};
 use super::complaint::say_usage;
 use host_system::WordsFault;
 use play_outside::{MediaDir, Sink, Source};
-use run_script::run_main;
+use run_script::{Teller, run_and_tell};
 use server_setup::RunFault;
 use std::alloc::Global;
 use std::io::Eprint;
+use std::rt::Files;
 use std::thread::Threads;
 
-/// Plays a script as `run_main` does with these words. Words that cannot be read are no command line, with status 1, and
+/// Plays a script as `run_and_tell` does with these words. Words that cannot be read are no command line, with status 1, and
 /// if memory ran out for them the status is 5; nothing is read then. At status 1 standard error says which words there
 /// are.
-pub fn play<R: Threads + Sync + Eprint, I: Source, M: MediaDir, O: Sink>(
+pub fn play<
+    R: Threads + Sync + Eprint + Files + AllocGlobal,
+    I: Source,
+    M: MediaDir,
+    O: Sink,
+    T: Teller,
+>(
     rt: &R,
     alloc: Global,
     words: Result<Vec<String>, WordsFault>,
     input: &mut I,
     media: &mut M,
     out: &mut O,
+    teller: &mut T,
 ) -> u8
     ensures known { IfOk words (λ list. PlaysScript (map string_bytes list.items) result
         (record { media = M.state media.old; input = I.state input.old; out = O.state out.old })
@@ -33,7 +41,7 @@ pub fn play<R: Threads + Sync + Eprint, I: Source, M: MediaDir, O: Sink>(
         (record { media = M.state media.new; input = I.state input.new; out = O.state out.new })) }
 {
     let status = match words {
-        Ok(words) => run_main(rt, alloc, words.as_slice(), input, media, out),
+        Ok(words) => run_and_tell(rt, alloc, words.as_slice(), input, media, out, teller),
         Err(fault) => end(RunFault::from(fault), out),
     };
     if status == RunFault::Usage.status() {

@@ -177,7 +177,7 @@ fn plays_the_clips_of_a_folder(rt: HostRuntime) -> Result<(), Fail> {
             path,
         ]?;
         let mut input = MemSource::new(SCRIPT.to_vec(alloc)?, 4096, Vec::new(alloc));
-        let mut media = FolderMedia::new(rt.clone()?, PROGRAM);
+        let mut media = FolderMedia::new(rt.clone()?, PROGRAM, Progress::Silent);
         let mut out = MemSink::new(alloc, 0, 1000, 4096, Vec::new(alloc))?;
         let found = run_main(
             &rt,

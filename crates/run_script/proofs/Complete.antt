@@ -18,7 +18,8 @@ use Rattle.history_model.specs.declared.limits.TheConstants.{MAX_INPUT_BYTES}
 use Rattle.history_model.specs.scripts.Line.{ScriptLine, Rejected, until_stop}
 use Rattle.history_model.specs.scripts.History.{Playout, PlayedLine}
 use Rattle.history_model.specs.scripts.Input.{ended_lines, received}
-use Rattle.history_model.proofs.Outputs.{script_output-snoc, script_output-ended}
+use Rattle.run_script.specs.Shown.{Shown}
+use Rattle.run_script.proofs.Shown.{shown_output-ended, shown_output-snoc}
 use Rattle.history_model.proofs.Parts.{ended_lines-more}
 use Rattle.run_script.specs.declared.ending.Ending.{Ending}
 use Rattle.run_script.specs.declared.ending.Ending.TheVariants.{Finished, Stopped, BadLine, TooLong, ReadFault, WriteFault, Memory}
@@ -92,11 +93,11 @@ written_line sent.All text before after all = inl all
 written_line sent.Failed text before after fails = inr fails
 
 -- nothing was written
-nothing_written : (before after : SinkState) → WritesFaultLine [] before after → after ≡ before
+pub nothing_written : (before after : SinkState) → WritesFaultLine [] before after → after ≡ before
 nothing_written before after said = elim said [ inl all ↦ all ∙ after_taking-nil before | inr fails ↦ absurd (let none : fails.count < 0 = fails.some_left in omega (arith, none)) ]
 
 -- a failed write raises the count of faults
-fails_rose : (text : List ℕ) (before after : SinkState) → Fails text before after → Rose before.faults after.faults
+pub fails_rose : (text : List ℕ) (before after : SinkState) → Fails text before after → Rose before.faults after.faults
 fails_rose text before after fails = (let is = ap (λ (s : SinkState). s.faults) fails.stopped in omega (arith, is))
 
 -- the input was read to the end of the line at which the run ends
@@ -114,16 +115,16 @@ read_past playout whole part rest prefix none at accepted = by_end part.ended re
         inr (omega (arith, size, all, both))
 
 -- the line of a fault lowers no count
-line_count : (between after : SinkState) (text : List ℕ) → WritesFaultLine text between after → between.faults ≤ after.faults
+pub line_count : (between after : SinkState) (text : List ℕ) → WritesFaultLine text between after → between.faults ≤ after.faults
 line_count between after text said =
     elim said [
       | inl all ↦ (let same : after.faults ≡ between.faults = ap (λ (s : SinkState). s.faults) all in omega arith)
       | inr fails ↦ Rose-le between.faults after.faults (fails_rose text between after fails)
     ]
 
-module _ (playout : Playout) (before after : Streams) (between : SinkState) (input : List ℕ) (known : before.input.left ≡ Some input) where
+module _ (shown : Shown) (playout : Playout) (before after : Streams) (between : SinkState) (input : List ℕ) (known : before.input.left ≡ Some input) where
   abbrev ran : Ending → Type 0
-  ran ending = RunsScript playout ending before (record { input = after.input; out = between })
+  ran ending = RunsScript shown playout ending before (record { input = after.input; out = between })
 
   given : (read : List ℕ) → Gives read before.input.left after.input.left → (rest : List ℕ) × (input ≡ read ++ rest) × (after.input.left ≡ Some rest)
   given read gives = given_prefix read after.input.left input (subst (λ l. Gives read l after.input.left) known gives)
@@ -133,7 +134,7 @@ module _ (playout : Playout) (before after : Streams) (between : SinkState) (inp
   none_left rest left at_end = subst (λ (l : Option (List ℕ)). IfSome l (λ r. r ≡ [])) left at_end
 
   -- a run with status 0 played the input
-  plays : (ending : Ending) → status_of ending ≡ 0 → ran ending → WritesFaultLine (fault_line ending) between after.out → PlaysInput playout input before after
+  plays : (ending : Ending) → status_of ending ≡ 0 → ran ending → WritesFaultLine (fault_line ending) between after.out → PlaysInput shown playout input before after
   plays Finished good run said =
       let read = run.reading.bytes in
       let rest = given read run.gives in
@@ -178,8 +179,8 @@ module _ (playout : Playout) (before after : Streams) (between : SinkState) (inp
           whole = read_past playout run.reading part rest.0 prefix at_end at stops.accepted;
         });
         written = nothing_written between after.out said ∙ stops.written
-            ∙ ap (after_taking before.out) (script_output-snoc playout at.before at.last at.runs_on
-            ∙ sym (script_output-ended playout at.before at.last (unplayed found.0) at.runs_on stops.ends));
+            ∙ ap (after_taking before.out) (shown_output-snoc shown playout at.before at.last at.runs_on
+            ∙ sym (shown_output-ended shown playout at.before at.last (unplayed found.0) at.runs_on stops.ends));
       }
   plays (BadLine number) good run said = absurd (let no : 2 ≡ 0 = good in omega (arith, no))
   plays TooLong good run said = absurd (let no : 2 ≡ 0 = good in omega (arith, no))
@@ -194,7 +195,7 @@ module _ (playout : Playout) (before after : Streams) (between : SinkState) (inp
   completes (BadLine number) run said short accepted read_well wrote_well =
       let rest = given run.reading.bytes run.gives in
       let more = part_of run.reading run.ends.0 rest.0 input rest.1 (λ e. none_left rest.0 rest.2 (run.at_end e)) run.ends.1 in
-      absurd (rejected_early (record { playout = playout; first = before.out }) run.ends.0 number more.0 input between more.1 more.2 run.ends.2 accepted)
+      absurd (rejected_early (record { playout = playout; shown = shown; first = before.out }) run.ends.0 number more.0 input between more.1 more.2 run.ends.2 accepted)
   completes TooLong run said short accepted read_well wrote_well =
       let rest = given run.reading.bytes run.gives in
       let size : length input ≡ length run.reading.bytes + length rest.0 = ap length rest.1 ∙ length-append run.reading.bytes rest.0 in
@@ -207,49 +208,49 @@ module _ (playout : Playout) (before after : Streams) (between : SinkState) (inp
   completes Memory run said short accepted read_well wrote_well = inr refl
 
 -- a valid input over devices without a fault is played, unless memory runs out
-pub completes_run : (playout : Playout) (status : ℕ) (before after : Streams) → EndsRun playout status before after → IsValid before.input
+pub completes_run : (shown : Shown) (playout : Playout) (status : ℕ) (before after : Streams) → EndsRun shown playout status before after → IsValid before.input
     → (Rose before.input.faults after.input.faults → ⊥) → (Rose before.out.faults after.out.faults → ⊥) → (status ≡ 0) ⊎ (status ≡ 5)
-completes_run playout status before after run valid read_well wrote_well =
+completes_run shown playout status before after run valid read_well wrote_well =
     subst (λ s. (s ≡ 0) ⊎ (s ≡ 5)) (sym run.outcome)
-    (completes playout before after run.between valid.0 valid.1 run.ending run.run run.said valid.2 valid.3 read_well wrote_well)
+    (completes shown playout before after run.between valid.0 valid.1 run.ending run.run run.said valid.2 valid.3 read_well wrote_well)
 
 -- a run fails only if a read or a write of it failed
-fails_by : (playout : Playout) (before after : Streams) (between : SinkState) (ending : Ending) → status_of ending ≡ 4 → RunsScript playout ending before (record { input = after.input; out = between })
+fails_by : (shown : Shown) (playout : Playout) (before after : Streams) (between : SinkState) (ending : Ending) → status_of ending ≡ 4 → RunsScript shown playout ending before (record { input = after.input; out = between })
     → between.faults ≤ after.out.faults → Rose before.input.faults after.input.faults ⊎ Rose before.out.faults after.out.faults
-fails_by playout before after between Finished bad run said = absurd (let no : 0 ≡ 4 = bad in omega (arith, no))
-fails_by playout before after between Stopped bad run said = absurd (let no : 0 ≡ 4 = bad in omega (arith, no))
-fails_by playout before after between (BadLine number) bad run said = absurd (let no : 2 ≡ 4 = bad in omega (arith, no))
-fails_by playout before after between TooLong bad run said = absurd (let no : 2 ≡ 4 = bad in omega (arith, no))
-fails_by playout before after between ReadFault bad run said = inl run.faults
-fails_by playout before after between WriteFault bad run said =
+fails_by shown playout before after between Finished bad run said = absurd (let no : 0 ≡ 4 = bad in omega (arith, no))
+fails_by shown playout before after between Stopped bad run said = absurd (let no : 0 ≡ 4 = bad in omega (arith, no))
+fails_by shown playout before after between (BadLine number) bad run said = absurd (let no : 2 ≡ 4 = bad in omega (arith, no))
+fails_by shown playout before after between TooLong bad run said = absurd (let no : 2 ≡ 4 = bad in omega (arith, no))
+fails_by shown playout before after between ReadFault bad run said = inl run.faults
+fails_by shown playout before after between WriteFault bad run said =
     inr (Rose-then before.out.faults between.faults after.out.faults (fails_rose _ before.out between run.ends.2.written) said)
-fails_by playout before after between Memory bad run said = absurd (let no : 5 ≡ 4 = bad in omega (arith, no))
+fails_by shown playout before after between Memory bad run said = absurd (let no : 5 ≡ 4 = bad in omega (arith, no))
 
-pub device_of_run : (playout : Playout) (status : ℕ) (before after : Streams) → EndsRun playout status before after → status ≡ 4
+pub device_of_run : (shown : Shown) (playout : Playout) (status : ℕ) (before after : Streams) → EndsRun shown playout status before after → status ≡ 4
     → Rose before.input.faults after.input.faults ⊎ Rose before.out.faults after.out.faults
-device_of_run playout status before after run bad =
-    fails_by playout before after run.between run.ending (sym run.outcome ∙ bad) run.run (line_count run.between after.out (fault_line run.ending) run.said)
+device_of_run shown playout status before after run bad =
+    fails_by shown playout before after run.between run.ending (sym run.outcome ∙ bad) run.run (line_count run.between after.out (fault_line run.ending) run.said)
 
 -- a run with status 0 had no fault
-quiet : (playout : Playout) (before after : Streams) (between : SinkState) (ending : Ending) → status_of ending ≡ 0 → RunsScript playout ending before (record { input = after.input; out = between })
+quiet : (shown : Shown) (playout : Playout) (before after : Streams) (between : SinkState) (ending : Ending) → status_of ending ≡ 0 → RunsScript shown playout ending before (record { input = after.input; out = between })
     → WritesFaultLine (fault_line ending) between after.out → (after.input.faults ≡ before.input.faults) × (after.out.faults ≡ before.out.faults)
-quiet playout before after between Finished good run said =
+quiet shown playout before after between Finished good run said =
     (run.faults, ap (λ (s : SinkState). s.faults) (nothing_written between after.out said ∙ run.ends.2.written))
-quiet playout before after between Stopped good run said =
+quiet shown playout before after between Stopped good run said =
     (run.faults, ap (λ (s : SinkState). s.faults) (nothing_written between after.out said ∙ run.ends.2.written))
-quiet playout before after between (BadLine number) good run said = absurd (let no : 2 ≡ 0 = good in omega (arith, no))
-quiet playout before after between TooLong good run said = absurd (let no : 2 ≡ 0 = good in omega (arith, no))
-quiet playout before after between ReadFault good run said = absurd (let no : 4 ≡ 0 = good in omega (arith, no))
-quiet playout before after between WriteFault good run said = absurd (let no : 4 ≡ 0 = good in omega (arith, no))
-quiet playout before after between Memory good run said = absurd (let no : 5 ≡ 0 = good in omega (arith, no))
+quiet shown playout before after between (BadLine number) good run said = absurd (let no : 2 ≡ 0 = good in omega (arith, no))
+quiet shown playout before after between TooLong good run said = absurd (let no : 2 ≡ 0 = good in omega (arith, no))
+quiet shown playout before after between ReadFault good run said = absurd (let no : 4 ≡ 0 = good in omega (arith, no))
+quiet shown playout before after between WriteFault good run said = absurd (let no : 4 ≡ 0 = good in omega (arith, no))
+quiet shown playout before after between Memory good run said = absurd (let no : 5 ≡ 0 = good in omega (arith, no))
 
 -- and it played the input, if that is known
-pub is_played : (playout : Playout) (status : ℕ) (before after : Streams) → EndsRun playout status before after → status ≡ 0 → IsPlayed playout before after
-is_played playout status before after run good =
+pub is_played : (shown : Shown) (playout : Playout) (status : ℕ) (before after : Streams) → EndsRun shown playout status before after → status ≡ 0 → IsPlayed shown playout before after
+is_played shown playout status before after run good =
     let ended_well = sym run.outcome ∙ good in
-    let faults = quiet playout before after run.between run.ending ended_well run.run run.said in
+    let faults = quiet shown playout before after run.between run.ending ended_well run.run run.said in
     (by_left before.input.left refl, faults.0, faults.1)
   where
-    by_left : (left : Option (List ℕ)) → before.input.left ≡ left → IfSome left (λ input. PlaysInput playout input before after)
+    by_left : (left : Option (List ℕ)) → before.input.left ≡ left → IfSome left (λ input. PlaysInput shown playout input before after)
     by_left None is = tt
-    by_left (Some input) is = plays playout before after run.between input is run.ending (sym run.outcome ∙ good) run.run run.said
+    by_left (Some input) is = plays shown playout before after run.between input is run.ending (sym run.outcome ∙ good) run.run run.said

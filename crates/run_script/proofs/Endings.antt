@@ -1,6 +1,7 @@
 -- How a run ends.
 use Rattle.std.proofs.Common.{◌≡◌, ℕ, ◌+◌, ◌<◌, ◌≤◌, true, false, List, [], ◌∷◌, ◌++◌, take, length, refl, sym, ap, ◌∙◌, subst, arith, append-nil}
-use Rattle.std.specs.Prelude.{Err}
+use Rattle.std.specs.Prelude.{Err, Option}
+use Rattle.play_types.specs.declared.reply.Reply.{Reply}
 use Rattle.std.specs.Str.Lines.{lines}
 use Rattle.std.proofs.lemmas.Bool.{false≢true}
 use Rattle.std.proofs.lemmas.Bool.Decides.{nat_tests}
@@ -10,7 +11,8 @@ use Rattle.play_outside.specs.SinkState.{SinkState, after_taking}
 use Rattle.play_outside.proofs.Taking.{after_taking-nil}
 use Rattle.history_model.specs.declared.limits.TheConstants.{MAX_INPUT_BYTES}
 use Rattle.history_model.specs.scripts.Input.{ended_lines, unended, overlong, received}
-use Rattle.history_model.proofs.Outputs.{goes_on-none, script_output-none}
+use Rattle.history_model.proofs.Outputs.{goes_on-none}
+use Rattle.run_script.proofs.Shown.{shown_output-none}
 use Rattle.history_model.proofs.Parts.{last_line, lines-ended}
 use Rattle.run_script.specs.declared.ending.Halt.{Halt}
 use Rattle.run_script.specs.declared.ending.Halt.TheVariants as halt
@@ -32,18 +34,18 @@ none_done run = record {
   played = [];
   said = refl;
   runs_on = goes_on-none run.playout;
-  written = sym (after_taking-nil run.first) ∙ ap (after_taking run.first) (sym (script_output-none run.playout));
+  written = sym (after_taking-nil run.first) ∙ ap (after_taking run.first) (sym (shown_output-none run.shown run.playout));
 }
 
 -- nothing was read yet
-pub none_taken : (run : Run) (script : Script) → script.waiting.items ≡ [] → script.lines ≡ 0 → Represents run.playout script.player [] → HasTaken run script [] run.first
+pub none_taken : (run : Run) (script : Script) → script.waiting.items ≡ [] → script.lines ≡ 0 → Represents run.shown run.playout script.player [] → HasTaken run script [] run.first
 unfolding ended_lines unended
 none_taken run script empty none represents = record {
   done = record {
     played = [];
     said = refl;
     runs_on = goes_on-none run.playout;
-    written = sym (after_taking-nil run.first) ∙ ap (after_taking run.first) (sym (script_output-none run.playout));
+    written = sym (after_taking-nil run.first) ∙ ap (after_taking run.first) (sym (shown_output-none run.shown run.playout));
   };
   waiting = empty;
   one_line = refl;
@@ -108,7 +110,7 @@ lines-last bytes some = lines-ended bytes ∙ ap (λ (ls : List (List ℕ)). end
 
 module _ (run : Run) (script : Script) (bytes : List ℕ) (before after : SinkState) (taken : HasTaken run script bytes before) (short : length bytes ≤ MAX_INPUT_BYTES) (some : 0 < length (unended bytes)) (new : Player) where
   -- the last line was done
-  pub ended_done : IsLineDone (next_line run (ended_lines bytes) before taken.done (unended bytes)) new before after → EndsAs run Finished (reading_of bytes true) after
+  pub ended_done : {replied : Option Reply} → IsLineDone (next_line run (ended_lines bytes) before taken.done (unended bytes)) replied new before after → EndsAs run Finished (reading_of bytes true) after
   ended_done plays =
       (refl, short, line_done run (ended_lines bytes) (unended bytes) before after taken.done new (lines bytes) (lines-last bytes some) plays)
 

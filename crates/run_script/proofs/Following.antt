@@ -1,10 +1,12 @@
 -- Requests that the stage takes or does not take, and the steps of connections.
 use Rattle.std.proofs.Common.{◌≡◌, ◌≢◌, ℕ, ◌+◌, ◌<◌, ◌≤◌, Bool, true, false, List, [], ◌∷◌, ◌++◌, refl, sym, ap, ◌∙◌, subst, arith, append-nil, append_assoc, length}
-use Rattle.std.specs.Prelude.{Some, None, Result, Ok, Err, IfErr, IfOk, OnErr, OnOk, nat_lt, if◌then◌else◌, option_map}
+use Rattle.std.specs.Prelude.{Option, Some, None, Result, Ok, Err, IfErr, IfOk, OnErr, OnOk, nat_lt, if◌then◌else◌, option_map}
 use Rattle.std.proofs.lemmas.Bool.Decides.{nat_tests}
 use Rattle.std.proofs.lemmas.List.{length-map}
 use Rattle.std.proofs.lemmas.Option.{none-some}
 use Rattle.play_types.specs.Commands.{answer_reply}
+use Rattle.play_types.specs.Config.{ConfigView}
+use Rattle.play_types.specs.Media.{MediaNameView}
 use Rattle.play_types.specs.History.{held, stop_at, ticks}
 use Rattle.play_types.specs.declared.answer.Answer.{Answer}
 use Rattle.play_types.specs.declared.command.Cmd.{Cmd}
@@ -19,41 +21,46 @@ use Rattle.play_outside.specs.SinkState.{SinkState, after_taking}
 use Rattle.play_outside.proofs.Taking.{after_taking-nil}
 use Rattle.history_model.specs.pictures.Media.{Setup}
 use Rattle.history_model.specs.stage.Answer.{Answered, answer}
-use Rattle.history_model.specs.text.Replies.{reply_lines}
+use Rattle.history_model.specs.text.Replies.{answer_lines, reply_lines, with_token}
 use Rattle.history_model.specs.scripts.History.{JournalFull, OutOfMemory, Taken, Turn, Verdict, channel_size, is_full, is_kill, step_events, verdict, verdict_events}
-use Rattle.history_model.specs.scripts.Output.{reply_output, step_reply, tagged_lines, verdict_reply}
+use Rattle.history_model.specs.scripts.Output.{answer_output, step_reply, tagged_lines, verdict_reply}
 use Rattle.history_model.specs.sessions.Session.{KillServer}
 use Rattle.history_model.specs.sessions.Session as model
-use Rattle.band_render.specs.Histories as frames
+use Rattle.clip_format.specs.Table.{Entry}
 use Rattle.band_render.proofs.Ticks.{represents-other}
 use Rattle.stage_core.specs.Stage.{HasRoom, IsNotTaken, StageView, after_event}
 use Rattle.stage_core.specs.declared.fault.ApplyFault.{ApplyFault}
 use Rattle.stage_core.specs.declared.fault.ApplyFault.TheVariants as fault
+use Rattle.play_session.specs.Step.{is_out_of_memory}
+use Rattle.play_session.proofs.NextToken.{reply_token-kept}
 use Rattle.return_codes.proofs.Answered.{answered_batch, answered_command}
 use Rattle.server_setup.specs.declared.setup.ServerSetup.{ServerSetup}
 use Rattle.run_script.specs.declared.clients.Clients.{Clients}
+use Rattle.run_script.specs.declared.display.Display.{Display}
+use Rattle.run_script.specs.declared.display.Display.TheVariants as display
 use Rattle.run_script.specs.declared.ending.Halt.{Halt}
 use Rattle.run_script.specs.declared.ending.Halt.TheVariants as halt
 use Rattle.run_script.specs.declared.player.Player.{Player}
 use Rattle.run_script.specs.inner.Clients.{HaveAimedBatches}
-use Rattle.run_script.specs.inner.Player.{DoesRequest, FollowsStep, Given, IsFollowed, IsGoingOn, IsReady, MakesEvents, NextStep, RepliesTo, Request, WritesText, batch_request, command_request, events_in, playout_in, setup_in, step_text, turn_in}
+use Rattle.run_script.specs.inner.Player.{DoesRequest, FollowsStep, Given, IsFollowed, IsGoingOn, IsReady, MakesEvents, NextStep, RepliesTo, Request, ShowsLast, WritesReply, batch_request, command_request, events_in, playout_in, setup_in, step_text, turn_in}
 
 -- nothing happened
 pub makes_nothing : (player : Player) → MakesEvents [] player player
-makes_nothing player = record { setup = refl; digests = refl; clients = refl; history = sym (append-nil (events_in player)) }
+makes_nothing player = record { setup = refl; digests = refl; shown = refl; clients = refl; history = sym (append-nil (events_in player)) }
 
 -- some events happened, and then others
 pub makes_then : (first second both : List Event) (old mid new : Player) → MakesEvents first old mid → MakesEvents second mid new → first ++ second ≡ both → MakesEvents both old new
 makes_then first second both old mid new one two is = record {
   setup = two.setup ∙ one.setup;
   digests = two.digests ∙ one.digests;
+  shown = two.shown ∙ one.shown;
   clients = two.clients ∙ one.clients;
   history = two.history ∙ ap (λ (es : List Event). es ++ second) one.history ∙ append_assoc (events_in old) first second ∙ ap (λ (es : List Event). events_in old ++ es) is;
 }
 
 -- the stage took one event more
 pub makes_event : (player : Player) (event : Event) (stage : StageView) → stage ≡ after_event event player.stage → MakesEvents (event ∷ []) player (record player { stage = stage })
-makes_event player event stage is = record { setup = refl; digests = refl; clients = refl; history = ap (λ (s : StageView). s.journal.events) is }
+makes_event player event stage is = record { setup = refl; digests = refl; shown = refl; clients = refl; history = ap (λ (s : StageView). s.journal.events) is }
 
 -- an event is no tick if it is a command or a stop
 pub ticks_kept : (event : Event) (player : Player) (stage : StageView) → ticks (event ∷ []) ≡ 0 → stage ≡ after_event event player.stage
@@ -148,6 +155,12 @@ pub batch_answered : (player : Player) (tag : Tag) (commands : List Cmd) (taken 
 batch_answered player tag commands (Ok given) answers = sym (answered_batch (setup_in player) (events_in player) tag commands given (answers (setup_in player)))
 batch_answered player tag commands (Err reason) answers = tt
 
+-- the frames are still those of the last tick
+shows_last : (shows : Display) (setup : Setup) (events : List Event) (one : Event) (media : List Entry) → one ≢ event.Tick
+    → ShowsLast shows setup events media → ShowsLast shows setup (events ++ one ∷ []) media
+shows_last (display.Frames renderer) setup events one media other last = represents-other setup events one media renderer other last
+shows_last display.Status setup events one media other last = last
+
 -- the player goes on after a command or a batch, whether the stage took it or not
 pub ready_after : (one : Event) (taken : Result Answer ApplyFault) (player : Player) (stage : StageView) → one ≢ event.Tick → stop_at (one ∷ []) ≡ None
     → IsReady player → OnOk taken (stage ≡ after_event one player.stage) → OnErr taken (stage ≡ player.stage) → IsReady (record player { stage = stage })
@@ -159,8 +172,8 @@ ready_after one (Ok given) player stage other goes ready made kept =
       channels = ap (λ (s : StageView). s.channels) made ∙ ready.channels;
       scenes = ready.scenes;
       batches = ready.batches;
-      frames = subst (λ es. frames.Represents (setup_in player) es player.setup.media player.renderer) (sym history)
-          (represents-other (setup_in player) events one player.setup.media player.renderer other ready.frames);
+      frames = subst (λ es. ShowsLast player.display (setup_in player) es player.setup.media) (sym history)
+          (shows_last player.display (setup_in player) events one player.setup.media other ready.frames);
       running = ap stop_at history ∙ stop_at-append events (one ∷ []) ready.running ∙ ap (option_map (λ n. length events + n)) goes;
     }
 ready_after one (Err reason) player stage other goes ready made kept = subst (λ s. IsReady (record player { stage = s })) (sym kept) ready
@@ -183,66 +196,74 @@ ready_clients player clients ready aimed = record {
 }
 
 -- a step was followed by a reply alone
-followed : (next : NextStep) (answer : Reply) (result : Result (Unit {0}) Halt) (made : List Event) (before after : SinkState)
+followed : (next : NextStep) (answer : Reply) (result : Result (Option Reply) Halt) (made : List Event) (before after : SinkState)
     → step_reply next.turn next.step ≡ Some answer → made ≡ step_events next.turn next.step → is_kill next.step ≡ false
-    → WritesText result (reply_output next.turn.playout next.turn.tag (Some answer)) before after → IsFollowed next result made before after
+    → WritesReply answer result (answer_output next.turn.playout next.turn.tag next.token (Some answer)) before after → IsFollowed next result made before after
 followed next answer result made before after replies makes goes writes =
-    by_result result (subst (λ o. WritesText result (reply_output next.turn.playout next.turn.tag o) before after) (sym replies) writes)
+    by_result result (subst (λ o. WritesReply answer result (answer_output next.turn.playout next.turn.tag next.token o) before after) (sym replies) writes)
   where
-    by_result : (result : Result (Unit {0}) Halt) → WritesText result (step_text next) before after → IsFollowed next result made before after
-    by_result (Ok done) written = (goes, makes, written)
+    by_result : (result : Result (Option Reply) Halt) → WritesReply answer result (step_text next) before after → IsFollowed next result made before after
+    by_result (Ok replied) (is, written) = (goes, makes, written, is ∙ sym replies)
     by_result (Err halt.Write) fails = fails
     by_result (Err halt.Memory) none = none
     by_result (Err halt.Stop) none = absurd none
     by_result (Err halt.Rejected) none = none
 
+-- the token of a line that was given up is in no reply
+told_lines : (config : ConfigView) (media : List MediaNameView) (token told : Option (List ℕ)) (answer : Reply) → (is_out_of_memory answer ≡ false → token ≡ told)
+    → answer_lines config media token answer ≡ answer_lines config media told answer
+told_lines config media token told answer kept = ap (λ (t : Option (List ℕ)). with_token t (reply_lines config media answer)) (reply_token-kept token told answer kept)
+
 -- a reply that needs nothing of the stage was written
-pub follows_local : (given : Given) (answer : Reply) (result : Result (Unit {0}) Halt) (before after : SinkState)
+pub follows_local : (given : Given) (token : Option (List ℕ)) (answer : Reply) (result : Result (Option Reply) Halt) (before after : SinkState)
+    → (is_out_of_memory answer ≡ false → token ≡ given.token)
     → step_reply (turn_in given.player given.tag false) given.step ≡ Some answer
     → step_events (turn_in given.player given.tag false) given.step ≡ [] → is_kill given.step ≡ false
-    → WritesText result (tagged_lines given.tag (reply_lines given.player.setup.config given.player.setup.names answer)) before after
+    → WritesReply answer result (tagged_lines given.tag (answer_lines given.player.setup.config given.player.setup.names token answer)) before after
     → FollowsStep given result given.player before after
-follows_local given answer result before after replies none goes writes = record {
+follows_local given token answer result before after kept replies none goes writes = record {
   no_memory = false;
   made = [];
   makes = makes_nothing given.player;
-  follows = followed (record { turn = turn_in given.player given.tag false; step = given.step }) answer result [] before after replies (sym none) goes writes;
+  follows = followed (record { turn = turn_in given.player given.tag false; step = given.step; token = given.token }) answer result [] before after replies (sym none) goes
+      (subst (λ (lines : List (List ℕ)). WritesReply answer result (tagged_lines given.tag lines) before after)
+      (told_lines given.player.setup.config given.player.setup.names token given.token answer kept) writes);
 }
 
 -- a request was done, and the reply to it was written
-follows_request : (given : Given) (request : Request) (answer : Reply) (result : Result (Unit {0}) Halt) (new : Player) (before after : SinkState)
+follows_request : (given : Given) (request : Request) (answer : Reply) (result : Result (Option Reply) Halt) (new : Player) (before after : SinkState)
     → (does : DoesRequest given.tag request answer given.player new)
     → step_reply (turn_in given.player given.tag does.no_memory) given.step
     ≡ Some (verdict_reply request.name request.answer (verdict (turn_in given.player given.tag does.no_memory) request.commands))
     → step_events (turn_in given.player given.tag does.no_memory) given.step
     ≡ verdict_events request.event (verdict (turn_in given.player given.tag does.no_memory) request.commands)
     → is_kill given.step ≡ false
-    → WritesText result (tagged_lines given.tag (reply_lines new.setup.config new.setup.names answer)) before after
+    → WritesReply answer result (tagged_lines given.tag (answer_lines new.setup.config new.setup.names given.token answer)) before after
     → FollowsStep given result new before after
 follows_request given request answer result new before after does replies makes goes writes =
     let turn = turn_in given.player given.tag does.no_memory in
-    let written : WritesText result (tagged_lines given.tag (reply_lines given.player.setup.config given.player.setup.names answer)) before after =
-    subst (λ (s : ServerSetup). WritesText result (tagged_lines given.tag (reply_lines s.config s.names answer)) before after) does.makes.setup writes in
+    let written : WritesReply answer result (tagged_lines given.tag (answer_lines given.player.setup.config given.player.setup.names given.token answer)) before after =
+    subst (λ (s : ServerSetup). WritesReply answer result (tagged_lines given.tag (answer_lines s.config s.names given.token answer)) before after) does.makes.setup writes in
     record {
       no_memory = does.no_memory;
       made = verdict_events request.event (verdict turn request.commands);
       makes = does.makes;
-      follows = followed (record { turn = turn; step = given.step }) answer result (verdict_events request.event (verdict turn request.commands)) before after
+      follows = followed (record { turn = turn; step = given.step; token = given.token }) answer result (verdict_events request.event (verdict turn request.commands)) before after
           (replies ∙ ap Some (sym does.replies)) (sym makes) goes written;
     }
 
-pub follows_command : (given : Given) (command : Cmd) (answer : Reply) (result : Result (Unit {0}) Halt) (new : Player) (before after : SinkState)
+pub follows_command : (given : Given) (command : Cmd) (answer : Reply) (result : Result (Option Reply) Halt) (new : Player) (before after : SinkState)
     → given.step ≡ Some (model.Ask command) → DoesRequest given.tag (command_request given.player given.tag command) answer given.player new
-    → WritesText result (tagged_lines given.tag (reply_lines new.setup.config new.setup.names answer)) before after
+    → WritesReply answer result (tagged_lines given.tag (answer_lines new.setup.config new.setup.names given.token answer)) before after
     → FollowsStep given result new before after
 follows_command given command answer result new before after asks does writes =
     let turn = turn_in given.player given.tag does.no_memory in
     follows_request given (command_request given.player given.tag command) answer result new before after does
     (ap (step_reply turn) asks) (ap (step_events turn) asks) (ap is_kill asks) writes
 
-pub follows_batch : (given : Given) (commands : List Cmd) (answer : Reply) (result : Result (Unit {0}) Halt) (new : Player) (before after : SinkState)
+pub follows_batch : (given : Given) (commands : List Cmd) (answer : Reply) (result : Result (Option Reply) Halt) (new : Player) (before after : SinkState)
     → given.step ≡ Some (model.AskBatch commands) → DoesRequest given.tag (batch_request given.player given.tag commands) answer given.player new
-    → WritesText result (tagged_lines given.tag (reply_lines new.setup.config new.setup.names answer)) before after
+    → WritesReply answer result (tagged_lines given.tag (answer_lines new.setup.config new.setup.names given.token answer)) before after
     → FollowsStep given result new before after
 follows_batch given commands answer result new before after asks does writes =
     let turn = turn_in given.player given.tag does.no_memory in
@@ -252,51 +273,52 @@ follows_batch given commands answer result new before after asks does writes =
 -- the connection's kill was answered, and the history ended
 pub follows_kill : (given : Given) (new : Player) (before after : SinkState) → given.step ≡ Some KillServer
     → MakesEvents (event.Stop given.tag ∷ []) given.player new
-    → after ≡ after_taking before (tagged_lines given.tag (reply_lines new.setup.config new.setup.names (reply.Done name.Kill)))
+    → after ≡ after_taking before (tagged_lines given.tag (answer_lines new.setup.config new.setup.names given.token (reply.Done name.Kill)))
     → FollowsStep given (Err halt.Stop) new before after
 follows_kill given new before after kills makes written = record {
   no_memory = false;
   made = event.Stop given.tag ∷ [];
   makes = makes;
   follows =
-      subst (λ s. IsFollowed (record { turn = turn_in given.player given.tag false; step = s }) (Err halt.Stop) (event.Stop given.tag ∷ []) before after) (sym kills)
-      (refl, refl, written ∙ ap (λ (s : ServerSetup). after_taking before (tagged_lines given.tag (reply_lines s.config s.names (reply.Done name.Kill)))) makes.setup);
+      subst (λ s. IsFollowed (record { turn = turn_in given.player given.tag false; step = s; token = given.token }) (Err halt.Stop) (event.Stop given.tag ∷ []) before after) (sym kills)
+      (refl, refl, written ∙ ap (λ (s : ServerSetup). after_taking before (tagged_lines given.tag (answer_lines s.config s.names given.token (reply.Done name.Kill)))) makes.setup);
 }
 
 -- the answer to it was not written
 pub kill_failed : (given : Given) (reason : Halt) (new : Player) (before after : SinkState) → given.step ≡ Some KillServer
     → MakesEvents (event.Stop given.tag ∷ []) given.player new
-    → WritesText (Err reason) (tagged_lines given.tag (reply_lines new.setup.config new.setup.names (reply.Done name.Kill))) before after
+    → WritesReply (reply.Done name.Kill) (Err reason) (tagged_lines given.tag (answer_lines new.setup.config new.setup.names given.token (reply.Done name.Kill))) before after
     → FollowsStep given (Err reason) new before after
 kill_failed given reason new before after kills makes writes = record {
   no_memory = false;
   made = event.Stop given.tag ∷ [];
   makes = makes;
   follows =
-      subst (λ s. IsFollowed (record { turn = turn_in given.player given.tag false; step = s }) (Err reason) (event.Stop given.tag ∷ []) before after) (sym kills)
+      subst (λ s. IsFollowed (record { turn = turn_in given.player given.tag false; step = s; token = given.token }) (Err reason) (event.Stop given.tag ∷ []) before after) (sym kills)
       (by_reason reason
-      (subst (λ (s : ServerSetup). WritesText (Err reason) (tagged_lines given.tag (reply_lines s.config s.names (reply.Done name.Kill))) before after) makes.setup writes));
+      (subst (λ (s : ServerSetup). WritesReply (reply.Done name.Kill) (Err reason) (tagged_lines given.tag (answer_lines s.config s.names given.token (reply.Done name.Kill))) before after) makes.setup writes));
 }
   where
     by_reason : (reason : Halt)
-        → WritesText (Err reason) (tagged_lines given.tag (reply_lines given.player.setup.config given.player.setup.names (reply.Done name.Kill))) before after
-        → IsFollowed (record { turn = turn_in given.player given.tag false; step = Some KillServer }) (Err reason) (event.Stop given.tag ∷ []) before after
+        → WritesReply (reply.Done name.Kill) (Err reason) (tagged_lines given.tag (answer_lines given.player.setup.config given.player.setup.names given.token (reply.Done name.Kill))) before after
+        → IsFollowed (record { turn = turn_in given.player given.tag false; step = Some KillServer; token = given.token }) (Err reason) (event.Stop given.tag ∷ []) before after
     by_reason halt.Write fails = fails
     by_reason halt.Memory none = none
     by_reason halt.Stop none = absurd none
     by_reason halt.Rejected none = none
 
 -- nothing was done
-pub follows_nothing : (given : Given) (done : Unit {0}) (state : SinkState)
+pub follows_nothing : (given : Given) (state : SinkState)
     → step_reply (turn_in given.player given.tag false) given.step ≡ None → step_events (turn_in given.player given.tag false) given.step ≡ []
-    → is_kill given.step ≡ false → FollowsStep given (Ok done) given.player state state
-follows_nothing given done state replies none goes = record {
+    → is_kill given.step ≡ false → FollowsStep given (Ok None) given.player state state
+follows_nothing given state replies none goes = record {
   no_memory = false;
   made = [];
   makes = makes_nothing given.player;
   follows = (
     goes,
     sym none,
-    sym (after_taking-nil state) ∙ ap (λ o. after_taking state (reply_output (playout_in given.player) given.tag o)) (sym replies),
+    sym (after_taking-nil state) ∙ ap (λ o. after_taking state (answer_output (playout_in given.player) given.tag given.token o)) (sym replies),
+    sym replies,
   );
 }

@@ -1,6 +1,7 @@
 -- A script that is taken byte by byte.
 use Rattle.std.proofs.Common.{◌≡◌, ◌≢◌, ℕ, ◌+◌, ◌<◌, ◌≤◌, Bool, false, List, [], ◌∷◌, ◌++◌, length, refl, sym, ap, ◌∙◌, subst, arith, append-nil, append_assoc, take, get_or, length-append}
-use Rattle.std.specs.Prelude.{Err}
+use Rattle.std.specs.Prelude.{Err, Option}
+use Rattle.play_types.specs.declared.reply.Reply.{Reply}
 use Rattle.std.specs.List.{list_any}
 use Rattle.std.specs.Str.Lines.{strip_carriage_return}
 use Rattle.std.proofs.lemmas.Bool.{ne_eqb, or_from}
@@ -15,9 +16,10 @@ use Rattle.play_outside.proofs.Sending.{Fails-after}
 use Rattle.history_model.specs.scripts.Line.{ScriptLine, Rejected, meaning}
 use Rattle.history_model.specs.scripts.History.{PlayedLine}
 use Rattle.history_model.specs.scripts.Input.{ended_lines, unended, overlong, received}
-use Rattle.history_model.specs.scripts.Output.{output_at, script_output}
 use Rattle.history_model.proofs.Parts.{ended_lines-feed, unended-feed, ended_lines-other, unended-other}
-use Rattle.history_model.proofs.Outputs.{goes_on-snoc, script_output-snoc}
+use Rattle.history_model.proofs.Outputs.{goes_on-snoc}
+use Rattle.run_script.specs.Shown.{shown_line, shown_output}
+use Rattle.run_script.proofs.Shown.{shown_output-snoc}
 use Rattle.run_script.specs.declared.ending.Halt.{Halt}
 use Rattle.run_script.specs.declared.ending.Halt.TheVariants as halt
 use Rattle.run_script.specs.declared.script.Script.{Script}
@@ -46,21 +48,21 @@ played_as line marks = record { line = meaning line; given_up = marks.given_up; 
 
 -- the next line after those that are done
 abbrev pub next_line : (run : Run) (lines : List (List ℕ)) (state : SinkState) → IsDone run lines state → List ℕ → NextLine
-next_line run lines state done line = record { playout = run.playout; before = done.played; line = meaning line }
+next_line run lines state done line = record { playout = run.playout; shown = run.shown; before = done.played; line = meaning line }
 
 module _ (run : Run) (lines : List (List ℕ)) (line : List ℕ) (before after : SinkState) (done : IsDone run lines before) where
   -- the output of one line more
-  pub written-snoc : (marks : Marks) → after ≡ after_taking before (output_at run.playout done.played (played_as line marks) (meaning line))
-      → after ≡ after_taking run.first (script_output run.playout (done.played ++ played_as line marks ∷ []))
+  pub written-snoc : (marks : Marks) → after ≡ after_taking before (shown_line run.shown run.playout done.played (played_as line marks) (meaning line))
+      → after ≡ after_taking run.first (shown_output run.shown run.playout (done.played ++ played_as line marks ∷ []))
   written-snoc marks step =
-      let text = output_at run.playout done.played (played_as line marks) (meaning line) in
+      let text = shown_line run.shown run.playout done.played (played_as line marks) (meaning line) in
       step
       ∙ ap (λ (s : SinkState). after_taking s text) done.written
-      ∙ after_taking-after_taking run.first (script_output run.playout done.played) text
-      ∙ ap (after_taking run.first) (sym (script_output-snoc run.playout done.played (played_as line marks) done.runs_on))
+      ∙ after_taking-after_taking run.first (shown_output run.shown run.playout done.played) text
+      ∙ ap (after_taking run.first) (sym (shown_output-snoc run.shown run.playout done.played (played_as line marks) done.runs_on))
 
   -- one line more is done
-  abbrev pub line_done : (player : Player) (all : List (List ℕ)) → all ≡ lines ++ line ∷ [] → (plays : IsLineDone (next_line run lines before done line) player before after)
+  abbrev pub line_done : {replied : Option Reply} (player : Player) (all : List (List ℕ)) → all ≡ lines ++ line ∷ [] → (plays : IsLineDone (next_line run lines before done line) replied player before after)
       → IsDone run all after
   line_done player all is plays = record {
     played = done.played ++ played_as line plays.marks ∷ [];
@@ -99,12 +101,12 @@ module _ (run : Run) (lines : List (List ℕ)) (line : List ℕ) (before after :
     -- a write of what the line says failed
     pub line_fails : IsLineFailed (next_line run lines before done line) before after → FailsAt run reading after
     line_fails plays =
-        let text = output_at run.playout done.played (played_as line plays.marks) (meaning line) in
+        let text = shown_line run.shown run.playout done.played (played_as line plays.marks) (meaning line) in
         record {
           at = at_last plays.marks;
           accepted = plays.accepted;
-          written = subst (λ t. Fails t run.first after) (sym (script_output-snoc run.playout done.played (played_as line plays.marks) done.runs_on))
-              (Fails-after (script_output run.playout done.played) text run.first after (subst (λ s. Fails text s after) done.written plays.fails));
+          written = subst (λ t. Fails t run.first after) (sym (shown_output-snoc run.shown run.playout done.played (played_as line plays.marks) done.runs_on))
+              (Fails-after (shown_output run.shown run.playout done.played) text run.first after (subst (λ s. Fails text s after) done.written plays.fails));
         }
 
 -- the lines stay done if nothing was written
@@ -130,8 +132,8 @@ abbrev pub fed_line : List ℕ → List ℕ
 fed_line bytes = strip_carriage_return (unended bytes)
 
 -- all was taken: the line that waited is done
-pub fed_done : (run : Run) (old new : Script) (bytes : List ℕ) (before after : SinkState) → (taken : HasTaken run old bytes before)
-    → (plays : IsLineDone (next_line run (ended_lines bytes) before taken.done (fed_line bytes)) new.player before after)
+pub fed_done : {replied : Option Reply} (run : Run) (old new : Script) (bytes : List ℕ) (before after : SinkState) → (taken : HasTaken run old bytes before)
+    → (plays : IsLineDone (next_line run (ended_lines bytes) before taken.done (fed_line bytes)) replied new.player before after)
     → new.waiting.items ≡ [] → new.lines ≡ old.lines + 1
     → HasTaken run new (bytes ++ 10 ∷ []) after
 fed_done run old new bytes before after taken plays empty count = record {
@@ -192,7 +194,7 @@ byte_kept run old new bytes byte state other taken player count items short =
       one_line = ap (list_any is_line_end) more ∙ list_any-append is_line_end (unended bytes) (byte ∷ []) ∙ or_from _ _ taken.one_line (or_from _ _ is_other refl);
       short = subst (λ text. length text < 8194) rest short;
       count = count ∙ taken.count ∙ ap length (sym lines);
-      player = subst (λ p. Represents run.playout p taken.done.played) (sym player) taken.player;
+      player = subst (λ p. Represents run.shown run.playout p taken.done.played) (sym player) taken.player;
     }
 
 overlong-is : (text : List ℕ) → 8194 ≤ length text → overlong text ≡ text ∷ []

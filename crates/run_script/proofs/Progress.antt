@@ -13,6 +13,7 @@ use Rattle.run_script.specs.declared.ending.Ending.{Ending}
 use Rattle.run_script.specs.declared.ending.Ending.TheVariants.{Finished, Stopped, BadLine, TooLong, ReadFault, WriteFault, Memory}
 use Rattle.run_script.specs.declared.script.Script.{Script}
 use Rattle.run_script.specs.Script.{Run}
+use Rattle.run_script.specs.Shown.{Shown}
 use Rattle.run_script.specs.Run.{Streams, EndsAs, FaultsOf, RunsScript}
 use Rattle.run_script.specs.inner.Taken.{HasTaken, ReadsOn}
 use Rattle.run_script.proofs.Growth.{reading_of}
@@ -20,24 +21,24 @@ use Rattle.run_script.proofs.Endings.{none_done, taken_done}
 use Rattle.run_script.specs.inner.Player.{IsReady}
 use Rattle.run_script.specs.inner.Ticks.{ticks_due, ticks_per_byte}
 
--- the run on a playout that begins with an output
-abbrev pub run_from : Playout → SinkState → Run
-run_from playout first = record { playout = playout; first = first }
+-- the run on a playout, whose ticks are told so, that begins with an output
+abbrev pub run_from : Shown → Playout → SinkState → Run
+run_from shown playout first = record { playout = playout; shown = shown; first = first }
 
 -- what was read so far was taken, and `left` bytes more are allowed
-pub record HasRead (playout : Playout) (script : Script) (left : ℕ) (before now : Streams) : Type 0 where
+pub record HasRead (shown : Shown) (playout : Playout) (script : Script) (left : ℕ) (before now : Streams) : Type 0 where
   pub read : List ℕ
   pub consumed : Consumes read before.input now.input
-  pub taken : HasTaken (run_from playout before.out) script read now.out
+  pub taken : HasTaken (run_from shown playout before.out) script read now.out
   pub allowed : left + length read ≡ MAX_INPUT_BYTES
   pub ready : IsReady script.player
   pub ticks : ticks_due script ≤ ticks_per_byte * length read
   pub lines : script.lines ≤ length read
 
 -- nothing was read yet
-pub none_read : (playout : Playout) (script : Script) (before : Streams) → HasTaken (run_from playout before.out) script [] before.out → IsReady script.player → ticks_due script ≡ 0 → script.lines ≡ 0
-    → HasRead playout script MAX_INPUT_BYTES before before
-none_read playout script before taken ready ticks lines = record {
+pub none_read : (shown : Shown) (playout : Playout) (script : Script) (before : Streams) → HasTaken (run_from shown playout before.out) script [] before.out → IsReady script.player → ticks_due script ≡ 0 → script.lines ≡ 0
+    → HasRead shown playout script MAX_INPUT_BYTES before before
+none_read shown playout script before taken ready ticks lines = record {
   read = [];
   consumed = Consumes-nil before.input;
   taken = taken;
@@ -48,21 +49,21 @@ none_read playout script before taken ready ticks lines = record {
 }
 
 -- the run is out of memory before anything was read
-pub nothing_read : (playout : Playout) (before : Streams) → RunsScript playout Memory before before
-nothing_read playout before = record {
+pub nothing_read : (shown : Shown) (playout : Playout) (before : Streams) → RunsScript shown playout Memory before before
+nothing_read shown playout before = record {
   reading = reading_of [] false;
   gives = (Consumes-nil before.input).gives;
   faults = refl;
   at_end = λ e. absurd (false≢true e);
-  ends = (reading_of [] false, record { rest = []; parts = refl; at_end = λ e. absurd (false≢true e) }, none_done (run_from playout before.out));
+  ends = (reading_of [] false, record { rest = []; parts = refl; at_end = λ e. absurd (false≢true e) }, none_done (run_from shown playout before.out));
 }
 
-module _ (playout : Playout) (script : Script) (left : ℕ) (before now : Streams) (so_far : HasRead playout script left before now) where
+module _ (shown : Shown) (playout : Playout) (script : Script) (left : ℕ) (before now : Streams) (so_far : HasRead shown playout script left before now) where
   -- one more piece was read and taken
   pub piece_read : (script' : Script) (rest : ℕ) (piece : List ℕ) (input : SourceState) (out : SinkState) → Consumes piece now.input input
       → IsReady script'.player → ticks_due script' ≤ ticks_due script + ticks_per_byte * length piece → script'.lines ≤ script.lines + length piece
-      → ReadsOn (run_from playout before.out) (Ok rest) script' (so_far.read ++ piece) out
-      → HasRead playout script' rest before (record { input = input; out = out })
+      → ReadsOn (run_from shown playout before.out) (Ok rest) script' (so_far.read ++ piece) out
+      → HasRead shown playout script' rest before (record { input = input; out = out })
   piece_read script' rest piece input out consumed ready ticks lines reads =
       let both = length-append so_far.read piece in
       let ticks_before = so_far.ticks in
@@ -79,8 +80,8 @@ module _ (playout : Playout) (script : Script) (left : ℕ) (before now : Stream
 
   -- the run ends in a piece that was read
   pub piece_ends : (script' : Script) (ending : Ending) (piece : List ℕ) (input : SourceState) (out : SinkState) → Consumes piece now.input input
-      → ReadsOn (run_from playout before.out) (Err ending) script' (so_far.read ++ piece) out
-      → RunsScript playout ending before (record { input = input; out = out })
+      → ReadsOn (run_from shown playout before.out) (Err ending) script' (so_far.read ++ piece) out
+      → RunsScript shown playout ending before (record { input = input; out = out })
   piece_ends script' ending piece input out consumed reads =
       let all = Consumes-then so_far.read piece before.input now.input input so_far.consumed consumed in
       record {
@@ -92,7 +93,7 @@ module _ (playout : Playout) (script : Script) (left : ℕ) (before now : Stream
       }
 
   -- the end of the input is no fault of it
-  faults_at_end : (ending : Ending) (out : SinkState) (faults : ℕ) → EndsAs (run_from playout before.out) ending (reading_of so_far.read true) out → FaultsOf ending faults faults
+  faults_at_end : (ending : Ending) (out : SinkState) (faults : ℕ) → EndsAs (run_from shown playout before.out) ending (reading_of so_far.read true) out → FaultsOf ending faults faults
   faults_at_end Finished out faults ends = refl
   faults_at_end Stopped out faults ends = refl
   faults_at_end (BadLine number) out faults ends = refl
@@ -102,8 +103,8 @@ module _ (playout : Playout) (script : Script) (left : ℕ) (before now : Stream
   faults_at_end Memory out faults ends = refl
 
   -- the input ended
-  pub input_ended : (ending : Ending) (input : SourceState) (out : SinkState) → IsAtEnd now.input → input ≡ now.input → EndsAs (run_from playout before.out) ending (reading_of so_far.read true) out
-      → RunsScript playout ending before (record { input = input; out = out })
+  pub input_ended : (ending : Ending) (input : SourceState) (out : SinkState) → IsAtEnd now.input → input ≡ now.input → EndsAs (run_from shown playout before.out) ending (reading_of so_far.read true) out
+      → RunsScript shown playout ending before (record { input = input; out = out })
   input_ended ending input out at_end same ends = record {
     reading = reading_of so_far.read true;
     gives = subst (λ (s : SourceState). Gives so_far.read before.input.left s.left) (sym same) so_far.consumed.gives;
@@ -114,7 +115,7 @@ module _ (playout : Playout) (script : Script) (left : ℕ) (before now : Stream
   }
 
   -- a read of the input failed
-  pub read_failed : (input : SourceState) → input.left ≡ now.input.left → Rose now.input.faults input.faults → RunsScript playout ReadFault before (record { input = input; out = now.out })
+  pub read_failed : (input : SourceState) → input.left ≡ now.input.left → Rose now.input.faults input.faults → RunsScript shown playout ReadFault before (record { input = input; out = now.out })
   read_failed input same rose =
       let allowed = so_far.allowed in
       record {
@@ -122,5 +123,5 @@ module _ (playout : Playout) (script : Script) (left : ℕ) (before now : Stream
         gives = subst (λ l. Gives so_far.read before.input.left l) (sym same) so_far.consumed.gives;
         faults = subst (λ n. Rose n input.faults) so_far.consumed.faults rose;
         at_end = λ e. absurd (false≢true e);
-        ends = (refl, omega (arith, allowed), taken_done (run_from playout before.out) script so_far.read now.out so_far.taken);
+        ends = (refl, omega (arith, allowed), taken_done (run_from shown playout before.out) script so_far.read now.out so_far.taken);
       }

@@ -9,11 +9,11 @@ use Rattle.play_outside.specs.SinkState.{SinkState, after_taking}
 use Rattle.play_outside.proofs.Taking.{after_taking-nil}
 use Rattle.play_outside.proofs.Sending.{taken_more, Fails-within}
 use Rattle.history_model.specs.scripts.History.{Playout}
-use Rattle.history_model.specs.scripts.Output.{tick_output, ticks_output}
-use Rattle.history_model.proofs.Outputs.{ticks_output-snoc, ticks_output-none}
 use Rattle.run_script.specs.declared.ending.Halt.{Halt}
 use Rattle.run_script.specs.declared.ending.Halt.TheVariants as halt
 use Rattle.run_script.specs.inner.Player.{WritesText}
+use Rattle.run_script.specs.Shown.{Shown, shown_tick, shown_ticks}
+use Rattle.run_script.proofs.Shown.{shown_ticks-none, shown_ticks-snoc}
 
 replicate-more : {A : Type 0} (n : ℕ) (x : A) → replicate n x ++ x ∷ [] ≡ replicate (n + 1) x
 replicate-more zero x = refl
@@ -81,37 +81,37 @@ text_stopped text at count first state after reason so_far inside stops =
 pub tick-more : (events : List Event) (turn : ℕ) → (events ++ replicate turn event.Tick) ++ event.Tick ∷ [] ≡ events ++ replicate (turn + 1) event.Tick
 tick-more events turn = append_assoc events (replicate turn event.Tick) (event.Tick ∷ []) ∙ ap (λ (l : List Event). events ++ l) (replicate-more turn event.Tick)
 
-ticks_output-more : (playout : Playout) (events : List Event) (turn : ℕ) → ticks_output playout events (turn + 1) ≡ ticks_output playout events turn ++ tick_output playout (events ++ replicate turn event.Tick)
-ticks_output-more playout events turn = ap (ticks_output playout events) (let same : turn + 1 ≡ suc turn = omega arith in same) ∙ ticks_output-snoc playout events turn
+shown_ticks-more : (shown : Shown) (playout : Playout) (events : List Event) (turn : ℕ) → shown_ticks shown playout events (turn + 1) ≡ shown_ticks shown playout events turn ++ shown_tick shown playout (events ++ replicate turn event.Tick)
+shown_ticks-more shown playout events turn = ap (shown_ticks shown playout events) (let same : turn + 1 ≡ suc turn = omega arith in same) ∙ shown_ticks-snoc shown playout events turn
 
-ticks_output-longer : (playout : Playout) (events : List Event) (turn more : ℕ) → (rest : List ℕ) × (ticks_output playout events (turn + more) ≡ ticks_output playout events turn ++ rest)
-ticks_output-longer playout events turn zero =
-    ([], ap (ticks_output playout events) (let same : turn + 0 ≡ turn = omega arith in same) ∙ sym (append-nil (ticks_output playout events turn)))
-ticks_output-longer playout events turn (suc more) =
-    let before = ticks_output-longer playout events turn more in
-    let last = tick_output playout (events ++ replicate (turn + more) event.Tick) in (
+shown_ticks-longer : (shown : Shown) (playout : Playout) (events : List Event) (turn more : ℕ) → (rest : List ℕ) × (shown_ticks shown playout events (turn + more) ≡ shown_ticks shown playout events turn ++ rest)
+shown_ticks-longer shown playout events turn zero =
+    ([], ap (shown_ticks shown playout events) (let same : turn + 0 ≡ turn = omega arith in same) ∙ sym (append-nil (shown_ticks shown playout events turn)))
+shown_ticks-longer shown playout events turn (suc more) =
+    let before = shown_ticks-longer shown playout events turn more in
+    let last = shown_tick shown playout (events ++ replicate (turn + more) event.Tick) in (
       before.0 ++ last,
-      ap (ticks_output playout events) (let same : turn + suc more ≡ turn + more + 1 = omega arith in same)
-          ∙ ticks_output-more playout events (turn + more) ∙ ap (λ (l : List ℕ). l ++ last) before.1
-          ∙ append_assoc (ticks_output playout events turn) before.0 last,
+      ap (shown_ticks shown playout events) (let same : turn + suc more ≡ turn + more + 1 = omega arith in same)
+          ∙ shown_ticks-more shown playout events (turn + more) ∙ ap (λ (l : List ℕ). l ++ last) before.1
+          ∙ append_assoc (shown_ticks shown playout events turn) before.0 last,
     )
 
-pub no_ticks : (playout : Playout) (events : List Event) (state : SinkState) → state ≡ after_taking state (ticks_output playout events 0)
-no_ticks playout events state = sym (after_taking-nil state) ∙ ap (after_taking state) (sym (ticks_output-none playout events))
+pub no_ticks : (shown : Shown) (playout : Playout) (events : List Event) (state : SinkState) → state ≡ after_taking state (shown_ticks shown playout events 0)
+no_ticks shown playout events state = sym (after_taking-nil state) ∙ ap (after_taking state) (sym (shown_ticks-none shown playout events))
 
--- the frames of one tick more were written
-pub tick_written : (playout : Playout) (events : List Event) (turn : ℕ) (first state after : SinkState) → state ≡ after_taking first (ticks_output playout events turn)
-    → after ≡ after_taking state (tick_output playout (events ++ replicate turn event.Tick)) → after ≡ after_taking first (ticks_output playout events (turn + 1))
-tick_written playout events turn first state after so_far step =
-    taken_more (ticks_output playout events turn) (tick_output playout (events ++ replicate turn event.Tick)) first state after so_far step
-    ∙ ap (after_taking first) (sym (ticks_output-more playout events turn))
+-- what is shown of one tick more was written
+pub tick_written : (shown : Shown) (playout : Playout) (events : List Event) (turn : ℕ) (first state after : SinkState) → state ≡ after_taking first (shown_ticks shown playout events turn)
+    → after ≡ after_taking state (shown_tick shown playout (events ++ replicate turn event.Tick)) → after ≡ after_taking first (shown_ticks shown playout events (turn + 1))
+tick_written shown playout events turn first state after so_far step =
+    taken_more (shown_ticks shown playout events turn) (shown_tick shown playout (events ++ replicate turn event.Tick)) first state after so_far step
+    ∙ ap (after_taking first) (sym (shown_ticks-more shown playout events turn))
 
--- the frames of a tick stopped the run
-pub tick_stopped : (playout : Playout) (events : List Event) (turn count : ℕ) (first state after : SinkState) (reason : Halt) → state ≡ after_taking first (ticks_output playout events turn) → turn < count
-    → WritesText (Err reason) (tick_output playout (events ++ replicate turn event.Tick)) state after → WritesText (Err reason) (ticks_output playout events count) first after
-tick_stopped playout events turn count first state after reason so_far inside stops =
-    let more = ticks_output-longer playout events (turn + 1) (count - (turn + 1)) in
-    stopped_within reason (ticks_output playout events count) (ticks_output playout events turn) (tick_output playout (events ++ replicate turn event.Tick)) more.0 first state after
-    (ap (ticks_output playout events) (let all : count ≡ turn + 1 + (count - (turn + 1)) = omega (arith, inside) in all)
-    ∙ more.1 ∙ ap (λ (l : List ℕ). l ++ more.0) (ticks_output-more playout events turn))
+-- what is shown of a tick stopped the run
+pub tick_stopped : (shown : Shown) (playout : Playout) (events : List Event) (turn count : ℕ) (first state after : SinkState) (reason : Halt) → state ≡ after_taking first (shown_ticks shown playout events turn) → turn < count
+    → WritesText (Err reason) (shown_tick shown playout (events ++ replicate turn event.Tick)) state after → WritesText (Err reason) (shown_ticks shown playout events count) first after
+tick_stopped shown playout events turn count first state after reason so_far inside stops =
+    let more = shown_ticks-longer shown playout events (turn + 1) (count - (turn + 1)) in
+    stopped_within reason (shown_ticks shown playout events count) (shown_ticks shown playout events turn) (shown_tick shown playout (events ++ replicate turn event.Tick)) more.0 first state after
+    (ap (shown_ticks shown playout events) (let all : count ≡ turn + 1 + (count - (turn + 1)) = omega (arith, inside) in all)
+    ∙ more.1 ∙ ap (λ (l : List ℕ). l ++ more.0) (shown_ticks-more shown playout events turn))
     so_far stops

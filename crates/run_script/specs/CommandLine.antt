@@ -1,5 +1,5 @@
 -- The words of the command line.
-use Rattle.std.specs.Prelude.{ℕ, ◌≤◌, unwrap_or, ◌&&◌, Bool, true, false, if◌then◌else◌, Option, Some, None, option_map, option_and_then, List, [], ◌∷◌, codes}
+use Rattle.std.specs.Prelude.{ℕ, ◌≤◌, unwrap_or, Bool, true, false, if◌then◌else◌, Option, Some, None, option_map, option_and_then, List, [], ◌∷◌, codes}
 use Rattle.std.specs.Str.{bytes_eq}
 use Rattle.amcp_text.specs.Numbers.{number_within}
 use Rattle.play_types.specs.declared.geometry.Geometry.{Geometry}
@@ -7,14 +7,21 @@ use Rattle.play_types.specs.declared.geometry.TheConstants.{MAX_SIDE}
 use Rattle.play_types.specs.Geometry.{IsSize}
 use Rattle.run_script.specs.declared.command_line.CommandLine as declared
 use Rattle.run_script.specs.declared.command_line.CommandLine.TheVariants as line
-use Rattle.run_script.specs.declared.command_line.TheConstants.{MAX_WORKERS}
+use Rattle.run_script.specs.declared.command_line.TheConstants.{MAX_SEED, MAX_STEPS, MAX_WORKERS}
+use Rattle.run_script.specs.Shown.{Shown, Frames, Status}
 
 -- what words name
 pub data CommandLine : Type 0 where
   -- one channel of a size, without sound and without clips
   Plain : Geometry → CommandLine
-  -- the configuration at a path, given by its bytes, and whether frames are written as digests
-  Configured : List ℕ → Bool → CommandLine
+  -- how ticks are told, the configuration at a path, given by its bytes, and whether frames are written as digests
+  Configured : Shown → List ℕ → Bool → CommandLine
+  -- the script that is made of a seed and a number of steps
+  Generated : ℕ → ℕ → CommandLine
+  -- a clip that is converted
+  Converted : CommandLine
+  -- a cue sheet on the configuration at a path, given by its bytes, and whether frames are written as digests
+  Planned : List ℕ → Bool → CommandLine
 
 -- a width or a height
 abbrev pub side : List ℕ → Option ℕ
@@ -24,12 +31,10 @@ side word = number_within 1 MAX_SIDE word
 abbrev pub geometry : ℕ → ℕ → Geometry
 geometry width height = record { width = width; height = height; pairs = 0 }
 
--- the size that the words `run W H` name
+-- the size that the words `W H` name
 abbrev pub size_of : List (List ℕ) → Option Geometry
-size_of (word ∷ width ∷ height ∷ []) =
-    if bytes_eq word (codes "run")
-    then option_and_then (λ (w : ℕ). option_map (geometry w) (side height)) (side width)
-    else None
+size_of (width ∷ height ∷ []) =
+    option_and_then (λ (w : ℕ). option_map (geometry w) (side height)) (side width)
 size_of other = None
 
 -- a number of workers
@@ -53,20 +58,63 @@ abbrev pub workers_of : List (List ℕ) → ℕ
 workers_of (option ∷ number ∷ rest) = if bytes_eq option (codes "--workers") then unwrap_or (workers number) 1 else 1
 workers_of other = 1
 
--- what the words `run W H` name, or those that begin with `run --config PATH`
+-- what the words after `run` name: a size, or `--config`, a path and options
+abbrev pub run_of : List (List ℕ) → Option CommandLine
+run_of (word ∷ next ∷ rest) =
+    if bytes_eq word (codes "--config") then option_map (Configured Frames next) (options_of rest)
+    else option_map Plain (size_of (word ∷ next ∷ rest))
+run_of other = None
+
+-- the script that the words after `gen` name: a seed of 64 bits, and 1 to 100,000 steps
+abbrev pub generated_of : List (List ℕ) → Option CommandLine
+generated_of (seed ∷ steps ∷ []) =
+    option_and_then
+    (λ (s : ℕ). option_map (Generated s) (number_within 1 MAX_STEPS steps))
+    (number_within 0 MAX_SEED seed)
+generated_of other = None
+
+-- what the words after `convert` name: there are none
+abbrev pub converted_of : List (List ℕ) → Option CommandLine
+converted_of [] = Some Converted
+converted_of (word ∷ rest) = None
+
+-- the cue sheet that the words after `plan` name: `--config`, a path and options
+abbrev pub planned_of : List (List ℕ) → Option CommandLine
+planned_of (word ∷ path ∷ rest) =
+    if bytes_eq word (codes "--config") then option_map (Planned path) (options_of rest) else None
+planned_of other = None
+
+-- the script that the words after `osc` name: `--config` and a path, on whose channels it is played with their status in place
+-- of frames
+abbrev pub reported_of : List (List ℕ) → Option CommandLine
+reported_of (word ∷ path ∷ []) = if bytes_eq word (codes "--config") then Some (Configured Status path false) else None
+reported_of other = None
+
+-- what words name, by the first of them
 abbrev pub command_line_of : List (List ℕ) → Option CommandLine
-command_line_of (word ∷ next ∷ path ∷ rest) =
-    if bytes_eq word (codes "run") && bytes_eq next (codes "--config")
-    then option_map (Configured path) (options_of rest)
-    else option_map Plain (size_of (word ∷ next ∷ path ∷ rest))
-command_line_of other = None
+command_line_of [] = None
+command_line_of (word ∷ rest) =
+    if bytes_eq word (codes "run") then run_of rest
+    else if bytes_eq word (codes "gen") then generated_of rest
+    else if bytes_eq word (codes "convert") then converted_of rest
+    else if bytes_eq word (codes "plan") then planned_of rest
+    else if bytes_eq word (codes "osc") then reported_of rest
+    else None
 
 -- the command line that the code has, its path by its bytes
 abbrev pub command_line_view : declared.CommandLine → CommandLine
 command_line_view (line.Plain size) = Plain size
-command_line_view (line.Configured path digests workers) = Configured path.now digests
+command_line_view (line.Configured path digests workers) = Configured Frames path.now digests
+command_line_view (line.Generated seed steps) = Generated seed steps
+command_line_view line.Converted = Converted
+command_line_view (line.Planned path digests workers) = Planned path.now digests
+command_line_view (line.Reported path) = Configured Status path.now false
 
--- a size in range, without sound, or a number of workers in range
+-- a size in range, without sound, or a number of workers or of steps in range
 abbrev pub IsInRange : declared.CommandLine → Type 0
 IsInRange (line.Plain size) = IsSize size.width size.height 0
 IsInRange (line.Configured path digests workers) = (1 ≤ workers) × (workers ≤ MAX_WORKERS)
+IsInRange (line.Generated seed steps) = steps ≤ MAX_STEPS
+IsInRange line.Converted = Unit {0}
+IsInRange (line.Planned path digests workers) = (1 ≤ workers) × (workers ≤ MAX_WORKERS)
+IsInRange (line.Reported path) = Unit {0}

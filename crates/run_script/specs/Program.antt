@@ -11,19 +11,31 @@ use Rattle.history_model.specs.declared.limits.TheConstants.{MAX_INPUT_BYTES}
 use Rattle.history_model.specs.scripts.Line.{ScriptLine, Comment, Ticks, Said, Stop, Rejected, until_stop}
 use Rattle.history_model.specs.scripts.History.{Playout, PlayedLine, ends_at, goes_on}
 use Rattle.history_model.specs.scripts.Input.{ended_lines}
-use Rattle.history_model.specs.scripts.Output.{plain_config, script_output}
+use Rattle.history_model.specs.scripts.Output.{plain_config}
+use Rattle.history_model.specs.scripts.Generator.{generator_output}
 use Rattle.play_types.specs.declared.geometry.Geometry.{Geometry}
 use Rattle.play_scene.specs.Picture.{clips_of}
 use Rattle.run_script.specs.declared.ending.Ending.{Ending}
-use Rattle.run_script.specs.Ending.{status_of, fault_line}
+use Rattle.run_script.specs.Ending.{exit_status, last_line, status_of, fault_line}
 use Rattle.server_setup.specs.declared.setup.ServerSetup.{ServerSetup}
 use Rattle.server_setup.specs.declared.fault.RunFault.{RunFault}
 use Rattle.server_setup.specs.declared.fault.RunFault.TheVariants.{Usage}
-use Rattle.run_script.specs.CommandLine.{CommandLine, Plain, Configured, command_line_of}
+use Rattle.run_script.specs.CommandLine.{CommandLine, Plain, Configured, Generated, Converted, Planned, command_line_of}
+use Rattle.play_types.specs.ClipFile.{ClipView, clip_bytes}
+use Rattle.clip_format.specs.Decoding.{clip_of}
+use Rattle.clip_format.specs.Preparing.{straight_clip}
+use Rattle.run_script.specs.declared.converting.TheConstants.{MAX_CLIP_BYTES}
+use Rattle.run_script.specs.Generating.{Generates}
+use Rattle.run_script.specs.Converting.{Converts}
+use Rattle.run_script.specs.Planning.{PlaysPlan, PlaysSheet}
+use Rattle.play_schedule.specs.declared.limits.TheConstants.{MAX_SHEET_BYTES}
+use Rattle.play_schedule.specs.SheetView.{SheetView}
+use Rattle.play_schedule.specs.Sheet.{sheet_of}
 use Rattle.run_script.specs.Script.{meanings, played_meanings}
 use Rattle.server_setup.specs.Setup.{SetsUp, fault_of_files}
 use Rattle.server_setup.specs.Fault as table
 use Rattle.run_script.specs.Run.{Streams, RunsScript}
+use Rattle.run_script.specs.Shown.{Shown, Frames, shown_output}
 
 -- all that `run_main` reads and writes: the folder of configurations and clips, the input and the output
 pub record Outside : Type 0 where
@@ -45,12 +57,12 @@ SaysUsage before after =
     (after.media ≡ before.media) × (after.input ≡ before.input) × WritesFaultLine (table.fault_line Usage) before.out after.out
 
 -- a script was run, and then the output says what went wrong, if something did
-pub record EndsRun (playout : Playout) (status : ℕ) (before after : Streams) : Type 0 where
+pub record EndsRun (shown : Shown) (playout : Playout) (status : ℕ) (before after : Streams) : Type 0 where
   pub ending : Ending
   pub outcome : status ≡ status_of ending
   -- the output before the line of the fault
   pub between : SinkState
-  pub run : RunsScript playout ending before (record { input = after.input; out = between })
+  pub run : RunsScript shown playout ending before (record { input = after.input; out = between })
   pub said : WritesFaultLine (fault_line ending) between after.out
 
 -- what a script is played on if the words name a size alone: one channel, without clips, whose frames are written in
@@ -72,17 +84,57 @@ pub record IsRefused (path : List ℕ) (status : ℕ) (before after : Outside) :
   pub said : WritesFaultLine (table.fault_line fault) before.out after.out
 
 -- a script was run on the configuration of this path and the clips of its folder
-pub record IsConfigured (path : List ℕ) (digests : Bool) (status : ℕ) (before after : Outside) : Type 0 where
+pub record IsConfigured (shown : Shown) (path : List ℕ) (digests : Bool) (status : ℕ) (before after : Outside) : Type 0 where
   pub setup : ServerSetup
   pub set_up : SetsUp path (Ok setup) before.media after.media
-  pub run : EndsRun (playout_of setup digests) status (streams_of before) (streams_of after)
+  pub run : EndsRun shown (playout_of setup digests) status (streams_of before) (streams_of after)
+
+-- the summary of a made script was written, or the output says why not; nothing is read
+pub record EndsGenerated (seed steps status : ℕ) (before after : Outside) : Type 0 where
+  pub fault : Option RunFault
+  pub outcome : status ≡ exit_status fault
+  -- the output before the line of the fault
+  pub between : SinkState
+  pub made : Generates seed steps fault before.out between
+  pub said : WritesFaultLine (last_line fault) between after.out
+  pub media : after.media ≡ before.media
+  pub unread : after.input ≡ before.input
+
+-- the clip of the input was written with straight alpha, or the output says why not
+pub record EndsConverted (status : ℕ) (before after : Outside) : Type 0 where
+  pub fault : Option RunFault
+  pub outcome : status ≡ exit_status fault
+  -- the output before the line of the fault
+  pub between : SinkState
+  pub made : Converts fault (streams_of before) (record { input = after.input; out = between })
+  pub said : WritesFaultLine (last_line fault) between after.out
+  pub media : after.media ≡ before.media
+
+-- the cue sheet of the input was played, or the output says why not
+pub record EndsPlan (playout : Playout) (status : ℕ) (before after : Streams) : Type 0 where
+  pub fault : Option RunFault
+  pub outcome : status ≡ exit_status fault
+  -- the output before the line of the fault
+  pub between : SinkState
+  pub plan : PlaysPlan playout fault before (record { input = after.input; out = between })
+  pub said : WritesFaultLine (last_line fault) between after.out
+
+-- a cue sheet was played on the configuration of this path and the clips of its folder
+pub record IsPlanned (path : List ℕ) (digests : Bool) (status : ℕ) (before after : Outside) : Type 0 where
+  pub setup : ServerSetup
+  pub set_up : SetsUp path (Ok setup) before.media after.media
+  pub run : EndsPlan (playout_of setup digests) status (streams_of before) (streams_of after)
 
 -- what a command line does
 abbrev pub RunsCommandLine : CommandLine → ℕ → Outside → Outside → Type 0
 RunsCommandLine (Plain size) status before after =
-    (after.media ≡ before.media) × EndsRun (plain_playout size) status (streams_of before) (streams_of after)
-RunsCommandLine (Configured path digests) status before after =
-    IsRefused path status before after ⊎ IsConfigured path digests status before after
+    (after.media ≡ before.media) × EndsRun Frames (plain_playout size) status (streams_of before) (streams_of after)
+RunsCommandLine (Configured shown path digests) status before after =
+    IsRefused path status before after ⊎ IsConfigured shown path digests status before after
+RunsCommandLine (Generated seed steps) status before after = EndsGenerated seed steps status before after
+RunsCommandLine Converted status before after = EndsConverted status before after
+RunsCommandLine (Planned path digests) status before after =
+    IsRefused path status before after ⊎ IsPlanned path digests status before after
 
 -- the run ended at a line, which is the server's own stop or a kill, and the input was read at least to that line's end
 pub record EndsAtLine (playout : Playout) (played : List PlayedLine) (read rest : List ℕ) : Type 0 where
@@ -97,7 +149,7 @@ pub record EndsAtLine (playout : Playout) (played : List PlayedLine) (read rest 
 
 -- the output of the lines of an input was written, and nothing else, if the sessions gave up some of the lines out of memory;
 -- the input was read to its end, or to a line at which the run ends
-pub record PlaysInput (playout : Playout) (input : List ℕ) (before after : Streams) : Type 0 where
+pub record PlaysInput (shown : Shown) (playout : Playout) (input : List ℕ) (before after : Streams) : Type 0 where
   pub read : List ℕ
   pub rest : List ℕ
   pub parts : input ≡ read ++ rest
@@ -105,21 +157,59 @@ pub record PlaysInput (playout : Playout) (input : List ℕ) (before after : Str
   pub played : List PlayedLine
   pub said : played_meanings played ≡ meanings (lines input)
   pub ended : ((goes_on playout played ≡ true) × (rest ≡ [])) ⊎ EndsAtLine playout played read rest
-  pub written : after.out ≡ after_taking before.out (script_output playout played)
+  pub written : after.out ≡ after_taking before.out (shown_output shown playout played)
 
 -- the input was played, if its bytes are known, and no read or write failed
-abbrev pub IsPlayed : Playout → Streams → Streams → Type 0
-IsPlayed playout before after =
-    IfSome before.input.left (λ input. PlaysInput playout input before after)
+abbrev pub IsPlayed : Shown → Playout → Streams → Streams → Type 0
+IsPlayed shown playout before after =
+    IfSome before.input.left (λ input. PlaysInput shown playout input before after)
     × (after.input.faults ≡ before.input.faults) × (after.out.faults ≡ before.out.faults)
 
--- the input was played on what the command line names
+-- the four lines of the summary of a made script were written, and nothing else, and nothing was read
+pub record WritesSummary (seed steps : ℕ) (before after : Outside) : Type 0 where
+  pub written : after.out ≡ after_taking before.out (generator_output seed steps)
+  pub media : after.media ≡ before.media
+  pub unread : after.input ≡ before.input
+
+-- the clip of an input was written in version 2, and nothing else; the input was read to its end
+pub record WritesStraight (input : List ℕ) (before after : Outside) : Type 0 where
+  pub clip : ClipView
+  pub reads : clip_of input ≡ Ok clip
+  pub at_end : after.input.left ≡ Some []
+  pub written : after.out ≡ after_taking before.out (clip_bytes (straight_clip clip))
+
+-- the input is a clip that was converted, if its bytes are known, and no read or write failed
+abbrev pub IsConverted : Outside → Outside → Type 0
+IsConverted before after =
+    IfSome before.input.left (λ input. WritesStraight input before after)
+    × (after.media ≡ before.media) × (after.input.faults ≡ before.input.faults) × (after.out.faults ≡ before.out.faults)
+
+-- the sheet of an input was played, and the input was read to its end
+pub record PlaysSheetInput (playout : Playout) (input : List ℕ) (before after : Streams) : Type 0 where
+  pub sheet : SheetView
+  pub reads : sheet_of playout.config.rate input ≡ Ok sheet
+  pub at_end : after.input.left ≡ Some []
+  pub plays : PlaysSheet playout sheet before.out after.out
+
+-- the input is a cue sheet that was played, if its bytes are known, and no read or write failed
+abbrev pub IsSheetPlayed : Playout → Streams → Streams → Type 0
+IsSheetPlayed playout before after =
+    IfSome before.input.left (λ input. PlaysSheetInput playout input before after)
+    × (after.input.faults ≡ before.input.faults) × (after.out.faults ≡ before.out.faults)
+
+-- the input was played on what the command line names, or the script that it names was made and played, or the clip of the
+-- input was converted, or its cue sheet was played
 abbrev pub PlaysToEnd : CommandLine → Outside → Outside → Type 0
 PlaysToEnd (Plain size) before after =
-    (after.media ≡ before.media) × IsPlayed (plain_playout size) (streams_of before) (streams_of after)
-PlaysToEnd (Configured path digests) before after =
+    (after.media ≡ before.media) × IsPlayed Frames (plain_playout size) (streams_of before) (streams_of after)
+PlaysToEnd (Configured shown path digests) before after =
     (setup : ServerSetup) × SetsUp path (Ok setup) before.media after.media
-    × IsPlayed (playout_of setup digests) (streams_of before) (streams_of after)
+    × IsPlayed shown (playout_of setup digests) (streams_of before) (streams_of after)
+PlaysToEnd (Generated seed steps) before after = WritesSummary seed steps before after
+PlaysToEnd Converted before after = IsConverted before after
+PlaysToEnd (Planned path digests) before after =
+    (setup : ServerSetup) × SetsUp path (Ok setup) before.media after.media
+    × IsSheetPlayed (playout_of setup digests) (streams_of before) (streams_of after)
 
 -- a read or a write of the input or of the output failed
 abbrev pub StreamsFail : Outside → Outside → Type 0
@@ -140,14 +230,23 @@ MeetsFault (Some fault) status before after =
 -- the first fault of the files that the command line names is met, if the files are known
 abbrev pub MeetsFirstFault : CommandLine → ℕ → Outside → Outside → Type 0
 MeetsFirstFault (Plain size) status before after = status ≢ 3
-MeetsFirstFault (Configured path digests) status before after =
+MeetsFirstFault (Configured shown path digests) status before after =
+    IfSome before.media.files (λ files. MeetsFault (fault_of_files path files) status before after)
+MeetsFirstFault (Generated seed steps) status before after = status ≢ 3
+MeetsFirstFault Converted status before after = status ≢ 3
+MeetsFirstFault (Planned path digests) status before after =
     IfSome before.media.files (λ files. MeetsFault (fault_of_files path files) status before after)
 
 -- what the command line names can be set up: with a configuration, if the files are known and have no fault, and no read of
 -- the folder fails
 abbrev pub CanBeSetUp : CommandLine → Outside → Outside → Type 0
 CanBeSetUp (Plain size) before after = Unit {0}
-CanBeSetUp (Configured path digests) before after =
+CanBeSetUp (Configured shown path digests) before after =
+    (files : Files) × (before.media.files ≡ Some files) × (fault_of_files path files ≡ None)
+    × (Rose before.media.faults after.media.faults → ⊥)
+CanBeSetUp (Generated seed steps) before after = Unit {0}
+CanBeSetUp Converted before after = Unit {0}
+CanBeSetUp (Planned path digests) before after =
     (files : Files) × (before.media.files ≡ Some files) × (fault_of_files path files ≡ None)
     × (Rose before.media.faults after.media.faults → ⊥)
 
@@ -165,10 +264,31 @@ IsValid input =
     (bytes : List ℕ) × (input.left ≡ Some bytes) × (length bytes ≤ MAX_INPUT_BYTES)
     × (list_all is_accepted (until_stop (meanings (lines bytes))) ≡ true)
 
--- a valid script was played on what could be set up, with no fault of a device: only memory could run out
+-- the bytes of the input are known, they are not too many for a clip, and they are a clip file
+abbrev pub IsClipInput : SourceState → Type 0
+IsClipInput input =
+    (bytes : List ℕ) × (input.left ≡ Some bytes) × (length bytes ≤ MAX_CLIP_BYTES) × (clip : ClipView) × (clip_of bytes ≡ Ok clip)
+
+-- the bytes of the input are known, they are not too many for a cue sheet, and they are one at the rate of the configuration of
+-- this path
+abbrev pub IsSheetInput : List ℕ → Outside → Outside → Type 0
+IsSheetInput path before after =
+    (bytes : List ℕ) × (before.input.left ≡ Some bytes) × (length bytes ≤ MAX_SHEET_BYTES)
+    × ((setup : ServerSetup) → SetsUp path (Ok setup) before.media after.media
+    → (sheet : SheetView) × (sheet_of setup.config.rate bytes ≡ Ok sheet))
+
+-- the input is what the command line takes: a made script takes none
+abbrev pub TakesInput : CommandLine → Outside → Outside → Type 0
+TakesInput (Plain size) before after = IsValid before.input
+TakesInput (Configured shown path digests) before after = IsValid before.input
+TakesInput (Generated seed steps) before after = Unit {0}
+TakesInput Converted before after = IsClipInput before.input
+TakesInput (Planned path digests) before after = IsSheetInput path before after
+
+-- what the input and the words ask for was done, with no fault of a device: only memory could run out
 abbrev pub SucceedsIfValid : CommandLine → ℕ → Outside → Outside → Type 0
 SucceedsIfValid line status before after =
-    CanBeSetUp line before after → IsValid before.input → (StreamsFail before after → ⊥) → (status ≡ 0) ⊎ (status ≡ 5)
+    CanBeSetUp line before after → TakesInput line before after → (StreamsFail before after → ⊥) → (status ≡ 0) ⊎ (status ≡ 5)
 
 -- what `run_main` promises of these words, its exit status, and the outside before and after the call
 pub record PlaysScript (words : List (List ℕ)) (status : ℕ) (before after : Outside) : Type 0 where

@@ -10,11 +10,18 @@ use Rattle.history_model.specs.scripts.Input.{ended_lines, received}
 use Rattle.run_script.specs.declared.ending.Ending.{Ending}
 use Rattle.run_script.specs.declared.ending.Ending.TheVariants.{Finished, Stopped, BadLine, TooLong, ReadFault, WriteFault, Memory}
 use Rattle.run_script.specs.Script.{Run, Reading, IsDone, StopsAt, RejectsAt, FailsAt}
+use Rattle.run_script.specs.Shown.{Shown}
 
 -- the input and the output of a run
 pub record Streams : Type 0 where
   pub input : SourceState
   pub out : SinkState
+
+-- these bytes are all of the input, without a fault of it, and they are at most so many
+pub record IsWholeInput (most : ℕ) (bytes : List ℕ) (before after : Streams) : Type 0 where
+  pub at_end : IsAtEnd after.input
+  pub quiet : after.input.faults ≡ before.input.faults
+  pub few : length bytes ≤ most
 
 -- a part of a reading from its first byte on, within the bytes that an input may have
 pub record IsPrefix (whole part : Reading) : Type 0 where
@@ -47,9 +54,9 @@ FaultsOf WriteFault before after = after ≡ before
 FaultsOf Memory before after = after ≡ before
 
 -- what was read of the input, and how the run ended after it
-pub record RunsScript (playout : Playout) (ending : Ending) (before after : Streams) : Type 0 where
+pub record RunsScript (shown : Shown) (playout : Playout) (ending : Ending) (before after : Streams) : Type 0 where
   pub reading : Reading
   pub gives : Gives reading.bytes before.input.left after.input.left
   pub faults : FaultsOf ending before.input.faults after.input.faults
   pub at_end : reading.ended ≡ true → IsAtEnd after.input
-  pub ends : EndsAs (record { playout = playout; first = before.out }) ending reading after.out
+  pub ends : EndsAs (record { playout = playout; shown = shown; first = before.out }) ending reading after.out

@@ -5,11 +5,12 @@ use Rattle.play_outside.specs.Sink.{Fails}
 use Rattle.history_model.specs.scripts.Line.{ScriptLine, Rejected, meaning}
 use Rattle.history_model.specs.scripts.History.{Playout, PlayedLine, ends_at, goes_on}
 use Rattle.history_model.specs.scripts.Input.{received}
-use Rattle.history_model.specs.scripts.Output.{script_output}
+use Rattle.run_script.specs.Shown.{Shown, shown_output}
 
--- a run: what its script is played on, and the output before its first line
+-- a run: what its script is played on, how ticks are told, and the output before its first line
 pub record Run : Type 0 where
   pub playout : Playout
+  pub shown : Shown
   pub first : SinkState
 
 -- bytes that were read of an input, and whether the input ended after them
@@ -34,7 +35,7 @@ pub record IsDone (run : Run) (lines : List (List ℕ)) (state : SinkState) : Ty
   pub played : List PlayedLine
   pub said : played_meanings played ≡ meanings lines
   pub runs_on : goes_on run.playout played ≡ true
-  pub written : state ≡ after_taking run.first (script_output run.playout played)
+  pub written : state ≡ after_taking run.first (shown_output run.shown run.playout played)
 
 -- the lines of a reading were played up to the last of them
 pub record IsAtLast (playout : Playout) (reading : Reading) : Type 0 where
@@ -48,17 +49,17 @@ pub record StopsAt (run : Run) (reading : Reading) (state : SinkState) : Type 0 
   pub at : IsAtLast run.playout reading
   pub accepted : at.last.line ≢ Rejected
   pub ends : ends_at run.playout at.before at.last at.last.line ≡ true
-  pub written : state ≡ after_taking run.first (script_output run.playout (at.before ++ at.last ∷ []))
+  pub written : state ≡ after_taking run.first (shown_output run.shown run.playout (at.before ++ at.last ∷ []))
 
 -- the last line, which has this number, is rejected, and the output of the lines before it was written
 pub record RejectsAt (run : Run) (reading : Reading) (number : ℕ) (state : SinkState) : Type 0 where
   pub at : IsAtLast run.playout reading
   pub rejected : at.last.line ≡ Rejected
   pub place : number ≡ length at.before + 1
-  pub written : state ≡ after_taking run.first (script_output run.playout at.before)
+  pub written : state ≡ after_taking run.first (shown_output run.shown run.playout at.before)
 
 -- a write of the output of the lines failed, at the last of them, and nothing was written after it
 pub record FailsAt (run : Run) (reading : Reading) (state : SinkState) : Type 0 where
   pub at : IsAtLast run.playout reading
   pub accepted : at.last.line ≢ Rejected
-  pub written : Fails (script_output run.playout (at.before ++ at.last ∷ [])) run.first state
+  pub written : Fails (shown_output run.shown run.playout (at.before ++ at.last ∷ [])) run.first state

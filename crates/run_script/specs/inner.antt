@@ -5,3 +5,7 @@ pub mod Player
 pub mod Taken
 pub mod Outcome
 pub mod Ticks
+pub mod Generator
+pub mod Made
+pub mod Reading
+pub mod Planned

@@ -7,15 +7,15 @@ ghost use Rattle.history_model.specs.commands.Channels.{AreAimed};
 ghost use Rattle.history_model.specs.scripts.History.{Playout, PlayedLine, same_tag};
 ghost use Rattle.play_session.specs.Session.{Fits};
 ghost use Rattle.play_session.specs.Step.{ends};
-ghost use Rattle.run_script.specs.inner.Clients.{AddsClient, AreClients, ClientTakesLine, ClientsTakeLine, HaveAimedBatches, IsPlaceOf, ServesConnection, batch_of, kept_session, session_batch};
+ghost use Rattle.run_script.specs.inner.Clients.{AddsClient, AreClients, ClientTakesLine, ClientsTakeLine, HasTokenOf, HaveAimedBatches, IsPlaceOf, ServesConnection, batch_of, kept_session, session_batch, step_in};
 
-use crate::clients::{Client, Clients};
+use crate::clients::{Client, ClientStep, Clients};
 use play_session::{Session, Step};
 use play_types::{Cmd, Config, MediaNames, Tag};
 use std::alloc::{AllocError, Global};
 
 impl Clients {
-    /// Takes a line of a connection, its end left out, and returns its step: `None` if the connection has ended
+    /// Takes a line of a connection, its end left out, and returns its step with its token: `None` if the connection has ended
     /// before. The commands of the batch that it asks for are those of [`Clients::batch`], of which there is one at least.
     pub fn take_line(
         &mut self,
@@ -24,13 +24,14 @@ impl Clients {
         text: &[u8],
         config: &Config,
         media: &MediaNames,
-    ) -> Result<Option<Step>, AllocError>
-        ensures fits { IfOk result (λ found. IfSome found (Fits config.now)) }
-        ensures filled { IfOk result (λ found. found ≡ Some Step.AskBatch → batch_of tag self.new.list.items ≢ []) }
+    ) -> Result<Option<ClientStep>, AllocError>
+        ensures fits { IfOk result (λ found. IfSome found (λ given. Fits config.now given.step)) }
+        ensures filled { IfOk result (λ found. step_in found ≡ Some Step.AskBatch → batch_of tag self.new.list.items ≢ []) }
+        ensures token { IfOk result (HasTokenOf text.now) }
         ensures aimed { HaveAimedBatches config.now self.old.list.items → OnOk result (HaveAimedBatches config.now self.new.list.items) }
         ensures takes { (playout : Playout) (played : List PlayedLine) (no_memory : Bool) → config.now ≡ playout.config → media.now ≡ playout.names
             → list_any is_line_end text.now ≡ false → AreClients playout self.old.list.items played
-            → IfOk result (λ found. ClientsTakeLine (record { playout = playout; played = played; tag = tag; text = text.now; no_memory = no_memory }) found self.new.list.items) }
+            → IfOk result (λ found. ClientsTakeLine (record { playout = playout; played = played; tag = tag; text = text.now; no_memory = no_memory }) (step_in found) self.new.list.items) }
     {
         let at = self.place_of(alloc, tag)?;
         Ok(take_client_line(&mut self.list[at], alloc, text, config, media))
@@ -86,29 +87,31 @@ fn batch_in(client: &Client) -> &[Cmd]
     }
 }
 
-/// Hands a line to the session of a connection, and returns its step: `None` if the connection has ended before. The session
-/// of a connection that ends is dropped.
+/// Hands a line to the session of a connection, and returns its step with its token: `None` if the connection has ended before.
+/// The session of a connection that ends is dropped.
 fn take_client_line(
     client: &mut Client,
     alloc: Global,
     text: &[u8],
     config: &Config,
     media: &MediaNames,
-) -> Option<Step>
+) -> Option<ClientStep>
     ensures tag { client.new.tag ≡ client.old.tag }
-    ensures fits { IfSome result (Fits config.now) }
-    ensures filled { result ≡ Some Step.AskBatch → session_batch client.new.session ≢ [] }
+    ensures fits { IfSome result (λ given. Fits config.now given.step) }
+    ensures token { HasTokenOf text.now result }
+    ensures filled { step_in result ≡ Some Step.AskBatch → session_batch client.new.session ≢ [] }
     ensures aimed { AreAimed config.now (session_batch client.old.session) → AreAimed config.now (session_batch client.new.session) }
     ensures takes { (playout : Playout) (played : List PlayedLine) (no_memory : Bool) → config.now ≡ playout.config → media.now ≡ playout.names
         → list_any is_line_end text.now ≡ false → ServesConnection playout client.old played
-        → ClientTakesLine (record { playout = playout; played = played; tag = client.old.tag; text = text.now; no_memory = no_memory }) result client.new }
+        → ClientTakesLine (record { playout = playout; played = played; tag = client.old.tag; text = text.now; no_memory = no_memory }) (step_in result) client.new }
 {
     let Some(mut session) = client.session.take() else {
         return None;
     };
     let step = session.take_line(alloc, text, config, media);
+    let token = session.token().copied();
     client.session = kept(session, &step);
-    Some(step)
+    Some(ClientStep { step, token })
 }
 
 /// Returns the session after its step, `None` if the step ended the connection.

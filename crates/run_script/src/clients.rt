@@ -6,7 +6,8 @@ ghost use Rattle.std.specs.HashMap.{get};
 ghost use Rattle.play_types.specs.declared.event.Tag.{Tag};
 ghost use Rattle.history_model.specs.scripts.History.{same_tag};
 
-use play_session::Session;
+use amcp_text::ReqToken;
+use play_session::{Session, Step};
 use play_types::Tag;
 use std::alloc::Global;
 use std::collections::HashMap;
@@ -17,6 +18,13 @@ pub struct Client {
     pub tag: Tag,
     pub session: Option<Session>,
     ghost going: { ForSome session (λ one. one.ended ≡ false) },
+}
+
+/// What is to be done for a line of a connection, and the token that the reply has.
+#[derive(Drop)]
+pub struct ClientStep {
+    pub step: Step,
+    pub token: Option<ReqToken>,
 }
 
 /// The connections that have said something, in the order of their first lines, and the place of each by its worker and its

@@ -1,14 +1,21 @@
 //! The words of the command line.
 ghost use Rattle.std.specs.Prelude.{◌≡◌, ◌≤◌, map, option_map, string_bytes, IfSome};
 ghost use Rattle.play_types.specs.Geometry.{IsSize};
-ghost use Rattle.run_script.specs.CommandLine.{IsInRange, command_line_of, command_line_view, digests_of, options_of, size_of, workers_of};
-ghost use Rattle.run_script.specs.declared.command_line.TheConstants.{MAX_WORKERS};
+ghost use Rattle.amcp_text.specs.Numbers.{number_within};
+ghost use Rattle.run_script.specs.CommandLine.{IsInRange, command_line_of, command_line_view, converted_of, digests_of, generated_of, options_of, planned_of, run_of, size_of, workers_of, reported_of};
+ghost use Rattle.run_script.specs.declared.command_line.TheConstants.{MAX_SEED, MAX_WORKERS};
 
 use amcp_text::number_within;
 use play_types::{Geometry, MAX_SIDE};
 
 /// The most workers that the words may name.
 const MAX_WORKERS: u32 = 64;
+
+/// The greatest seed of a made script.
+const MAX_SEED: u64 = u64::MAX;
+
+/// The most steps of a made script.
+pub const MAX_STEPS: u32 = 100_000;
 
 /// What the words of a command line name.
 #[derive(Clone, Copy, Debug)]
@@ -24,50 +31,92 @@ pub enum CommandLine<'a> {
         /// The number of threads that make the frames, 1 to 64.
         workers: u32,
     },
+    /// A script that is made.
+    Generated {
+        /// Where the generator begins.
+        seed: u64,
+        /// The number of steps, 1 to 100,000.
+        steps: u32,
+    },
+    /// A clip that is converted.
+    Converted,
+    /// A cue sheet on the channels and the clips of a configuration.
+    Planned {
+        /// The path of the configuration.
+        path: &'a str,
+        /// Whether frames are written as digests.
+        digests: bool,
+        /// The number of threads that make the frames, 1 to 64.
+        workers: u32,
+    },
+    /// A script on the channels and the clips of a configuration, with the status of all channels in place of frames.
+    Reported {
+        /// The path of the configuration.
+        path: &'a str,
+    },
 }
 
 impl CommandLine<'_> {
-    /// Returns what the words name: `run W H`, each number from 1 to 4,096, or `run --config PATH`, after which
-    /// `--workers N`, a whole number from 1 to 64, and then `--digest` may follow.
+    /// Returns what the words name: `run W H`, each number from 1 to 4,096; or `run --config PATH`, after which
+    /// `--workers N`, a whole number from 1 to 64, and then `--digest` may follow; or `gen SEED N`, a whole number of 64
+    /// bits and one from 1 to 100,000; or `convert`; or `plan --config PATH`, followed by what may follow `run --config PATH`;
+    /// or `osc --config PATH`.
     ///
     /// `None` comes exactly if the words are no command line. Without `--workers` there is one worker.
     pub fn read(words: &[String]) -> Option<CommandLine<'_>>
         ensures value { option_map command_line_view result ≡ command_line_of (map string_bytes words.now) }
         ensures range { IfSome result IsInRange }
     {
-        match words {
-            [run, config, path, options @ ..]
-                if run.as_str() == "run" && config.as_str() == "--config" => {
-                let digests = options_of(options)?;
-                Some(CommandLine::Configured {
-                    path: path.as_str(),
-                    digests,
-                    workers: workers_of(options),
-                })
-            }
-            _ => {
-                let size = size_of(words)?;
-                Some(CommandLine::Plain(size))
-            }
+        let (word, rest) = words.split_first()?;
+        match word.as_str() {
+            "run" => run_of(rest),
+            "gen" => generated_of(rest),
+            "convert" => converted_of(rest),
+            "plan" => planned_of(rest),
+            "osc" => reported_of(rest),
+            _ => None,
         }
     }
 }
 
-/// Returns the size that the words `run W H` name.
+/// Returns what the words after `run` name: a size, or a configuration and how it is played.
+fn run_of(words: &[String]) -> Option<CommandLine<'_>>
+    ensures value { option_map command_line_view result ≡ run_of (map string_bytes words.now) }
+    ensures range { IfSome result IsInRange }
+{
+    match words {
+        [config, path, options @ ..] if config.as_str() == "--config" => {
+            let digests = options_of(options)?;
+            Some(CommandLine::Configured {
+                path: path.as_str(),
+                digests,
+                workers: workers_of(options),
+            })
+        }
+        _ => {
+            let size = size_of(words)?;
+            Some(CommandLine::Plain(size))
+        }
+    }
+}
+
+/// Returns the size that the words `W H` name.
 fn size_of(words: &[String]) -> Option<Geometry>
     ensures value { result ≡ size_of (map string_bytes words.now) }
     ensures range { IfSome result (λ size. IsSize size.width size.height 0) }
 {
-    if words.len() != 3 || words[0].as_str() != "run" {
-        return None;
+    match words {
+        [width, height] => {
+            let width = number_within(1, u32::from(MAX_SIDE), width.as_bytes())?;
+            let height = number_within(1, u32::from(MAX_SIDE), height.as_bytes())?;
+            Some(Geometry {
+                width: width as u16,
+                height: height as u16,
+                pairs: 0,
+            })
+        }
+        _ => None,
     }
-    let width = number_within(1, u32::from(MAX_SIDE), words[1].as_bytes())?;
-    let height = number_within(1, u32::from(MAX_SIDE), words[2].as_bytes())?;
-    Some(Geometry {
-        width: width as u16,
-        height: height as u16,
-        pairs: 0,
-    })
 }
 
 /// Returns whether the words that follow a path ask for digests.
@@ -110,6 +159,70 @@ fn digests_of(words: &[String]) -> Option<bool>
     match words {
         [] => Some(false),
         [word] if word.as_str() == "--digest" => Some(true),
+        _ => None,
+    }
+}
+
+/// Returns the script that the words after `gen` name.
+fn generated_of(words: &[String]) -> Option<CommandLine<'_>>
+    ensures value { option_map command_line_view result ≡ generated_of (map string_bytes words.now) }
+    ensures range { IfSome result IsInRange }
+{
+    match words {
+        [seed, steps] => {
+            let seed = seed_of(seed.as_str())?;
+            let steps = number_within(1, MAX_STEPS, steps.as_bytes())?;
+            Some(CommandLine::Generated { seed, steps })
+        }
+        _ => None,
+    }
+}
+
+/// Returns the number of 64 bits that a word writes, in digits alone.
+fn seed_of(word: &str) -> Option<u64>
+    ensures { result ≡ number_within 0 MAX_SEED word.now }
+{
+    match word.as_bytes() {
+        [b'+', ..] => None,
+        _ => word.parse::<u64>().ok(),
+    }
+}
+
+/// Returns what the words after `convert` name: there are none.
+fn converted_of(words: &[String]) -> Option<CommandLine<'_>>
+    ensures value { option_map command_line_view result ≡ converted_of (map string_bytes words.now) }
+    ensures range { IfSome result IsInRange }
+{
+    words.is_empty().then_some(CommandLine::Converted)
+}
+
+/// Returns the cue sheet that the words after `plan` name: `--config`, a path and options.
+fn planned_of(words: &[String]) -> Option<CommandLine<'_>>
+    ensures value { option_map command_line_view result ≡ planned_of (map string_bytes words.now) }
+    ensures range { IfSome result IsInRange }
+{
+    match words {
+        [config, path, options @ ..] if config.as_str() == "--config" => {
+            let digests = options_of(options)?;
+            Some(CommandLine::Planned {
+                path: path.as_str(),
+                digests,
+                workers: workers_of(options),
+            })
+        }
+        _ => None,
+    }
+}
+
+/// Returns the script that the words after `osc` name: `--config` and a path.
+fn reported_of(words: &[String]) -> Option<CommandLine<'_>>
+    ensures value { option_map command_line_view result ≡ reported_of (map string_bytes words.now) }
+    ensures range { IfSome result IsInRange }
+{
+    match words {
+        [config, path] if config.as_str() == "--config" => Some(CommandLine::Reported {
+            path: path.as_str(),
+        }),
         _ => None,
     }
 }

@@ -1,11 +1,11 @@
 //! Lines of a script.
-ghost use Rattle.std.specs.Prelude.{◌≡◌, ◌==◌, option_map, position};
-ghost use Rattle.history_model.specs.text.Parts.{parts_at};
-ghost use Rattle.history_model.specs.scripts.Line.{addressed_parts, after_t, after_x, meaning, said_line, short_meaning, tag_of};
-ghost use Rattle.run_script.specs.inner.Line.{line_view, parts_view};
+ghost use Rattle.std.specs.Prelude.{◌≡◌};
+ghost use Rattle.history_model.specs.scripts.Line.{addressed_parts, after_t, after_x, meaning, said_line, short_meaning};
+ghost use Rattle.run_script.specs.inner.Line.{line_view};
 
-use amcp_text::{number_within, plain_number_within};
-use history_model::{MAX_SCRIPT_LINE_BYTES, MAX_SESSION, MAX_TICKS_PER_LINE, MAX_WORKER};
+use amcp_text::number_within;
+use history_model::{MAX_SCRIPT_LINE_BYTES, MAX_TICKS_PER_LINE};
+use play_schedule::{parts_at, tag_of};
 use play_types::Tag;
 
 /// What a line says.
@@ -84,29 +84,4 @@ fn said_line(line: &[u8]) -> Line<'_>
         Some(tag) => Line::Said(tag, text),
         None => Line::Rejected,
     }
-}
-
-/// Returns the tag that these digits name: a worker from 1 to 65,535 and a session from 1 to 4,294,967,295, both without
-/// leading zeros.
-fn tag_of(worker: &[u8], session: &[u8]) -> Option<Tag>
-    ensures { result ≡ tag_of worker.now session.now }
-{
-    let worker = plain_number_within(1, MAX_WORKER, worker)?;
-    let session = plain_number_within(1, MAX_SESSION, session)?;
-    Some(Tag { worker, session })
-}
-
-/// Returns the bytes before and the bytes after the first `byte` of a text, if there is one.
-fn parts_at(byte: u8, text: &[u8]) -> Option<(&[u8], &[u8])>
-    ensures { option_map parts_view result ≡ parts_at byte text.now }
-{
-    let at = place_of(byte, text)?;
-    Some((&text[..at], &text[at + 1..]))
-}
-
-/// Returns the place of the first `byte` of a text.
-fn place_of(byte: u8, text: &[u8]) -> Option<usize>
-    ensures { result ≡ position (λ c. c == byte) text.now }
-{
-    text.iter().position(|c| *c == byte)
 }

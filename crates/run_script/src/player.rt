@@ -1,30 +1,34 @@
 //! The player: the stage with the history so far, the frames, and the connections that ask for it.
-ghost use Rattle.std.specs.Prelude.{◌≡◌, ◌≢◌, ◌+◌, ◌*◌, ◌≤◌, ◌∷◌, List, [], IfOk, OnOk, false, true, length};
+ghost use Rattle.std.specs.Prelude.{◌≡◌, ◌≢◌, ℕ, ◌+◌, ◌*◌, ◌≤◌, ◌∷◌, List, [], IfOk, OnOk, Option, false, true, length};
 ghost use Rattle.std.specs.List.{list_any};
 ghost use Rattle.amcp_text.specs.Lines.{is_line_end};
 ghost use Rattle.play_types.specs.History.{ticks};
 ghost use Rattle.play_types.specs.declared.event.Event.TheVariants.{Stop};
 ghost use Rattle.play_types.specs.declared.event.TheConstants.{MAX_TICKS};
 ghost use Rattle.history_model.specs.declared.limits.TheConstants.{MAX_TICKS_PER_LINE};
-ghost use Rattle.history_model.specs.text.Replies.{IsReplyTo, reply_lines};
+ghost use Rattle.history_model.specs.text.Replies.{IsReplyTo, answer_lines};
 ghost use Rattle.history_model.specs.commands.Channels.{IsAimed};
 ghost use Rattle.history_model.specs.scripts.Line.{Said, meaning};
 ghost use Rattle.history_model.specs.scripts.History.{Playout, PlayedLine, goes_on};
 ghost use Rattle.history_model.specs.scripts.Output.{tagged_lines};
-ghost use Rattle.play_session.specs.Step.{viewed};
+ghost use Rattle.play_session.specs.Step.{gives_up, viewed};
 ghost use Rattle.play_session.specs.Session.{Fits};
 ghost use Rattle.run_script.specs.Program.{playout_of};
 ghost use Rattle.run_script.specs.inner.Clients.{batch_of};
-ghost use Rattle.run_script.specs.inner.Player.{DoesRequest, FollowsStep, IsGoingOn, IsReady, MakesEvents, PlaysLine, RepliesTo, Represents, WritesText, batch_request, command_request, events_in};
+ghost use Rattle.run_script.specs.inner.Player.{DoesRequest, FollowsStep, IsGoingOn, IsReady, MakesEvents, PlaysLine, RepliesTo, Represents, WritesReply, batch_request, command_request, events_in, IsNew, shown_by};
 ghost use Rattle.run_script.specs.inner.Ticks.{ticks_per_byte};
+ghost use Rattle.run_script.specs.Shown.{Shown, Frames, Status};
 
 use crate::clients::Clients;
+use crate::display::Display;
 use crate::ending::{Halt, written};
 use crate::line::{Line, meaning};
 use crate::reply::send_tagged_reply;
+use crate::teller::Teller;
+use amcp_text::ReqToken;
 use band_render::Renderer;
 use play_outside::Sink;
-use play_session::Step;
+use play_session::{Step, illegal_word};
 use play_types::{Answer, Cmd, Name, Reply, Scenes, Tag};
 use server_setup::ServerSetup;
 use stage_core::{ApplyFault, Stage};
@@ -37,8 +41,8 @@ const SERVER: Tag = Tag {
     session: 0,
 };
 
-/// What is played on, whether frames are written as digests, the connections, the stage with the history so far, and the scenes and
-/// the frames of its last tick.
+/// What is played on, whether frames are written as digests, the connections, the stage with the history so far, the scenes of its
+/// last tick, and what shows its ticks.
 #[derive(Drop)]
 pub struct Player {
     pub setup: ServerSetup,
@@ -46,12 +50,12 @@ pub struct Player {
     pub clients: Clients,
     pub stage: Stage,
     pub scenes: Scenes,
-    pub renderer: Renderer,
+    pub display: Display,
 }
 
 impl Player {
-    /// Returns a player that shows nothing yet and has no connection. It takes the room for the live places, the scenes and the
-    /// frames of all channels, which `workers` threads make.
+    /// Returns a player that shows frames, has shown nothing yet and has no connection. It takes the room for the live places, the
+    /// scenes and the frames of all channels, which `workers` threads make.
     pub fn new(
         alloc: Global,
         setup: ServerSetup,
@@ -62,40 +66,68 @@ impl Player {
         requires few_workers { workers ≤ 64 }
         ensures ready { IfOk result IsReady }
         ensures empty { IfOk result (λ player. events_in player ≡ []) }
-        ensures represents { IfOk result (λ player. Represents (playout_of setup digests) player []) }
+        ensures represents { IfOk result (λ player. Represents Frames (playout_of setup digests) player []) }
+    {
+        let renderer = Renderer::new(alloc, &setup.config, workers)?;
+        Player::with_display(alloc, setup, digests, Display::Frames(renderer))
+    }
+
+    /// Returns a player that tells the status of all channels, and has no connection. It takes the room for the live places and
+    /// the scenes of all channels.
+    pub fn reporting(alloc: Global, setup: ServerSetup) -> Result<Player, AllocError>
+        ensures ready { IfOk result IsReady }
+        ensures empty { IfOk result (λ player. events_in player ≡ []) }
+        ensures represents { IfOk result (λ player. Represents Status (playout_of setup false) player []) }
+    {
+        Player::with_display(alloc, setup, false, Display::Status)
+    }
+
+    /// Returns a player that has no connection and has shown nothing yet.
+    fn with_display(
+        alloc: Global,
+        setup: ServerSetup,
+        digests: bool,
+        display: Display,
+    ) -> Result<Player, AllocError>
+        requires { IsNew display setup.config }
+        ensures ready { IfOk result IsReady }
+        ensures empty { IfOk result (λ player. events_in player ≡ []) }
+        ensures represents { IfOk result (λ player. Represents (shown_by display) (playout_of setup digests) player []) }
     {
         let stage = Stage::new(alloc, &setup.config)?;
         let scenes = Scenes::new(alloc, &setup.config)?;
-        let renderer = Renderer::new(alloc, &setup.config, workers)?;
         Ok(Player {
             setup,
             digests,
             clients: Clients::new(alloc),
             stage,
             scenes,
-            renderer,
+            display,
         })
     }
 
-    /// Does what a line says, its end left out.
+    /// Does what a line says, its end left out, and returns the reply that it wrote, if there is one.
     pub fn take_line<R: Threads + Sync, K: Sink>(
         &mut self,
         rt: &R,
         alloc: Global,
         line: &[u8],
         out: &mut K,
-    ) -> Result<(), Halt>
+    ) -> Result<Option<Reply>, Halt>
         requires ready { IsReady self.old }
         requires time { ticks (events_in self.old) + MAX_TICKS_PER_LINE ≤ MAX_TICKS }
         ensures ready { OnOk result (IsReady self.new) }
         ensures grows { OnOk result (ticks (events_in self.new) ≤ ticks (events_in self.old) + ticks_per_byte * (length line.now + 1)) }
-        ensures plays { (playout : Playout) (played : List PlayedLine) → list_any is_line_end line.now ≡ false → goes_on playout played ≡ true
-            → Represents playout self.old played
-            → PlaysLine (record { playout = playout; before = played; line = meaning line.now }) result self.new (K.state out.old) (K.state out.new) }
+        ensures plays { (shown : Shown) (playout : Playout) (played : List PlayedLine) → list_any is_line_end line.now ≡ false → goes_on playout played ≡ true
+            → Represents shown playout self.old played
+            → PlaysLine (record { playout = playout; shown = shown; before = played; line = meaning line.now }) result self.new (K.state out.old) (K.state out.new) }
     {
         match meaning(line) {
-            Line::Comment => Ok(()),
-            Line::Ticks(count) => self.tick(rt, count, out),
+            Line::Comment => Ok(None),
+            Line::Ticks(count) => {
+                self.tick(rt, count, out)?;
+                Ok(None)
+            }
             Line::Said(tag, text) => self.take_client_line(alloc, tag, text, out),
             Line::Stop => {
                 self.stop(SERVER);
@@ -105,62 +137,86 @@ impl Player {
         }
     }
 
-    /// Takes a line of a connection and follows its step.
-    fn take_client_line<K: Sink>(
+    /// Tells for which word of its text a line of a script was refused, by the number of the line and the reply to it, if it was
+    /// refused for a word and a person listens. If there is no memory for finding the word, nothing is told.
+    pub fn tell_refusal<T: Teller>(
+        &self,
+        alloc: Global,
+        number: u64,
+        line: &[u8],
+        reply: Option<Reply>,
+        teller: &mut T,
+    ) {
+        if !teller.listens() || !is_refused(reply) {
+            return;
+        }
+        if let Line::Said(_tag, text) = meaning(line) {
+            let found = illegal_word(alloc, &self.setup.config, &self.setup.names, text);
+            if let Ok(Some(word)) = found {
+                teller.tell_refused_word(number, text, word);
+            }
+        }
+    }
+
+    /// Takes a line of a connection and follows its step, and returns the reply, if there is one.
+    pub fn take_client_line<K: Sink>(
         &mut self,
         alloc: Global,
         tag: Tag,
         text: &[u8],
         out: &mut K,
-    ) -> Result<(), Halt>
+    ) -> Result<Option<Reply>, Halt>
         requires { IsReady self.old }
         ensures ready { OnOk result (IsReady self.new) }
         ensures ticks { ticks (events_in self.new) ≡ ticks (events_in self.old) }
-        ensures plays { (playout : Playout) (played : List PlayedLine) → list_any is_line_end text.now ≡ false → goes_on playout played ≡ true
-            → Represents playout self.old played
-            → PlaysLine (record { playout = playout; before = played; line = Said tag text.now }) result self.new (K.state out.old) (K.state out.new) }
+        ensures plays { (shown : Shown) (playout : Playout) (played : List PlayedLine) → list_any is_line_end text.now ≡ false → goes_on playout played ≡ true
+            → Represents shown playout self.old played
+            → PlaysLine (record { playout = playout; shown = shown; before = played; line = Said tag text.now }) result self.new (K.state out.old) (K.state out.new) }
     {
         let setup = &self.setup;
         match self
             .clients
             .take_line(alloc, tag, text, &setup.config, &setup.names)?
         {
-            Some(step) => self.follow_step(alloc, tag, step, out),
-            None => Ok(()),
+            Some(given) => self.follow_step(alloc, tag, given.step, given.token, out),
+            None => Ok(None),
         }
     }
 
-    /// Follows the step of a connection's line.
+    /// Follows the step of a connection's line, and returns the reply, if there is one. The reply has the token, if there is
+    /// one.
     fn follow_step<K: Sink>(
         &mut self,
         alloc: Global,
         tag: Tag,
         step: Step,
+        token: Option<ReqToken>,
         out: &mut K,
-    ) -> Result<(), Halt>
+    ) -> Result<Option<Reply>, Halt>
         requires ready { IsReady self.old }
         requires fits { Fits self.old.setup.config step }
         requires filled { step ≡ Step.AskBatch → batch_of tag self.old.clients.list.items ≢ [] }
         ensures ready { OnOk result (IsReady self.new) }
         ensures ticks { ticks (events_in self.new) ≡ ticks (events_in self.old) }
-        ensures follows { FollowsStep (record { player = self.old; tag = tag; step = viewed step (batch_of tag self.old.clients.list.items) }) result self.new (K.state out.old) (K.state out.new) }
+        ensures follows { (told : Option (List ℕ)) → (gives_up step ≡ false → token ≡ told)
+            → FollowsStep (record { player = self.old; tag = tag; step = viewed step (batch_of tag self.old.clients.list.items); token = told }) result self.new (K.state out.old) (K.state out.new) }
     {
         match step {
-            Step::Local(reply) => self.write_reply(tag, &reply, out),
+            Step::Local(reply) => self.write_reply(tag, reply, token, out),
             Step::Ask(cmd) => {
                 let reply = self.do_command(alloc, tag, cmd);
-                self.write_reply(tag, &reply, out)
+                self.write_reply(tag, reply, token, out)
             }
             Step::AskBatch => {
                 let reply = self.do_batch(alloc, tag);
-                self.write_reply(tag, &reply, out)
+                self.write_reply(tag, reply, token, out)
             }
             Step::Kill => {
                 self.stop(tag);
-                self.write_reply(tag, &Reply::Done(Name::Kill), out)?;
+                self.write_reply(tag, Reply::Done(Name::Kill), token, out)?;
                 Err(Halt::Stop)
             }
-            Step::Bye | Step::Skip | Step::NeedMore => Ok(()),
+            Step::Bye | Step::Skip | Step::NeedMore => Ok(None),
         }
     }
 
@@ -204,13 +260,35 @@ impl Player {
         self.stage.stop(tag).unwrap();
     }
 
-    /// Writes a reply to a connection.
-    fn write_reply<K: Sink>(&self, tag: Tag, reply: &Reply, out: &mut K) -> Result<(), Halt>
-        requires { IsReplyTo self.now.setup.config reply.now }
-        ensures { WritesText result (tagged_lines tag (reply_lines self.now.setup.config self.now.setup.names reply.now)) (K.state out.old) (K.state out.new) }
+    /// Writes the reply to a connection's line with this token, or without one, and hands it back.
+    fn write_reply<K: Sink>(
+        &self,
+        tag: Tag,
+        reply: Reply,
+        token: Option<ReqToken>,
+        out: &mut K,
+    ) -> Result<Option<Reply>, Halt>
+        requires { IsReplyTo self.now.setup.config reply }
+        ensures { WritesReply reply result
+            (tagged_lines tag (answer_lines self.now.setup.config self.now.setup.names token reply))
+            (K.state out.old) (K.state out.new) }
     {
-        written(send_tagged_reply(tag, reply, &self.setup.config, &self.setup.names, out))
+        let setup = &self.setup;
+        written(send_tagged_reply(
+            tag,
+            &reply,
+            token.as_ref(),
+            &setup.config,
+            &setup.names,
+            out,
+        ))?;
+        Ok(Some(reply))
     }
+}
+
+/// Returns whether a reply refuses a line with 403.
+fn is_refused(reply: Option<Reply>) -> bool {
+    matches!(reply, Some(Reply::Refused(403, _)))
 }
 
 /// Returns the reply to a command or a batch of this name by what became of it. The history had not ended before.

@@ -6,14 +6,27 @@ ghost use Rattle.run_script.specs.Program.{PlaysScript, WritesFaultLine};
 ghost use Rattle.run_script.specs.inner.Outcome.{PlaysCommandLine};
 
 use crate::command_line::CommandLine;
+use crate::converting::convert;
+use crate::frame_options::FrameOptions;
+use crate::generating::generate;
 use crate::plain::plain_setup;
+use crate::planning::plan;
+use crate::reporting::report;
 use crate::run::run;
+use crate::teller::{Silent, Teller};
 use play_outside::{MediaDir, Sink, Source};
 use server_setup::{RunFault, set_up};
 use std::alloc::Global;
 use std::thread::Threads;
 
-/// Plays a script: reads it from the input, and writes the replies and the frames.
+/// One thread makes the frames, and they are written whole.
+const ONE_WORKER: FrameOptions = FrameOptions {
+    digests: false,
+    workers: 1,
+};
+
+/// Plays a script: reads it from the input, and writes the replies and the frames. Or makes a script, plays it and writes
+/// its summary; or converts a clip; or plays a cue sheet.
 ///
 /// The words are `run W H`, a width and a height from 1 to 4,096: one channel of that size, without sound and without
 /// clips. Or they are `run --config FILE`, after which `--workers N`, a number from 1 to 64, and then `--digest` may
@@ -21,18 +34,33 @@ use std::thread::Threads;
 /// each frame is written as its digest. The frames are made by `N` threads, and by one if no number is given; the number
 /// changes nothing that is written.
 ///
+/// The words `gen SEED STEPS`, a number of 64 bits and one from 1 to 100,000, make a script of `STEPS` drawn steps, play it
+/// and write four lines: the number of events that are no ticks, that of ticks, that of replies whose code is 400 or more,
+/// and the digest of what a run of the script would write. Nothing is read. The word `convert` reads a clip from the input,
+/// and writes it as a clip of version 2 that shows the same.
+///
+/// The words `plan --config FILE`, followed by what may follow `run --config FILE`, play a cue sheet of at most 268,435,456
+/// bytes: each of its lines exactly at its moment, which is a number of ticks. The input is read to its end before any of it
+/// is looked at. What is written is that of the script to which the sheet unfolds.
+///
+/// The words `osc --config FILE` play a script as `run --config FILE` does, with the status of all channels after each tick in
+/// place of its frames, which are not made: a line `O t` with the bytes of an OSC message in hexadecimal for the ticks of each
+/// channel, and three for each layer that has a foreground.
+///
 /// The words are tested first, then the configuration is read and tested, then the clips are read, and then the script is
 /// played. The first cause that is met gives the exit status, which is returned.
 ///
 /// | Status | Cause | The output's last line |
 /// |---|---|---|
-/// | 0 | the input was read to its end, or to a line at which the run ends, and all was written | |
+/// | 0 | the input was read to its end, or to a line at which the run ends, or the script was made; and all was written | |
 /// | 1 | the words are no command line | `E usage` |
 /// | 2 | the configuration is not TOML, or `read_config` refuses a key of it | `E config text`, `E config key KEY` |
 /// | 2 | a line was received that says nothing that a script may say, or more than 4,294,967,296 bytes were read | `E line n`, `E input too long` |
+/// | 2 | more than 1,073,741,824 bytes were read to convert them, or `decode` refuses them | `E input too long`, `E clip magic`, `E clip version`, `E clip field n`, `E clip short n m`, `E clip long n` |
+/// | 2 | more than 268,435,456 bytes were read of a cue sheet, or `read_sheet` refuses them | `E input too long`, `E plan n`, `E plan end` |
 /// | 3 | two clip files have one name, or the clip files are too large | `E media twice NAME`, `E media total n` |
 /// | 4 | a read or a write failed | `E device` |
-/// | 5 | memory ran out | `E memory` |
+/// | 5 | memory ran out, also for a line of a script that is made | `E memory` |
 ///
 /// Status 1 comes exactly for its cause, and each other status above 0 only for one of its causes. If the folder tells its
 /// files, a cause in the configuration or in the clips is always met, unless a read fails or memory runs out before it.
@@ -53,9 +81,28 @@ pub fn run_main<R: Threads + Sync, I: Source, M: MediaDir, O: Sink>(
         (record { media = M.state media.old; input = I.state input.old; out = O.state out.old })
         (record { media = M.state media.new; input = I.state input.new; out = O.state out.new }) }
 {
+    run_and_tell(rt, alloc, words, input, media, out, &mut Silent)
+}
+
+/// Does what [`run_main`] does, and tells for which words the lines of a script are refused, and what is
+/// wrong with a cue sheet that is refused. What is told changes nothing that is read
+/// or written, and not the status.
+pub fn run_and_tell<R: Threads + Sync, I: Source, M: MediaDir, O: Sink, T: Teller>(
+    rt: &R,
+    alloc: Global,
+    words: &[String],
+    input: &mut I,
+    media: &mut M,
+    out: &mut O,
+    teller: &mut T,
+) -> u8
+    ensures { PlaysScript (map string_bytes words.now) result
+        (record { media = M.state media.old; input = I.state input.old; out = O.state out.old })
+        (record { media = M.state media.new; input = I.state input.new; out = O.state out.new }) }
+{
     match CommandLine::read(words) {
         Some(line) => {
-            let outcome = play(rt, alloc, line, input, media, out);
+            let outcome = play(rt, alloc, line, input, media, out, teller);
             end(outcome, out)
         }
         None => end(Err(RunFault::Usage), out),
@@ -63,13 +110,14 @@ pub fn run_main<R: Threads + Sync, I: Source, M: MediaDir, O: Sink>(
 }
 
 /// Does what a command line names.
-fn play<R: Threads + Sync, I: Source, M: MediaDir, O: Sink>(
+fn play<R: Threads + Sync, I: Source, M: MediaDir, O: Sink, T: Teller>(
     rt: &R,
     alloc: Global,
     line: CommandLine<'_>,
     input: &mut I,
     media: &mut M,
     out: &mut O,
+    teller: &mut T,
 ) -> Result<(), RunFault>
     requires { IsInRange line }
     ensures { PlaysCommandLine (command_line_view line.entry) result
@@ -79,7 +127,7 @@ fn play<R: Threads + Sync, I: Source, M: MediaDir, O: Sink>(
     match line {
         CommandLine::Plain(size) => {
             let plain = plain_setup(alloc, size)?;
-            run(rt, alloc, plain, false, 1, input, out).outcome()
+            run(rt, alloc, plain, ONE_WORKER, input, out, teller).outcome()
         }
         CommandLine::Configured {
             path,
@@ -87,7 +135,23 @@ fn play<R: Threads + Sync, I: Source, M: MediaDir, O: Sink>(
             workers,
         } => {
             let setup = set_up(rt, alloc, path, media)?;
-            run(rt, alloc, setup, digests, workers, input, out).outcome()
+            let options = FrameOptions { digests, workers };
+            run(rt, alloc, setup, options, input, out, teller).outcome()
+        }
+        CommandLine::Generated { seed, steps } => generate(rt, alloc, seed, steps, out),
+        CommandLine::Converted => convert(alloc, input, out),
+        CommandLine::Reported { path } => {
+            let setup = set_up(rt, alloc, path, media)?;
+            report(rt, alloc, setup, input, out, teller).outcome()
+        }
+        CommandLine::Planned {
+            path,
+            digests,
+            workers,
+        } => {
+            let setup = set_up(rt, alloc, path, media)?;
+            let options = FrameOptions { digests, workers };
+            plan(rt, alloc, setup, options, input, out, teller)
         }
     }
 }

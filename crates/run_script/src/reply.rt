@@ -1,26 +1,33 @@
 //! Replies to the connections of a script.
-ghost use Rattle.history_model.specs.text.Replies.{IsReplyTo, reply_lines};
+ghost use Rattle.std.specs.Prelude.{option_map};
+ghost use Rattle.history_model.specs.text.Replies.{IsReplyTo, answer_lines};
 ghost use Rattle.history_model.specs.scripts.Output.{tagged_lines};
 ghost use Rattle.play_outside.specs.Sink.{Sends};
 
+use amcp_text::ReqToken;
 use itoa::Buffer;
 use play_outside::{Sent, Sink};
 use play_types::{Config, MediaNames, Reply, Tag};
 use return_codes::send_reply_lines;
 
-/// Writes the lines of a reply, each after the tag of its connection. It takes no memory.
+/// Writes the lines of the reply to a line with this token, or without one, each after the tag of its connection. It takes no
+/// memory.
 pub fn send_tagged_reply<K: Sink>(
     tag: Tag,
     reply: &Reply,
+    token: Option<&ReqToken>,
     config: &Config,
     media: &MediaNames,
     out: &mut K,
 ) -> Sent
     requires { IsReplyTo config.now reply.now }
-    ensures { Sends result (tagged_lines tag (reply_lines config.now media.now reply.now)) (K.state out.old) (K.state out.new) }
+    ensures { Sends result
+        (tagged_lines tag (answer_lines config.now media.now (option_map (λ token. token.now) token.entry) reply.now))
+        (K.state out.old) (K.state out.new) }
 {
     send_reply_lines(
         reply,
+        token,
         config,
         media,
         &[

@@ -6,18 +6,17 @@ ghost use Rattle.play_outside.specs.SinkState.{SinkState};
 ghost use Rattle.history_model.specs.declared.limits.TheConstants.{MAX_INPUT_BYTES, MAX_TICKS_PER_LINE};
 ghost use Rattle.run_script.specs.Run.{EndsAs};
 ghost use Rattle.run_script.specs.Script.{Run};
-ghost use Rattle.run_script.specs.Program.{playout_of};
-ghost use Rattle.run_script.specs.inner.Player.{IsReady, events_in};
+ghost use Rattle.run_script.specs.inner.Player.{IsReady, events_in, Represents};
 ghost use Rattle.run_script.specs.inner.Taken.{HasTaken, TakesBytes, TakesPiece};
 ghost use Rattle.run_script.specs.inner.Ticks.{ticks_due, ticks_per_byte};
 
 use crate::ending::{Ending, Halt};
 use crate::player::Player;
+use crate::teller::Teller;
 use amcp_text::without_carriage_return;
 use history_model::MAX_SCRIPT_LINE_BYTES;
 use play_outside::Sink;
-use server_setup::ServerSetup;
-use std::alloc::{AllocError, Global};
+use std::alloc::Global;
 use std::thread::Threads;
 
 /// A line is too long, whatever follows, if this many of its bytes have come without its end: one more than those of the
@@ -35,32 +34,27 @@ pub struct Script {
 
 impl Script {
     /// Returns a script of which nothing was taken yet.
-    pub fn new(
-        alloc: Global,
-        setup: ServerSetup,
-        digests: bool,
-        workers: u32,
-    ) -> Result<Script, AllocError>
-        requires some_workers { 1 ≤ workers }
-        requires few_workers { workers ≤ 64 }
-        ensures ready { IfOk result (λ script. IsReady script.player) }
-        ensures small { IfOk result (λ script. (ticks_due script ≡ 0) × (script.lines ≡ 0)) }
-        ensures taken { IfOk result (λ script. (first : SinkState) → HasTaken (record { playout = playout_of setup digests; first = first }) script [] first) }
+    pub fn new(alloc: Global, player: Player) -> Script
+        requires { events_in player ≡ [] }
+        ensures player { result.player ≡ player }
+        ensures small { (ticks_due result ≡ 0) × (result.lines ≡ 0) }
+        ensures taken { (run : Run) → Represents run.shown run.playout player [] → HasTaken run result [] run.first }
     {
-        Ok(Script {
+        Script {
             waiting: Vec::new(alloc),
             lines: 0,
-            player: Player::new(alloc, setup, digests, workers)?,
-        })
+            player,
+        }
     }
 
     /// Takes the next bytes, and does what their lines say. It stops at the first line that ends the run.
-    pub fn take<R: Threads + Sync, K: Sink>(
+    pub fn take<R: Threads + Sync, K: Sink, T: Teller>(
         &mut self,
         rt: &R,
         alloc: Global,
         piece: &[u8],
         out: &mut K,
+        teller: &mut T,
     ) -> Result<(), Ending>
         requires ready { IsReady self.old.player }
         requires time { ticks_due self.old + ticks_per_byte * length piece.now + MAX_TICKS_PER_LINE ≤ MAX_TICKS }
@@ -72,7 +66,7 @@ impl Script {
             → TakesPiece run result self.new (bytes ++ piece.now) (K.state out.new) }
     {
         for byte in piece {
-            match self.take_byte(rt, alloc, *byte, out) {
+            match self.take_byte(rt, alloc, *byte, out, teller) {
                 Ok(()) => {}
                 Err(halt) => return Err(halt.ending(self.lines)),
             }
@@ -81,11 +75,12 @@ impl Script {
     }
 
     /// Does what the last line says where the input ends without a line feed.
-    pub fn finish<R: Threads + Sync, K: Sink>(
+    pub fn finish<R: Threads + Sync, K: Sink, T: Teller>(
         &mut self,
         rt: &R,
         alloc: Global,
         out: &mut K,
+        teller: &mut T,
     ) -> Ending
         requires ready { IsReady self.old.player }
         requires time { ticks (events_in self.old.player) + MAX_TICKS_PER_LINE ≤ MAX_TICKS }
@@ -96,22 +91,25 @@ impl Script {
         if self.waiting.is_empty() {
             return Ending::Finished;
         }
-        match self
-            .player
-            .take_line(rt, alloc, self.waiting.as_slice(), out)
-        {
-            Ok(()) => Ending::Finished,
+        let line = self.waiting.as_slice();
+        match self.player.take_line(rt, alloc, line, out) {
+            Ok(reply) => {
+                let number = self.lines + 1;
+                self.player.tell_refusal(alloc, number, line, reply, teller);
+                Ending::Finished
+            }
             Err(halt) => halt.ending(self.lines),
         }
     }
 
     /// Takes the next byte, and does what its line says where the byte ends one.
-    fn take_byte<R: Threads + Sync, K: Sink>(
+    fn take_byte<R: Threads + Sync, K: Sink, T: Teller>(
         &mut self,
         rt: &R,
         alloc: Global,
         byte: u8,
         out: &mut K,
+        teller: &mut T,
     ) -> Result<(), Halt>
         requires ready { IsReady self.old.player }
         requires time { ticks (events_in self.old.player) + MAX_TICKS_PER_LINE ≤ MAX_TICKS }
@@ -123,18 +121,19 @@ impl Script {
             → TakesBytes run result self.new (bytes ++ byte ∷ []) (K.state out.new) }
     {
         if byte == b'\n' {
-            self.end_line(rt, alloc, out)
+            self.end_line(rt, alloc, out, teller)
         } else {
             self.keep_byte(byte)
         }
     }
 
     /// Does what the line that waits says.
-    fn end_line<R: Threads + Sync, K: Sink>(
+    fn end_line<R: Threads + Sync, K: Sink, T: Teller>(
         &mut self,
         rt: &R,
         alloc: Global,
         out: &mut K,
+        teller: &mut T,
     ) -> Result<(), Halt>
         requires ready { IsReady self.old.player }
         requires time { ticks (events_in self.old.player) + MAX_TICKS_PER_LINE ≤ MAX_TICKS }
@@ -146,8 +145,10 @@ impl Script {
             → TakesBytes run result self.new (bytes ++ 10 ∷ []) (K.state out.new) }
     {
         let line = without_carriage_return(self.waiting.as_slice());
-        self.player.take_line(rt, alloc, line, out)?;
+        let reply = self.player.take_line(rt, alloc, line, out)?;
         self.lines += 1;
+        self.player
+            .tell_refusal(alloc, self.lines, line, reply, teller);
         self.waiting.clear();
         Ok(())
     }

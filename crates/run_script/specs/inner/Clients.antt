@@ -8,6 +8,7 @@ use Rattle.play_types.specs.declared.event.Tag.{Tag}
 use Rattle.history_model.specs.commands.Channels.{AreAimed}
 use Rattle.history_model.specs.scripts.Line.{Said}
 use Rattle.history_model.specs.scripts.History.{Playout, PlayedLine, same_tag, texts_of, stream_of, given_up_of, said_step}
+use Rattle.history_model.specs.sessions.Request.{text_token}
 use Rattle.history_model.specs.sessions.Session.{line_steps, is_end}
 use Rattle.history_model.specs.sessions.Session as model
 use Rattle.play_session.specs.SessionState.{SessionState}
@@ -15,6 +16,7 @@ use Rattle.play_session.specs.Step.{viewed, gives_up}
 use Rattle.play_session.specs.Session as session
 use Rattle.play_session.specs.declared.step.Step.{Step}
 use Rattle.run_script.specs.declared.clients.Client.{Client}
+use Rattle.run_script.specs.declared.clients.ClientStep.{ClientStep}
 
 -- how far the session of a connection has come with the lines that were played
 abbrev pub progress_of : Tag → List PlayedLine → session.Progress
@@ -73,6 +75,16 @@ HaveAimedBatches config clients = All (λ (client : Client). AreAimed config (se
 abbrev pub gave_up : Option Step → Bool
 gave_up None = false
 gave_up (Some found) = gives_up found
+
+-- the step that a session gave, if it gave one
+abbrev pub step_in : Option ClientStep → Option Step
+step_in None = None
+step_in (Some given) = Some given.step
+
+-- the token is that of the text, except if the line was given up
+abbrev pub HasTokenOf : List ℕ → Option ClientStep → Type 0
+HasTokenOf text None = Unit {0}
+HasTokenOf text (Some given) = gives_up given.step ≡ false → given.token ≡ text_token text
 
 -- a line of a connection after the lines that were played before it, and whether the stage has no memory for what it asks
 pub record NextText : Type 0 where

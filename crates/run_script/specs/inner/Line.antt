@@ -1,14 +1,8 @@
 -- What the code's lines denote.
-use Rattle.std.specs.Prelude.{ℕ, List}
-use Rattle.std.specs.Borrow.{Bor}
 use Rattle.history_model.specs.scripts.Line.{ScriptLine}
 use Rattle.history_model.specs.scripts.Line as script
 use Rattle.run_script.specs.declared.line.Line.{Line}
 use Rattle.run_script.specs.declared.line.Line.TheVariants.{Comment, Ticks, Said, Stop, Rejected}
-
--- two slices, by their bytes
-abbrev pub parts_view : (Bor (List ℕ)) × (Bor (List ℕ)) → List ℕ × List ℕ
-parts_view parts = (parts.0.now, parts.1.now)
 
 -- a line, its text by its bytes
 abbrev pub line_view : Line → ScriptLine

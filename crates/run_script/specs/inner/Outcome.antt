@@ -6,15 +6,19 @@ use Rattle.server_setup.specs.declared.fault.RunFault.{RunFault}
 use Rattle.server_setup.specs.Setup.{SetsUp}
 use Rattle.run_script.specs.declared.ending.Ending.{Ending}
 use Rattle.run_script.specs.Ending.{fault_in, fault_of}
-use Rattle.run_script.specs.CommandLine.{CommandLine, Plain, Configured}
+use Rattle.run_script.specs.CommandLine.{CommandLine, Plain, Configured, Generated, Converted, Planned}
+use Rattle.run_script.specs.Generating.{Generates}
+use Rattle.run_script.specs.Converting.{Converts}
+use Rattle.run_script.specs.Planning.{PlaysPlan}
 use Rattle.run_script.specs.Run.{Streams, RunsScript}
 use Rattle.run_script.specs.Program.{Outside, streams_of, plain_playout, playout_of}
+use Rattle.run_script.specs.Shown.{Shown, Frames}
 
 -- a script was run, with this outcome
-pub record HasRun (playout : Playout) (outcome : Result (Unit {0}) RunFault) (before after : Streams) : Type 0 where
+pub record HasRun (shown : Shown) (playout : Playout) (outcome : Result (Unit {0}) RunFault) (before after : Streams) : Type 0 where
   pub ending : Ending
   pub fault : fault_in outcome ≡ fault_of ending
-  pub run : RunsScript playout ending before after
+  pub run : RunsScript shown playout ending before after
 
 -- nothing was set up from the configuration of this path, and nothing was read or written after it
 abbrev pub RefusesPath : List ℕ → Result (Unit {0}) RunFault → Outside → Outside → Type 0
@@ -25,8 +29,16 @@ RefusesPath path (Err fault) before after =
 -- what a command line names was set up and run, or could not be set up
 abbrev pub PlaysCommandLine : CommandLine → Result (Unit {0}) RunFault → Outside → Outside → Type 0
 PlaysCommandLine (Plain size) outcome before after =
-    (after.media ≡ before.media) × HasRun (plain_playout size) outcome (streams_of before) (streams_of after)
-PlaysCommandLine (Configured path digests) outcome before after =
+    (after.media ≡ before.media) × HasRun Frames (plain_playout size) outcome (streams_of before) (streams_of after)
+PlaysCommandLine (Configured shown path digests) outcome before after =
     RefusesPath path outcome before after
     ⊎ ((setup : ServerSetup) × SetsUp path (Ok setup) before.media after.media
-    × HasRun (playout_of setup digests) outcome (streams_of before) (streams_of after))
+    × HasRun shown (playout_of setup digests) outcome (streams_of before) (streams_of after))
+PlaysCommandLine (Generated seed steps) outcome before after =
+    (after.media ≡ before.media) × (after.input ≡ before.input) × Generates seed steps (fault_in outcome) before.out after.out
+PlaysCommandLine Converted outcome before after =
+    (after.media ≡ before.media) × Converts (fault_in outcome) (streams_of before) (streams_of after)
+PlaysCommandLine (Planned path digests) outcome before after =
+    RefusesPath path outcome before after
+    ⊎ ((setup : ServerSetup) × SetsUp path (Ok setup) before.media after.media
+    × PlaysPlan (playout_of setup digests) (fault_in outcome) (streams_of before) (streams_of after))

@@ -1,5 +1,5 @@
 -- What the player keeps, and what a line makes of it.
-use Rattle.std.specs.Prelude.{◌≡◌, ◌≢◌, ℕ, Bool, true, false, Option, None, Result, Ok, Err, List, [], ◌∷◌, ◌++◌, length, flat_map}
+use Rattle.std.specs.Prelude.{◌≡◌, ◌≢◌, ℕ, Bool, true, false, Option, Some, None, Result, Ok, Err, List, [], ◌∷◌, ◌++◌, length, map, flat_map}
 use Rattle.std.specs.List.{range_with_len}
 use Rattle.play_types.specs.Commands.{answer_reply, command_name}
 use Rattle.play_types.specs.History.{stop_at}
@@ -17,13 +17,14 @@ use Rattle.play_outside.specs.Sink.{Fails}
 use Rattle.history_model.specs.pictures.Media.{Setup}
 use Rattle.history_model.specs.scripts.Line.{ScriptLine, Rejected}
 use Rattle.history_model.specs.scripts.History.{Playout, PlayedLine, Turn, ends_at, is_kill, script_events, setup_of, step_events, verdict, verdict_events}
-use Rattle.history_model.specs.scripts.Output.{channel_output, output_at, reply_output, step_reply, verdict_reply}
+use Rattle.history_model.specs.scripts.Memory.{reply_at}
+use Rattle.history_model.specs.scripts.Output.{answer_output, channel_output, step_reply, verdict_reply}
 use Rattle.history_model.specs.sessions.Session.{Step}
 use Rattle.history_model.specs.stage.Acts.{is_refused}
 use Rattle.history_model.specs.stage.Answer.{command_answer, outcome_of}
-use Rattle.play_scene.specs.Frames.{frame_at}
+use Rattle.play_scene.specs.Frames.{FrameView, frame_at, zero_frame}
 use Rattle.band_render.specs.Histories as frames
-use Rattle.band_render.specs.Rendered.{sizes}
+use Rattle.band_render.specs.Rendered.{sizes, AreRendered}
 use Rattle.stage_core.specs.declared.fault.ApplyFault.{ApplyFault}
 use Rattle.stage_core.specs.declared.fault.ApplyFault.TheVariants as fault
 use Rattle.run_script.specs.Program.{playout_of}
@@ -31,6 +32,15 @@ use Rattle.run_script.specs.declared.ending.Halt.{Halt}
 use Rattle.run_script.specs.declared.ending.Halt.TheVariants as halt
 use Rattle.run_script.specs.declared.player.Player.{Player}
 use Rattle.run_script.specs.inner.Clients.{AreClients, HaveAimedBatches}
+use Rattle.run_script.specs.Shown.{Shown, Frames, Status, shown_line}
+use Rattle.run_script.specs.declared.display.Display.{Display}
+use Rattle.run_script.specs.declared.display.Display.TheVariants as display
+use Rattle.clip_format.specs.Table.{Entry}
+use Rattle.play_types.specs.Config.{ConfigView}
+use Rattle.play_types.specs.declared.drawn.Drawn.{Drawn}
+use Rattle.osc_status.specs.Status.{layer_lines, layer_statuses, status_line, ticks_message}
+use Rattle.osc_status.specs.declared.layer.LayerStatus.{LayerStatus}
+use Rattle.stage_core.specs.declared.seen.LayerView.{LayerView}
 
 -- what the script is played on
 abbrev pub playout_in : Player → Playout
@@ -39,6 +49,25 @@ playout_in player = playout_of player.setup player.digests
 -- its channels and clips
 abbrev pub setup_in : Player → Setup
 setup_in player = setup_of (playout_in player)
+
+-- how ticks are told by what shows them
+abbrev pub shown_by : Display → Shown
+shown_by (display.Frames renderer) = Frames
+shown_by display.Status = Status
+
+-- how the player tells ticks
+abbrev pub shown_in : Player → Shown
+shown_in player = shown_by player.display
+
+-- the frames, if there are any, are those of the last tick of a history
+abbrev pub ShowsLast : Display → Setup → List Event → List Entry → Type 0
+ShowsLast (display.Frames renderer) setup events media = frames.Represents setup events media renderer
+ShowsLast display.Status setup events media = Unit {0}
+
+-- what shows nothing yet: zero frames, if there are any
+abbrev pub IsNew : Display → ConfigView → Type 0
+IsNew (display.Frames renderer) config = renderer ≡ map zero_frame config.channels
+IsNew display.Status config = Unit {0}
 
 -- the history so far: the journal of the stage
 abbrev pub events_in : Player → List Event
@@ -55,18 +84,20 @@ pub record IsReady (player : Player) : Type 0 where
   pub channels : player.stage.channels ≡ channels_in player
   pub scenes : length player.scenes ≡ channels_in player
   pub batches : HaveAimedBatches player.setup.config player.clients.list.items
-  pub frames : frames.Represents (setup_in player) (events_in player) player.setup.media player.renderer
+  pub frames : ShowsLast player.display (setup_in player) (events_in player) player.setup.media
   pub running : stop_at (events_in player) ≡ None
 
 -- the history has these events more, and what is played on and the connections are as before
 pub record MakesEvents (events : List Event) (old new : Player) : Type 0 where
   pub setup : new.setup ≡ old.setup
   pub digests : new.digests ≡ old.digests
+  pub shown : shown_in new ≡ shown_in old
   pub clients : new.clients ≡ old.clients
   pub history : events_in new ≡ events_in old ++ events
 
 -- the player is if the lines put it: it has their history, and serves their connections
-pub record Represents (playout : Playout) (player : Player) (played : List PlayedLine) : Type 0 where
+pub record Represents (shown : Shown) (playout : Playout) (player : Player) (played : List PlayedLine) : Type 0 where
+  pub shows : shown_in player ≡ shown
   pub on : playout_in player ≡ playout
   pub history : events_in player ≡ script_events playout played
   pub clients : AreClients playout player.clients.list.items played
@@ -79,19 +110,81 @@ WritesText (Err halt.Memory) text before after = ⊥
 WritesText (Err halt.Stop) text before after = ⊥
 WritesText (Err halt.Rejected) text before after = ⊥
 
+-- the text of a reply was written, and the reply is handed back; or a write of it failed
+abbrev pub WritesReply : Reply → Result (Option Reply) Halt → List ℕ → SinkState → SinkState → Type 0
+WritesReply answer (Ok replied) text before after = (replied ≡ Some answer) × (after ≡ after_taking before text)
+WritesReply answer (Err halt.Write) text before after = Fails text before after
+WritesReply answer (Err halt.Memory) text before after = ⊥
+WritesReply answer (Err halt.Stop) text before after = ⊥
+WritesReply answer (Err halt.Rejected) text before after = ⊥
+
 -- the scenes and the frames are those of the channels that are configured
-pub record FitsChannels (player : Player) : Type 0 where
+pub record FitsChannels (player : Player) (renderer : List FrameView) : Type 0 where
   pub scenes : length player.scenes ≡ channels_in player
-  pub frames : (setup_in player).channels ≡ sizes player.renderer
+  pub frames : (setup_in player).channels ≡ sizes renderer
 
 -- what is written for the frame that a channel has
-abbrev pub frame_text : Player → ℕ → ℕ → List ℕ
-frame_text player tick channel =
-    channel_output (playout_in player) tick channel (frame_at channel player.renderer).bytes (frame_at channel player.renderer).sound
+abbrev pub frame_text : Player → List FrameView → ℕ → ℕ → List ℕ
+frame_text player renderer tick channel =
+    channel_output (playout_in player) tick channel (frame_at channel renderer).bytes (frame_at channel renderer).sound
 
 -- what is written for the frames of all channels
-abbrev pub frame_texts : Player → ℕ → List ℕ
-frame_texts player tick = flat_map (frame_text player tick) (range_with_len 1 (channels_in player))
+abbrev pub frame_texts : Player → List FrameView → ℕ → List ℕ
+frame_texts player renderer tick = flat_map (frame_text player renderer tick) (range_with_len 1 (channels_in player))
+
+-- there is a scene for each frame, if frames are shown
+abbrev pub HasSceneForEach : Display → List (List Drawn) → Type 0
+HasSceneForEach (display.Frames renderer) scenes = length scenes ≡ length renderer
+HasSceneForEach display.Status scenes = Unit {0}
+
+abbrev pub CanDraw : Player → Type 0
+CanDraw player = HasSceneForEach player.display player.scenes
+
+-- the frames were rendered from the scenes, if frames are shown
+abbrev pub IsRenderedFrom : Display → List Entry → List (List Drawn) → Display → Type 0
+IsRenderedFrom (display.Frames old) media scenes (display.Frames new) = AreRendered old media scenes new
+IsRenderedFrom (display.Frames old) media scenes display.Status = ⊥
+IsRenderedFrom display.Status media scenes (display.Frames new) = ⊥
+IsRenderedFrom display.Status media scenes display.Status = Unit {0}
+
+abbrev pub IsDrawn : Player → Display → Type 0
+IsDrawn player new = IsRenderedFrom player.display player.setup.media player.scenes new
+
+-- what shows ticks is that of the channels that are configured
+abbrev pub ShowsChannels : Display → Player → Type 0
+ShowsChannels (display.Frames renderer) player = FitsChannels player renderer
+ShowsChannels display.Status player = length player.scenes ≡ channels_in player
+
+abbrev pub CanShow : Player → Type 0
+CanShow player = ShowsChannels player.display player
+
+-- the status of a layer of a channel by what a display shows of it
+abbrev pub status_of_view : ℕ → LayerView → LayerStatus
+status_of_view channel layer = record {
+  channel = channel;
+  layer = layer.layer;
+  spec = layer.spec;
+  frame = layer.frame;
+  length = layer.length;
+  paused = layer.paused;
+}
+
+-- what is written for the status of a channel after `count` ticks
+abbrev pub channel_status : Player → ℕ → ℕ → List ℕ
+channel_status player count channel =
+    status_line count (ticks_message channel count) ++ flat_map (layer_lines player.setup.names count) (layer_statuses (events_in player) channel)
+
+-- what is written for the status of all channels
+abbrev pub statuses_text : Player → ℕ → List ℕ
+statuses_text player count = flat_map (channel_status player count) (range_with_len 1 (channels_in player))
+
+-- what is written for what shows the tick of a number
+abbrev pub text_by : Display → Player → ℕ → List ℕ
+text_by (display.Frames renderer) player tick = frame_texts player renderer tick
+text_by display.Status player tick = statuses_text player tick
+
+abbrev pub display_text : Player → ℕ → List ℕ
+display_text player tick = text_by player.display player tick
 
 -- when the stage is asked by a connection of the player
 abbrev pub turn_in : Player → Tag → Bool → Turn
@@ -148,41 +241,45 @@ pub record DoesRequest (tag : Tag) (request : Request) (found : Reply) (old new 
   pub replies : found ≡ verdict_reply request.name request.answer (verdict (turn_in old tag no_memory) request.commands)
   pub makes : MakesEvents (verdict_events request.event (verdict (turn_in old tag no_memory) request.commands)) old new
 
--- a step of a connection, none if that has ended before, when the stage is asked
+-- a step of a connection, none if that has ended before, when the stage is asked, and the token of its line
 pub record NextStep : Type 0 where
   pub turn : Turn
   pub step : Option Step
+  pub token : Option (List ℕ)
 
 -- what is written for it
 abbrev pub step_text : NextStep → List ℕ
-step_text next = reply_output next.turn.playout next.turn.tag (step_reply next.turn next.step)
+step_text next = answer_output next.turn.playout next.turn.tag next.token (step_reply next.turn next.step)
 
--- the step was followed and the run goes on, or ends at a kill, or a write of the reply failed
-abbrev pub IsFollowed : NextStep → Result (Unit {0}) Halt → List Event → SinkState → SinkState → Type 0
-IsFollowed next (Ok done) made before after =
+-- the step was followed with this reply, if there is one, and the run goes on; or it ends at a kill, or a write of the reply failed
+abbrev pub IsFollowed : NextStep → Result (Option Reply) Halt → List Event → SinkState → SinkState → Type 0
+IsFollowed next (Ok replied) made before after =
     (is_kill next.step ≡ false) × (made ≡ step_events next.turn next.step) × (after ≡ after_taking before (step_text next))
+    × (replied ≡ step_reply next.turn next.step)
 IsFollowed next (Err halt.Stop) made before after =
     (is_kill next.step ≡ true) × (made ≡ step_events next.turn next.step) × (after ≡ after_taking before (step_text next))
 IsFollowed next (Err halt.Write) made before after = Fails (step_text next) before after
 IsFollowed next (Err halt.Memory) made before after = ⊥
 IsFollowed next (Err halt.Rejected) made before after = ⊥
 
--- a step that a connection of the player gave, none if that has ended before
+-- a step that a connection of the player gave, none if that has ended before, and the token of its line
 pub record Given : Type 0 where
   pub player : Player
   pub tag : Tag
   pub step : Option Step
+  pub token : Option (List ℕ)
 
 -- the step was followed: it made these events, and the stage had memory for what it asks or not
-pub record FollowsStep (given : Given) (result : Result (Unit {0}) Halt) (new : Player) (before after : SinkState) : Type 0 where
+pub record FollowsStep (given : Given) (result : Result (Option Reply) Halt) (new : Player) (before after : SinkState) : Type 0 where
   pub no_memory : Bool
   pub made : List Event
   pub makes : MakesEvents made given.player new
-  pub follows : IsFollowed (record { turn = turn_in given.player given.tag no_memory; step = given.step }) result made before after
+  pub follows : IsFollowed (record { turn = turn_in given.player given.tag no_memory; step = given.step; token = given.token }) result made before after
 
 -- a line of a script after those that were played before it
 pub record NextLine : Type 0 where
   pub playout : Playout
+  pub shown : Shown
   pub before : List PlayedLine
   pub line : ScriptLine
 
@@ -201,18 +298,23 @@ played_line next marks = record { line = next.line; given_up = marks.given_up; n
 
 -- what is written for it
 abbrev pub line_text : NextLine → Marks → List ℕ
-line_text next marks = output_at next.playout next.before (played_line next marks) next.line
+line_text next marks = shown_line next.shown next.playout next.before (played_line next marks) next.line
 
 -- whether the run ends at it
 abbrev pub ends_run : NextLine → Marks → Bool
 ends_run next marks = ends_at next.playout next.before (played_line next marks) next.line
 
--- all that the line says was done, and the run goes on
-pub record IsLineDone (next : NextLine) (player : Player) (before after : SinkState) : Type 0 where
+-- the reply to it, if there is one
+abbrev pub line_reply : NextLine → Marks → Option Reply
+line_reply next marks = reply_at next.playout next.before (played_line next marks) next.line
+
+-- all that the line says was done, with this reply, if there is one, and the run goes on
+pub record IsLineDone (next : NextLine) (replied : Option Reply) (player : Player) (before after : SinkState) : Type 0 where
   pub marks : Marks
   pub accepted : next.line ≢ Rejected
   pub goes_on : ends_run next marks ≡ false
-  pub represents : Represents next.playout player (next.before ++ played_line next marks ∷ [])
+  pub represents : Represents next.shown next.playout player (next.before ++ played_line next marks ∷ [])
+  pub replies : replied ≡ line_reply next marks
   pub written : after ≡ after_taking before (line_text next marks)
 
 -- all that the line says was done, the run ends, and the history ends with a stop
@@ -230,8 +332,8 @@ pub record IsLineFailed (next : NextLine) (before after : SinkState) : Type 0 wh
   pub fails : Fails (line_text next marks) before after
 
 -- the line was played; out of memory, and if it is rejected, nothing was written for it
-abbrev pub PlaysLine : NextLine → Result (Unit {0}) Halt → Player → SinkState → SinkState → Type 0
-PlaysLine next (Ok done) player before after = IsLineDone next player before after
+abbrev pub PlaysLine : NextLine → Result (Option Reply) Halt → Player → SinkState → SinkState → Type 0
+PlaysLine next (Ok replied) player before after = IsLineDone next replied player before after
 PlaysLine next (Err halt.Stop) player before after = IsLastLine next player before after
 PlaysLine next (Err halt.Write) player before after = IsLineFailed next before after
 PlaysLine next (Err halt.Memory) player before after = after ≡ before

@@ -21,7 +21,7 @@ pub record HasTaken (run : Run) (script : Script) (bytes : List ℕ) (state : Si
   pub one_line : list_any is_line_end (unended bytes) ≡ false
   pub short : length (unended bytes) < MAX_SCRIPT_LINE_BYTES + 2
   pub count : script.lines ≡ length (ended_lines bytes)
-  pub player : Represents run.playout script.player done.played
+  pub player : Represents run.shown run.playout script.player done.played
 
 -- the run stops at the last line of a reading, after `lines` lines; out of memory it stops after those of its lines that ended
 abbrev pub HaltsAt : Run → Halt → ℕ → Reading → SinkState → Type 0

@@ -1,5 +1,5 @@
 use Rattle.std.proofs.Common.{◌∙◌, sym, subst}
-use Rattle.run_script.specs.inner.Clients.{ClientTakesLine}
+use Rattle.run_script.specs.inner.Clients.{ClientTakesLine, step_in}
 use Rattle.run_script.proofs.Connections.{aimed_replaced, batch_replaced, heard, served_at, tag_at}
 use Rattle.run_script.proofs.clients.Clients.take_line.Goals as goal
 
@@ -10,9 +10,9 @@ returns-clause-takes c = λ playout played no_memory same_config same_names none
     let there = sym c.index_mut.ensures.value in
     let clients = c.place_of.new.self.list.items in
     let now = place.3 playout played are in
-    heard (record { playout = playout; played = played; tag = c.args.tag; text = c.args.text.now; no_memory = no_memory }) c.take_client_line.result clients c.in_ok-at.at old c.take_client_line.new.client
+    heard (record { playout = playout; played = played; tag = c.args.tag; text = c.args.text.now; no_memory = no_memory }) (step_in c.take_client_line.result) clients c.in_ok-at.at old c.take_client_line.new.client
     place.1 there now c.take_client_line.ensures.tag
-    (subst (λ t. ClientTakesLine (record { playout = playout; played = played; tag = t; text = c.args.text.now; no_memory = no_memory }) c.take_client_line.result c.take_client_line.new.client)
+    (subst (λ t. ClientTakesLine (record { playout = playout; played = played; tag = t; text = c.args.text.now; no_memory = no_memory }) (step_in c.take_client_line.result) c.take_client_line.new.client)
     (sym (tag_at c.args.tag c.in_ok-at.at clients old place.1 there))
     (c.take_client_line.ensures.takes playout played no_memory same_config same_names none (served_at playout c.args.tag c.in_ok-at.at clients old played place.1 there now)))
 

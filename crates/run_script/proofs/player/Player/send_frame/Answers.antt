@@ -17,7 +17,7 @@ write_hex-requires-clause-frame_size g c =
     let there : slice_get old.setup.config.channels (channel - 1) ≡ Some c.unwrap.result.now =
     ap₂ (λ l n. slice_get l (n - 1)) (sym c.channels-channels.ensures.value) (sym c.from.ensures) ∙ sym c.get.ensures ∙ ap option_copied c.unwrap.ensures in
     ap length c.frame-picture.ensures.value ∙ c.frame-picture.ensures.range.bytes
-    ∙ ap (λ (s : Geometry). 4 * s.width * s.height) (size_of_frame old channel c.unwrap.result.now c.requires.fits c.requires.channel.0 there ∙ sym c.geometry-size.ensures.value)
+    ∙ ap (λ (s : Geometry). 4 * s.width * s.height) (size_of_frame old c.args.renderer.now channel c.unwrap.result.now c.requires.fits c.requires.channel.0 there ∙ sym c.geometry-size.ensures.value)
 
 pub write_hex-requires-clause-sound_size : goal.write_hex-requires-clause-sound_size
 write_hex-requires-clause-sound_size g c =
@@ -26,7 +26,7 @@ write_hex-requires-clause-sound_size g c =
     let there : slice_get old.setup.config.channels (channel - 1) ≡ Some c.unwrap.result.now =
     ap₂ (λ l n. slice_get l (n - 1)) (sym c.channels-channels.ensures.value) (sym c.from.ensures) ∙ sym c.get.ensures ∙ ap option_copied c.unwrap.ensures in
     ap length c.sound-sound.ensures.value ∙ c.sound-sound.ensures.range.sound
-    ∙ ap (λ (s : Geometry). 4 * s.pairs) (size_of_frame old channel c.unwrap.result.now c.requires.fits c.requires.channel.0 there ∙ sym c.geometry-size.ensures.value)
+    ∙ ap (λ (s : Geometry). 4 * s.pairs) (size_of_frame old c.args.renderer.now channel c.unwrap.result.now c.requires.fits c.requires.channel.0 there ∙ sym c.geometry-size.ensures.value)
 
 pub returns : goal.returns
 returns g c =
@@ -37,8 +37,8 @@ returns g c =
     let size_is = c.geometry-size.ensures.value ∙ sym (size_there old channel c.unwrap.result.now c.requires.channel.0 there) in
     let picture_is = c.frame-picture.ensures.value in
     let sound_is = c.sound-sound.ensures.value in
-    let picture = (frame_at channel old.renderer).bytes in
-    let sound = (frame_at channel old.renderer).sound in
+    let picture = (frame_at channel c.args.renderer.now).bytes in
+    let sound = (frame_at channel c.args.renderer.now).sound in
     let tick = c.args.tick in
     subst (λ text. Sends c.write_hex.result text (g.K.Sink.state c.args.out.now) (g.K.Sink.state c.write_hex.new.to))
     ((λ i. frame_lines channel tick (size_is i) (picture_is i) (sound_is i))

@@ -1,11 +1,11 @@
-use Rattle.std.proofs.Common.{◌∷◌, [], ◌+◌, ap₂, ◌∙◌, subst₂, arith, replicate}
+use Rattle.std.proofs.Common.{◌∷◌, [], ◌+◌, ap, ap₂, ◌∙◌, subst, arith, replicate}
 use Rattle.std.specs.Prelude.{Err}
 use Rattle.std.proofs.lemmas.Result.{err_from_is_err_and}
 use Rattle.play_types.specs.declared.event.Event.TheVariants.{Tick}
 use Rattle.play_outside.specs.SinkState.{after_taking}
-use Rattle.history_model.specs.scripts.Output.{tick_output}
 use Rattle.run_script.specs.Program.{playout_of}
-use Rattle.run_script.specs.inner.Player.{WritesText, events_in, playout_in}
+use Rattle.run_script.specs.Shown.{shown_tick}
+use Rattle.run_script.specs.inner.Player.{WritesText, events_in, playout_in, shown_in}
 use Rattle.run_script.proofs.Counting.{ticks-replicate, ticks_made}
 use Rattle.run_script.proofs.Following.{makes_nothing, makes_then}
 use Rattle.run_script.proofs.Ticking.{no_ticks, tick-more, tick_stopped, tick_written}
@@ -15,7 +15,7 @@ pub loop-turn-init : goal.loop-turn-init
 loop-turn-init g c = record {
   ready = c.requires.ready;
   makes = makes_nothing c.args.self.now;
-  written = no_ticks (playout_in c.args.self.now) (events_in c.args.self.now) _;
+  written = no_ticks (shown_in c.args.self.now) (playout_in c.args.self.now) (events_in c.args.self.now) _;
 }
 
 pub write_tick-requires-clause-time : goal.write_tick-requires-clause-time
@@ -34,9 +34,9 @@ loop-turn-preserved g c =
     record {
       ready = c.in_ok-write_tick.ensures.ready;
       makes = makes_then (replicate turn Tick) (Tick ∷ []) (replicate (turn + 1) Tick) old now c.write_tick.new.self before.makes one (tick-more [] turn);
-      written = tick_written (playout_in old) (events_in old) turn _ _ _ before.written
+      written = tick_written (shown_in old) (playout_in old) (events_in old) turn _ _ _ before.written
           (c.in_ok-write_tick.ensures.written
-          ∙ ap₂ (λ p es. after_taking (g.K.Sink.state c.loop-turn.out) (tick_output p es)) (ap₂ playout_of before.makes.setup before.makes.digests) before.makes.history);
+          ∙ ap (after_taking (g.K.Sink.state c.loop-turn.out)) (λ i. shown_tick (before.makes.shown i) (ap₂ playout_of before.makes.setup before.makes.digests i) (before.makes.history i)));
     }
 
 pub returns-in_err-write_tick-clause-written : goal.returns-in_err-write_tick-clause-written
@@ -45,6 +45,6 @@ returns-in_err-write_tick-clause-written g c =
     let before = c.loop-turn.invariant in
     let old = c.args.self.now in
     rw (p.1, p.2)
-    (tick_stopped (playout_in old) (events_in old) c.loop-turn._turn c.args.count _ _ _ c.in_err-write_tick.field-0.0 before.written c.loop-turn-test.true
-    (subst₂ (λ q es. WritesText (Err c.in_err-write_tick.field-0.0) (tick_output q es) (g.K.Sink.state c.loop-turn.out) (g.K.Sink.state c.write_tick.new.out))
-    (ap₂ playout_of before.makes.setup before.makes.digests) before.makes.history c.in_err-write_tick.ensures.written))
+    (tick_stopped (shown_in old) (playout_in old) (events_in old) c.loop-turn._turn c.args.count _ _ _ c.in_err-write_tick.field-0.0 before.written c.loop-turn-test.true
+    (subst (λ text. WritesText (Err c.in_err-write_tick.field-0.0) text (g.K.Sink.state c.loop-turn.out) (g.K.Sink.state c.write_tick.new.out))
+    (λ i. shown_tick (before.makes.shown i) (ap₂ playout_of before.makes.setup before.makes.digests i) (before.makes.history i)) c.in_err-write_tick.ensures.written))

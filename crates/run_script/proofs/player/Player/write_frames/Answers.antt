@@ -6,11 +6,11 @@ use Rattle.run_script.proofs.Writing.{text_written}
 use Rattle.run_script.proofs.player.Player.write_frames.Goals as goal
 
 pub loop-at-init : goal.loop-at-init
-loop-at-init g c = no_texts (frame_text c.args.self.now c.args.tick) _
+loop-at-init g c = no_texts (frame_text c.args.self.now c.args.renderer.now c.args.tick) _
 
 pub loop-at-preserved : goal.loop-at-preserved
 loop-at-preserved g c =
-    let text = frame_text c.args.self.now c.args.tick in
+    let text = frame_text c.args.self.now c.args.renderer.now c.args.tick in
     text_more text c.loop-at.at _ _ _ c.loop-at.invariant
     (subst (λ r. WritesText r (text (c.loop-at.at + 1)) (g.K.Sink.state c.loop-at.out) (g.K.Sink.state c.send_frame.new.out))
     (sym c.written.ensures ∙ c.in_ok-written.was)
@@ -19,7 +19,7 @@ loop-at-preserved g c =
 pub returns-in_err-written : goal.returns-in_err-written
 returns-in_err-written g c =
     let p = err_from_is_err_and c.from_residual.result c.from_residual.ensures.1 in
-    let text = frame_text c.args.self.now c.args.tick in
+    let text = frame_text c.args.self.now c.args.renderer.now c.args.tick in
     let count = c.requires.scenes in
     let inside : c.loop-at.at < channels_in c.args.self.now = omega (arith, count, c.channels-at-end.ensures.value, c.loop-at-test.true) in
     rw (p.1, p.2)

@@ -6,4 +6,4 @@ use Rattle.run_script.proofs.player.Player.write_frames.Given as goal
 
 -- the frames of the channels before this one were written
 abbrev pub invariant-loop-at : goal.invariant-loop-at
-invariant-loop-at g l = g.K.Sink.state l.out ≡ after_taking (g.K.Sink.state l.initial.out) (texts_to (frame_text l.fn.self l.fn.tick) l.at)
+invariant-loop-at g l = g.K.Sink.state l.out ≡ after_taking (g.K.Sink.state l.initial.out) (texts_to (frame_text l.fn.self l.fn.renderer l.fn.tick) l.at)

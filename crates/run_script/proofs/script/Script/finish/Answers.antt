@@ -21,20 +21,20 @@ returns-in-Ok g c = λ run bytes taken short.
     let waiting = c.args.self.now.waiting in
     let some : 0 < vec_len waiting = grind (arith, nat_tests) in
     let there : 0 < length waiting.items = omega (arith, waiting.ok.0) in
-    let line_is = c.as_slice.ensures.value ∙ taken.waiting in
+    let line_is = c.as_slice-line.ensures.value ∙ taken.waiting in
     ended_done run c.args.self.now bytes _ _ taken short (subst (λ l. 0 < length l) taken.waiting there) c.take_line.new.self
     (subst
-    (λ l. PlaysLine (record { playout = run.playout; before = taken.done.played; line = meaning l }) (Ok c.in-Ok.field-0) c.take_line.new.self (g.K.Sink.state c.args.out.now) (g.K.Sink.state c.take_line.new.out))
-    line_is (c.in-Ok.ensures.plays run.playout taken.done.played (ap (list_any is_line_end) line_is ∙ taken.one_line) taken.done.runs_on taken.player))
+    (λ l. PlaysLine (record { playout = run.playout; shown = run.shown; before = taken.done.played; line = meaning l }) (Ok c.in-Ok.reply) c.take_line.new.self (g.K.Sink.state c.args.out.now) (g.K.Sink.state c.take_line.new.out))
+    line_is (c.in-Ok.ensures.plays run.shown run.playout taken.done.played (ap (list_any is_line_end) line_is ∙ taken.one_line) taken.done.runs_on taken.player))
 
 pub returns-in-Err : goal.returns-in-Err
 returns-in-Err g c = λ run bytes taken short.
     let waiting = c.args.self.now.waiting in
     let some : 0 < vec_len waiting = grind (arith, nat_tests) in
     let there : 0 < length waiting.items = omega (arith, waiting.ok.0) in
-    let line_is = c.as_slice.ensures.value ∙ taken.waiting in
+    let line_is = c.as_slice-line.ensures.value ∙ taken.waiting in
     subst (λ e. EndsAs run e (reading_of bytes true) (g.K.Sink.state c.take_line.new.out)) (sym c.ending.ensures)
     (ended_stops run c.args.self.now bytes _ _ taken short (subst (λ l. 0 < length l) taken.waiting there) c.take_line.new.self c.in-Err.halt
     (subst
-    (λ l. PlaysLine (record { playout = run.playout; before = taken.done.played; line = meaning l }) (Err c.in-Err.halt) c.take_line.new.self (g.K.Sink.state c.args.out.now) (g.K.Sink.state c.take_line.new.out))
-    line_is (c.in-Err.ensures.plays run.playout taken.done.played (ap (list_any is_line_end) line_is ∙ taken.one_line) taken.done.runs_on taken.player)))
+    (λ l. PlaysLine (record { playout = run.playout; shown = run.shown; before = taken.done.played; line = meaning l }) (Err c.in-Err.halt) c.take_line.new.self (g.K.Sink.state c.args.out.now) (g.K.Sink.state c.take_line.new.out))
+    line_is (c.in-Err.ensures.plays run.shown run.playout taken.done.played (ap (list_any is_line_end) line_is ∙ taken.one_line) taken.done.runs_on taken.player)))

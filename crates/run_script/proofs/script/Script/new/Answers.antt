@@ -4,7 +4,7 @@ use Rattle.run_script.proofs.Endings.{none_taken}
 use Rattle.run_script.proofs.script.Script.new.Goals as goal
 
 pub returns-clause-small : goal.returns-clause-small
-returns-clause-small c = (omega (arith, ap ticks c.in_ok-new.ensures.empty, ap length c.new.ensures.items), refl)
+returns-clause-small c = (omega (arith, ap ticks c.requires, ap length c.new.ensures.items), refl)
 
 pub returns-clause-taken : goal.returns-clause-taken
-returns-clause-taken c = λ first. none_taken _ _ c.new.ensures.items refl c.in_ok-new.ensures.represents
+returns-clause-taken c = λ run represents. none_taken run _ c.new.ensures.items refl represents

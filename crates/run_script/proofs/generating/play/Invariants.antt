@@ -1,0 +1,18 @@
+use Rattle.std.proofs.Common.{◌≡◌, ◌*◌, ◌≤◌}
+use Rattle.play_types.specs.History.{ticks}
+use Rattle.history_model.specs.scripts.Generator.{step_lines}
+use Rattle.run_script.proofs.MadeScripts.{step_state}
+use Rattle.run_script.specs.inner.Made.{HasMade}
+use Rattle.run_script.specs.inner.Player.{IsReady, events_in}
+use Rattle.run_script.specs.inner.Ticks.{ticks_per_byte}
+use Rattle.run_script.proofs.generating.play.Given as goal
+
+-- the lines of the steps before this one were played
+abbrev pub invariant-loop-step : goal.invariant-loop-step
+invariant-loop-step g l = record {
+  ready : IsReady l.run.player;
+  ticks : ticks (events_in l.run.player) ≤ ticks_per_byte * 65 * l._step;
+  few : l.run.refused ≤ l._step;
+  made : HasMade (step_lines l._step l.fn.seed) l.run;
+  state : l.generator.state ≡ step_state l._step l.fn.seed;
+}

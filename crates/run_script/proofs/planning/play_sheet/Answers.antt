@@ -1,0 +1,26 @@
+use Rattle.run_script.specs.Ending.{fault_in}
+use Rattle.run_script.specs.Program.{playout_of}
+use Rattle.run_script.specs.Script.{Run}
+use Rattle.run_script.specs.Shown.{Frames}
+use Rattle.run_script.proofs.PlayedLines.{never_rejected, none_played}
+use Rattle.run_script.proofs.SheetMoments.{sheet_ended}
+use Rattle.run_script.proofs.SheetReadings.{sheet_unplayed}
+use Rattle.run_script.proofs.planning.play_sheet.Goals as goal
+
+pub returns-in_err-player : goal.returns-in_err-player
+returns-in_err-player g c = sheet_unplayed _ _ c.from_residual.result _ c.from_residual.ensures.1
+
+pub returns-in_err-steps : goal.returns-in_err-steps
+returns-in_err-steps g c = sheet_unplayed _ _ c.from_residual-in_err-steps.result _ c.from_residual-in_err-steps.ensures.1
+
+pub outcome-requires : goal.outcome-requires
+outcome-requires g c =
+    let run : Run = record { playout = playout_of c.args.setup c.args.options.digests; shown = Frames; first = g.K.Sink.state c.args.out.now } in
+    never_rejected run _ c.play_steps.result c.play_steps.new.player _
+    (c.play_steps.ensures run (none_played run c.in_ok-player.player c.in_ok-player.ensures.represents))
+
+pub returns : goal.returns
+returns g c =
+    let run : Run = record { playout = playout_of c.args.setup c.args.options.digests; shown = Frames; first = g.K.Sink.state c.args.out.now } in
+    sheet_ended run.playout c.args.sheet.now c.play_steps.result (fault_in c.outcome.result) c.play_steps.new.player _ _ c.outcome.ensures
+    (rw c.in_ok-steps.ensures at (c.play_steps.ensures run (none_played run c.in_ok-player.player c.in_ok-player.ensures.represents)))

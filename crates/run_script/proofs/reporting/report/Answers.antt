@@ -1,0 +1,15 @@
+use Rattle.std.specs.Prelude.{false}
+use Rattle.run_script.specs.Program.{playout_of}
+use Rattle.run_script.specs.Shown.{Status}
+use Rattle.run_script.proofs.Beginning.{as_itself, runs_as}
+use Rattle.run_script.proofs.Progress.{nothing_read}
+use Rattle.run_script.proofs.reporting.report.Goals as goal
+
+pub play_input-requires-clause-new : goal.play_input-requires-clause-new
+play_input-requires-clause-new g c κs within = as_itself Status (playout_of c.args.setup false) _ c.in-Ok.ensures.represents
+
+pub returns-in-Err : goal.returns-in-Err
+returns-in-Err g c = nothing_read _ _ _
+
+pub returns-in-Ok : goal.returns-in-Ok
+returns-in-Ok g c = runs_as Status (playout_of c.args.setup false) _ c.in-Ok.ensures.represents _ _ _ c.play_input.ensures

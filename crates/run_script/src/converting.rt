@@ -1,0 +1,30 @@
+//! A clip that is read and written with straight alpha.
+ghost use Rattle.run_script.specs.Converting.{Converts};
+ghost use Rattle.run_script.specs.Ending.{fault_in};
+
+use crate::reading::read_all;
+use clip_format::{decode, encode, straight_clip};
+use play_outside::{Sent, Sink, Source};
+use server_setup::RunFault;
+use std::alloc::Global;
+
+/// The most bytes that a clip may have that is converted.
+const MAX_CLIP_BYTES: usize = 1_073_741_824;
+
+/// Reads a clip to the end of the input, and writes it as one of version 2, which shows the same.
+pub fn convert<I: Source, K: Sink>(
+    alloc: Global,
+    input: &mut I,
+    out: &mut K,
+) -> Result<(), RunFault>
+    ensures { Converts (fault_in result)
+        (record { input = I.state input.old; out = K.state out.old })
+        (record { input = I.state input.new; out = K.state out.new }) }
+{
+    let bytes = read_all(alloc, MAX_CLIP_BYTES, input)?;
+    let clip = decode(bytes)?;
+    match encode(&straight_clip(clip), out) {
+        Sent::All => Ok(()),
+        Sent::Failed => Err(RunFault::Device),
+    }
+}

@@ -1,6 +1,6 @@
-//! A clip that is read and written, and a table, with ample memory and room.
+//! Clips that are read, made straight and written, files that are no clips, and a table, with ample memory and room.
 
-use clip_format::{MediaTable, decode, encode};
+use clip_format::{MediaTable, decode, encode, straight_clip};
 use play_outside::{MemSink, Sent};
 use play_types::{ClipFault, Text};
 use std::test::Fail;
@@ -14,6 +14,85 @@ fn clips_are_read_and_written(rt: HostRuntime) -> Result<(), Fail> {
     let mut sink = MemSink::new(rt.alloc(), 0, 50, 7, Vec::new(rt.alloc()))?;
     assert_eq!(rt; encode(&clip, &mut sink), Sent::All);
     assert_eq!(rt; sink.taken(), file.as_slice());
+    Ok(())
+}
+
+/// Clip files, each before the file of version 2 that shows the same. The second has a colour above its alpha and one without an
+/// alpha, and the last two are of version 2.
+const STRAIGHT: [(&[u8], &[u8]); 4] = [
+    (
+        b"RCLP\0\x01\0\0\0\x01\0\x01\0\0\0\x01\0\0\0\0\0\0\x40\x80",
+        b"RCLP\0\x02\0\0\0\x01\0\x01\0\0\0\x01\0\0\0\0\0\0\x80\x80",
+    ),
+    (
+        b"RCLP\0\x01\0\0\0\x02\0\x01\0\0\0\x01\0\x01\0\0\0\0\xff\x80\x01\x02\x03\0l1r1",
+        b"RCLP\0\x02\0\0\0\x02\0\x01\0\0\0\x01\0\x01\0\0\0\0\xff\x80\0\0\0\0l1r1",
+    ),
+    (
+        b"RCLP\0\x02\0\0\0\x01\0\x01\0\0\0\x01\0\0\0\0\0\0\x80\x80",
+        b"RCLP\0\x02\0\0\0\x01\0\x01\0\0\0\x01\0\0\0\0\0\0\x80\x80",
+    ),
+    (
+        b"RCLP\0\x02\0\0\0\x01\0\x01\0\0\0\x01\0\0\0\0\0\0\xff\x80",
+        b"RCLP\0\x02\0\0\0\x01\0\x01\0\0\0\x01\0\0\0\0\0\0\xff\x80",
+    ),
+];
+
+#[test]
+fn clips_are_made_straight(rt: HostRuntime) -> Result<(), Fail> {
+    for (file, straight) in STRAIGHT {
+        let clip = decode(Vec::from_slice(rt.alloc(), file)?)
+            .ok()
+            .ok_or("the bytes are a clip")?;
+        let mut sink = MemSink::new(rt.alloc(), 0, 50, 7, Vec::new(rt.alloc()))?;
+        assert_eq!(&rt; encode(&straight_clip(clip), &mut sink), Sent::All);
+        assert_eq!(&rt; sink.taken(), straight);
+    }
+    Ok(())
+}
+
+/// The file of one pixel without sound.
+const PIXEL: &[u8] = b"RCLP\0\x01\0\0\0\x01\0\x01\0\0\0\x01\0\0\0\0abcd";
+
+/// Headers, and why the file that has no more is no clip. The last one has the greatest numbers.
+const HEADERS: [(&[u8], ClipFault); 4] = [
+    (
+        b"RCLP\0\x01\0\0\x10\x01\0\x01\0\0\0\x01\0\0\0\0",
+        ClipFault::BadField { at: 8 },
+    ),
+    (
+        b"RCLP\0\x01\0\0\0\x01\0\x01\0\0\0\0\0\0\0\0",
+        ClipFault::BadField { at: 12 },
+    ),
+    (
+        b"RCLP\0\x01\0\0\0\x01\0\x01\0\0\0\x01\0\0\0\x01",
+        ClipFault::BadField { at: 18 },
+    ),
+    (
+        b"RCLP\0\x01\0\0\x10\0\x10\0\0\x0F\x42\x40\x10\0\0\0",
+        ClipFault::Short {
+            needed: 67_125_248_000_020,
+            had: 20,
+        },
+    ),
+];
+
+#[test]
+fn files_that_are_no_clips(rt: HostRuntime) -> Result<(), Fail> {
+    let alloc = rt.alloc();
+    for had in 0..PIXEL.len() {
+        let needed = if had < 20 { 20 } else { 24 };
+        let fault = ClipFault::Short {
+            needed,
+            had: had as u64,
+        };
+        let file = Vec::from_slice(alloc, &PIXEL[..had])?;
+        assert_eq!(rt; decode(file).err(), Some(fault));
+    }
+    for (header, fault) in HEADERS {
+        let file = Vec::from_slice(alloc, header)?;
+        assert_eq!(rt; decode(file).err(), Some(fault));
+    }
     Ok(())
 }
 

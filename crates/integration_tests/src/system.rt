@@ -1,5 +1,5 @@
 //! Files of the system, of which no clause says what they hold, and words with ample memory.
-use host_system::{FolderMedia, words_of};
+use host_system::{FolderMedia, Progress, words_of};
 use play_outside::{FileFault, MediaDir};
 use std::test::Fail;
 use std::{env, fs};
@@ -11,7 +11,7 @@ fn reads_files(rt: HostRuntime) -> Result<(), Fail> {
     fs::write(&rt, "host_system_test/one", "abc")?;
     let large = vec![in alloc; 7; 1_048_577]?;
     fs::write(&rt, "host_system_test/.large", large.as_slice())?;
-    let mut media = FolderMedia::new(rt.clone()?, "host_system");
+    let mut media = FolderMedia::new(rt.clone()?, "host_system", Progress::Total);
     let read = media.config(alloc, "host_system_test/one")?;
     assert_eq!(rt; read.as_slice(), b"abc".as_slice());
     let read = media.bytes(alloc, "host_system_test", "one")?;

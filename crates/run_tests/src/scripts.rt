@@ -28,12 +28,33 @@ const CONFIGS: [(&str, &str); 2] = [
 const SONG: &[u8] =
     b"RCLP\0\x01\0\0\0\x01\0\x01\0\0\0\x02\0\x01\0\0\0\xff\0\xff\xe8\x03\x18\xfc\xff\0\0\xff\xd0\x07\x30\xf8";
 
+/// Clip files of one red pixel of alpha 128, each after its name: two of version 1, whose colours are lowered to the alpha, and two of
+/// version 2, whose colours are multiplied by it.
+const PIXELS: [(&str, &[u8]); 4] = [
+    (
+        "low1.rclp",
+        b"RCLP\0\x01\0\0\0\x01\0\x01\0\0\0\x01\0\0\0\0\0\0\x40\x80",
+    ),
+    (
+        "low2.rclp",
+        b"RCLP\0\x02\0\0\0\x01\0\x01\0\0\0\x01\0\0\0\0\0\0\x80\x80",
+    ),
+    (
+        "high1.rclp",
+        b"RCLP\0\x01\0\0\0\x01\0\x01\0\0\0\x01\0\0\0\0\0\0\xff\x80",
+    ),
+    (
+        "high2.rclp",
+        b"RCLP\0\x02\0\0\0\x01\0\x01\0\0\0\x01\0\0\0\0\0\0\xff\x80",
+    ),
+];
+
 /// The bytes of each other clip file: three frames of one pixel.
 const CLIP: &[u8] =
     b"RCLP\0\x01\0\0\0\x01\0\x01\0\0\0\x03\0\0\0\0\0\0\0\xff\0\0\x50\xff\0\0\xa0\xff";
 
 /// Runs: the words, the names of the clip files, the script, the exit status and the output.
-const RUNS: [(&str, &str, &str, u8, &str); 8] = [
+const RUNS: [(&str, &str, &str, u8, &str); 14] = [
     (
         "run 1 1",
         "",
@@ -56,6 +77,13 @@ const RUNS: [(&str, &str, &str, u8, &str); 8] = [
         "1.1 202 PLAY OK\nF 1 1\n0000000000000000\nF 2 1\n000000ff\n1.1 202 PAUSE OK\nF 1 2\n0000000000000000\nF 2 2\n000050ff\n1.1 202 LOADBG OK\n1.1 202 RESUME OK\nF 1 3\n0000000000000000\nF 2 3\n000050ff\nF 1 4\n0000000000000000\nF 2 4\n0000a0ff\nF 1 5\n0000000000000000\nF 2 5\n0000ffff\n1.1 202 STOP OK\n1.1 202 CLEAR OK\n1.1 200 INFO OK\n1.1 1 2x1 EMPTY\n1.1 2 1x1 EMPTY\n1.1 \nF 1 6\n0000000000000000\nF 2 6\n00000000\n",
     ),
     (
+        "run --config two",
+        "low1.rclp low2.rclp high1.rclp high2.rclp",
+        "1.1 PLAY 2-0 LOW1\nT\n1.1 PLAY 2-0 LOW2\nT\n1.1 PLAY 2-0 HIGH1\nT\n1.1 PLAY 2-0 HIGH2\nT\n",
+        0,
+        "1.1 202 PLAY OK\nF 1 1\n0000000000000000\nF 2 1\n00004080\n1.1 202 PLAY OK\nF 1 2\n0000000000000000\nF 2 2\n00004080\n1.1 202 PLAY OK\nF 1 3\n0000000000000000\nF 2 3\n00008080\n1.1 202 PLAY OK\nF 1 4\n0000000000000000\nF 2 4\n00008080\n",
+    ),
+    (
         "run --config two --digest",
         "three.rclp",
         "1.1 PLAY 2-0 THREE\nT 2",
@@ -66,6 +94,20 @@ D 2 1 e3820096cb82366b860b8a4e668453a7aaaf423af03bdf289fa308ea03a79332
 D 1 2 af5570f5a1810b7af78caf4bc70a660f0df51e42baf91d4de5b2328de0e83dfc
 D 2 2 528e90ed2693270b3661c9f5af8c7ce302dc39968b9e1e24511272fba9ee3906
 ",
+    ),
+    (
+        "run 1 1",
+        "",
+        "1.1 REQ a1 PLAY 1-0 RED\n1.1 req b MIXER 1-0 OPACITY\n1.1 REQ\n1.1 REQ c\n1.1 REQ \"x y\" INFO\n1.1 REQ d REQ e INFO\n1.1 REQ f BYE\n",
+        0,
+        "1.1 RES a1 202 PLAY OK\n1.1 RES b 201 MIXER OK\n1.1 1\n1.1 402 REQ ERROR\n1.1 RES c 402 REQ ERROR\n1.1 403 REQ ERROR\n1.1 RES d 400 ERROR\n1.1 REQ d REQ e INFO\n",
+    ),
+    (
+        "run 1 1",
+        "",
+        "1.1 REQ aaaaaaaaaaaaaaaaaaaaaaaaaaaaaaaaaaaaaaaaaaaaaaaaaaaaaaaaaaaaaaaa BEGIN\n1.1 REQ aaaaaaaaaaaaaaaaaaaaaaaaaaaaaaaaaaaaaaaaaaaaaaaaaaaaaaaaaaaaaaaaa STOP 1-0\n1.1 REQ 2 STOP 1-0\n1.1 REQ 3 INFO\n1.1 STOP 1-1\n1.1 REQ 4 COMMIT\n1.1 REQ ! INFO\n1.1 REQ 5 \"INFO\n1.1 REQ ~ KILL\n",
+        0,
+        "1.1 RES aaaaaaaaaaaaaaaaaaaaaaaaaaaaaaaaaaaaaaaaaaaaaaaaaaaaaaaaaaaaaaaa 202 BEGIN OK\n1.1 403 REQ ERROR\n1.1 RES 2 202 STOP OK\n1.1 RES 3 403 INFO ERROR\n1.1 202 STOP OK\n1.1 RES 4 202 COMMIT OK\n1.1 RES ! 200 INFO OK\n1.1 1 1x1 EMPTY\n1.1 \n1.1 400 ERROR\n1.1 REQ 5 \"INFO\n1.1 RES ~ 202 KILL OK\n",
     ),
     ("run 1 1", "", "T\nzzz\n", 2, "F 1 1\n00000000\nE line 2\n"),
     (
@@ -113,16 +155,103 @@ ff0000ff
         3,
         "E media twice A\n",
     ),
+    (
+        "run 1 1",
+        "",
+        "1.1 PLAY 1-0 RED\n1.1 MIXER 1-0 OPACITY 0 4 EASEINQUAD\nT\n1.1 MIXER 1-0 OPACITY\n1.1 MIXER 1-0 CLEAR\n1.1 MIXER 1-0 OPACITY 0 4 EASEOUTQUAD\nT\n1.1 MIXER 1-0 OPACITY\n1.1 MIXER 1-0 CLEAR\n1.1 MIXER 1-0 OPACITY 0 4 EASEINCUBIC\nT\n1.1 MIXER 1-0 OPACITY\n1.1 MIXER 1-0 CLEAR\n1.1 MIXER 1-0 OPACITY 0 4 EASEOUTCUBIC\nT\n1.1 MIXER 1-0 OPACITY\n",
+        0,
+        "1.1 202 PLAY OK
+1.1 202 MIXER OK
+F 1 1
+0000efef
+1.1 201 MIXER OK
+1.1 0.9375
+1.1 202 MIXER OK
+1.1 202 MIXER OK
+F 1 2
+00008f8f
+1.1 201 MIXER OK
+1.1 0.5625
+1.1 202 MIXER OK
+1.1 202 MIXER OK
+F 1 3
+0000fbfb
+1.1 201 MIXER OK
+1.1 0.984375
+1.1 202 MIXER OK
+1.1 202 MIXER OK
+F 1 4
+00006c6c
+1.1 201 MIXER OK
+1.1 0.421875
+",
+    ),
+    (
+        "run 1 1",
+        "",
+        "1.1 PLAY 1-0 BLUE\n1.1 PLAY 1-0 RED MIX 2 EASEOUTQUAD\nT 2\n",
+        0,
+        "1.1 202 PLAY OK\n1.1 202 PLAY OK\nF 1 1\n4000bfff\nF 1 2\n0000ffff\n",
+    ),
+    (
+        "run --config sound",
+        "song.rclp",
+        "1.1 PLAY 1-0 SONG LOOP\nT\n1.1 PLAY 1-0 RED WIPE 4 EASEINQUAD\nT 4\n",
+        0,
+        "1.1 202 PLAY OK
+F 1 1
+00ff00ff00ff00ff
+e80318fc
+F 2 1
+00000000
+00000000
+1.1 202 PLAY OK
+F 1 2
+ff0000ffff0000ff
+5307adf8
+F 2 2
+00000000
+00000000
+F 1 3
+00ff00ff00ff00ff
+ee0212fd
+F 2 3
+00000000
+00000000
+F 1 4
+0000ffffff0000ff
+6b0395fc
+F 2 4
+00000000
+00000000
+F 1 5
+0000ffff0000ffff
+00000000
+F 2 5
+00000000
+00000000
+",
+    ),
     ("run --config none", "", "T\n", 4, "E device\n"),
 ];
 
 /// Returns the words of a line.
-fn words_of(alloc: Global, line: &str) -> Result<Vec<String>, Fail> {
+pub fn words_of(alloc: Global, line: &str) -> Result<Vec<String>, Fail> {
     let mut words = Vec::new(alloc);
     for word in line.split_whitespace() {
         words.push(String::from_str(alloc, word)?)?;
     }
     Ok(words)
+}
+
+/// Returns the bytes of the clip file of this name.
+fn clip_file(name: &str) -> &'static [u8] {
+    for (pixel_name, bytes) in PIXELS {
+        if name == pixel_name {
+            return bytes;
+        }
+    }
+    if name == "song.rclp" { SONG } else { CLIP }
 }
 
 /// Returns a folder with the configurations and with clip files of these names.
@@ -139,7 +268,7 @@ fn folder_of(alloc: Global, names: &str) -> Result<MemMedia, Fail> {
         files.push(MemFile {
             folder: String::from_str(alloc, "m")?,
             name: String::from_str(alloc, name)?,
-            bytes: Vec::from_slice(alloc, if name == "song.rclp" { SONG } else { CLIP })?,
+            bytes: Vec::from_slice(alloc, clip_file(name))?,
         })?;
     }
     Ok(MemMedia::new(configs, files, Vec::new(alloc)))

@@ -7,9 +7,10 @@ use std::alloc::Global;
 use std::test::Fail;
 
 /// Lines, and the step of each. Memory is taken for the words of a line, and for the text of a line that is no command.
-const LINES: [(&[u8], &str); 10] = [
+const LINES: [(&[u8], &str); 11] = [
     (b" ", "Skip"),
     (b"info", "Ask(Info)"),
+    (b"REQ a INFO", "Ask(Info)"),
     (b"PAUSE 9-0", "Local(Refused(401, Pause))"),
     (b"FROB 1", "Local(Unknown(Text { text: \"FROB 1\" }))"),
     (b"FROB \"1", "Local(Unknown(Text { text: \"FROB \\\"1\" }))"),
@@ -48,9 +49,10 @@ fn no_line_is_given_up_with_ample_memory(rt: HostRuntime) -> Result<(), Fail> {
     let alloc = rt.alloc();
     let mut fed = Session::new(alloc)?;
     let mut taking = Session::new(alloc)?;
-    let long = "a".repeat(alloc, 4_097)?;
+    let long = "REQ a ".repeat(alloc, 683)?;
     let unknown = "Local(Unknown(Text { text: \"\" }))";
     assert!(rt; is_step(alloc, &mut fed, &mut taking, long.as_bytes(), unknown)?);
+    assert!(rt; fed.token().is_none() && taking.token().is_none());
     for (line, wanted) in LINES {
         assert!(rt;
             is_step(alloc, &mut fed, &mut taking, line, wanted)?,

@@ -3,7 +3,7 @@ ghost use Rattle.std.specs.Prelude.{◌≡◌, ◌<◌, IfSome};
 
 use play_outside::{Arrival, Beat, Clock, FileFault, Link, LinkStep, Listener, Sent, send};
 use play_types::{Channel, ChannelList, Config, Text};
-use real_devices::{RateClock, RealDevices, TcpDoor, ready};
+use real_devices::{DoorGroup, RateClock, RealDevices, TcpDoor, finish, ready};
 use std::alloc::Global;
 use std::io::Write;
 use std::net::{TcpListener, TcpStream};
@@ -45,7 +45,7 @@ fn serve<D: Listener>(door: &mut D) -> Option<(LinkStep, Sent)>
 fn answers_a_client(rt: HostRuntime) -> Result<(), Fail> {
     let listener = TcpListener::bind(&rt, "127.0.0.1:0")?;
     let port = listener.local_addr()?.port();
-    let mut door = TcpDoor::new(listener, rt, 1)?;
+    let mut door = TcpDoor::new(listener, rt, DoorGroup::new(rt.alloc())?, 1)?;
     let mut client = TcpStream::connect(&rt, ("127.0.0.1", port))?;
     client.write_all(b"VERSION\r\nINFO\r\n")?;
     let served = serve(&mut door);
@@ -67,14 +67,19 @@ fn gives_pulses_in_time(rt: HostRuntime) -> Result<(), Fail> {
     Ok(())
 }
 
-/// Returns a configuration with an address, and an output for each of two channels.
-fn config_of(alloc: Global, address: &str, outputs: [&str; 2]) -> Result<Config, Fail> {
+/// Returns a configuration with an address, a media folder, and an output for each of two channels.
+fn config_of(
+    alloc: Global,
+    address: &str,
+    media: &str,
+    outputs: [&str; 2],
+) -> Result<Config, Fail> {
     let mut channels = ChannelList::new(alloc);
     for output in outputs {
         let channel = Channel::new(1, 1, 0, Text::copy(alloc, output)?);
         channels.push(channel.ok_or("no channel")?)?;
     }
-    let (address, media) = (Text::copy(alloc, address)?, Text::copy(alloc, "m")?);
+    let (address, media) = (Text::copy(alloc, address)?, Text::copy(alloc, media)?);
     Ok(Config::new(address, media, 25, 3, 9, channels).ok_or("no configuration")?)
 }
 
@@ -99,8 +104,8 @@ fn makes_devices(rt: HostRuntime) -> Result<(), Fail> {
     for path in OUTPUTS {
         fs::write(&rt, path, "what an earlier run wrote")?;
     }
-    let config = config_of(alloc, "127.0.0.1:0", OUTPUTS)?;
-    let devices = ready(rt, alloc, &config, None)?;
+    let config = config_of(alloc, "127.0.0.1:0", "m", OUTPUTS)?;
+    let devices = ready(rt, alloc, &config, None, None)?;
     assert!(rt; write_to_all(devices));
     for path in OUTPUTS {
         assert_eq!(rt; fs::read_to_string(&rt, path)?.as_str(), "frame");
@@ -123,9 +128,87 @@ const NOT_READY: [(&str, [&str; 2], &str); 5] = [
 fn makes_no_devices(rt: HostRuntime) -> Result<(), Fail> {
     let alloc = rt.alloc();
     for (address, outputs, history) in NOT_READY {
-        let config = config_of(alloc, address, outputs)?;
-        let fault = ready(rt, alloc, &config, Some(history)).err();
+        let config = config_of(alloc, address, "m", outputs)?;
+        let fault = ready(rt, alloc, &config, None, Some(history)).err();
         assert_eq!(rt; fault, Some(FileFault::Failed));
     }
+    Ok(())
+}
+
+/// A folder of its own, for files that have a use already.
+const USED: &str = "used_files_test";
+
+/// Outputs of two channels, and a path of the history, of which two are one file, or one is the configuration `c` or the
+/// clip `d.RCLP`. `l` is a link to `c`.
+const ONE_FILE: [([&str; 2], &str); 6] = [
+    (["used_files_test/a", "used_files_test/./a"], "/dev/null"),
+    (["/dev/null", "used_files_test/a"], "used_files_test//a"),
+    (["/dev/null", "used_files_test/a.part"], "used_files_test/a"),
+    (["/dev/null", "used_files_test/l"], "/dev/null"),
+    (["/dev/null", "/dev/null"], "used_files_test/l"),
+    (["used_files_test/d.RCLP", "/dev/null"], "/dev/null"),
+];
+
+/// Returns why no devices are made with these outputs and this path for the history, if none are.
+fn fault_of(rt: HostRuntime, outputs: [&str; 2], history: &str) -> Result<Option<FileFault>, Fail> {
+    let alloc = rt.alloc();
+    let config = config_of(alloc, "127.0.0.1:0", USED, outputs)?;
+    Ok(ready(rt, alloc, &config, Some("used_files_test/c"), Some(history)).err())
+}
+
+/// Makes a configuration, a clip, and a second name for the configuration.
+fn make_used_files(rt: HostRuntime) -> Result<(), Fail> {
+    fs::create_dir_all(&rt, USED)?;
+    fs::write(&rt, "used_files_test/c", "a configuration")?;
+    fs::write(&rt, "used_files_test/d.RCLP", "a clip")?;
+    fs::hard_link(&rt, "used_files_test/c", "used_files_test/l")?;
+    Ok(())
+}
+
+/// No clause says which files are one, and none that a file is left as it is.
+#[test]
+fn leaves_files_that_have_a_use(rt: HostRuntime) -> Result<(), Fail> {
+    make_used_files(rt)?;
+    for (outputs, history) in ONE_FILE {
+        assert_eq!(rt; fault_of(rt, outputs, history)?, Some(FileFault::Failed));
+    }
+    assert_eq!(rt;
+        fault_of(rt, ["/dev/null", "/dev/null"], "/dev/null")?,
+        None
+    );
+    let kept = fs::read_to_string(&rt, "used_files_test/c")?;
+    assert_eq!(rt; kept.as_str(), "a configuration");
+    let kept = fs::read_to_string(&rt, "used_files_test/d.RCLP")?;
+    assert_eq!(rt; kept.as_str(), "a clip");
+    fs::remove_dir_all(&rt, USED)?;
+    Ok(())
+}
+
+/// Writes a history to a path, and returns whether all of it was taken.
+fn write_history(rt: HostRuntime, history: &[u8], path: &str) -> Result<bool, Fail> {
+    let alloc = rt.alloc();
+    let config = config_of(alloc, "127.0.0.1:0", "m", ["/dev/null", "/dev/null"])?;
+    let mut devices = ready(rt, alloc, &config, None, Some(path))?;
+    let is_taken = matches!(send(history, &mut devices.history), Sent::All);
+    finish(devices);
+    Ok(is_taken)
+}
+
+/// No clause says what a file is called.
+#[test]
+fn keeps_earlier_histories(rt: HostRuntime) -> Result<(), Fail> {
+    fs::create_dir_all(&rt, "journal_test")?;
+    for history in [&b"first"[..], b"", b"second", b"", b"third"] {
+        assert!(rt; write_history(rt, history, "journal_test/h")?);
+    }
+    let written = [("h", "third"), ("h.1", "first"), ("h.2", "second")];
+    for (name, history) in written {
+        let path = format!(in rt.alloc(); "journal_test/{name}")?;
+        assert_eq!(rt; fs::read_to_string(&rt, path.as_str())?.as_str(), history);
+    }
+    for name in ["journal_test/h.part", "journal_test/h.3"] {
+        assert!(rt; !fs::exists(&rt, name)?);
+    }
+    fs::remove_dir_all(&rt, "journal_test")?;
     Ok(())
 }

@@ -5,13 +5,15 @@ ghost use Rattle.play_ticker.specs.Frames.{AreBlank};
 
 use band_render::Renderer;
 use clip_format::MediaTable;
-use play_outside::{MemClock, MemSink};
+use play_outside::{Flag, FlaggedCall, HeldClock, HeldSink, MemClock, MemSink};
 use play_ticker::{TickEnd, tick_all};
-use play_types::{Channel, ChannelList, Cmd, Config, Place, Scenes, Spec, Take, Text, Trans};
+use play_types::{Channel, ChannelList, Cmd, Config, Place, Spec, Take, Text, Trans};
+use scene_pipe::ScenePipe;
 use stage_core::Stage;
 use stage_lock::{Pass, SharedStage};
 use std::alloc::Global;
-use std::sync::Wait;
+use std::sync::atomic::AtomicBool;
+use std::sync::{Arc, Wait};
 use std::test::Fail;
 use std::thread::Threads;
 
@@ -104,7 +106,7 @@ fn take_two<R: Threads + Wait + Sync>(
 {
     let media = MediaTable::empty(alloc)?;
     let mut renderer = two_frames(alloc, config)?;
-    let mut scenes = Scenes::new(alloc, config)?;
+    let pipe = ScenePipe::new(alloc, config)?;
     let mut outs = two_outputs(alloc)?;
     let mut clock = MemClock::new(2, Vec::new(alloc));
     let end = tick_all(
@@ -112,7 +114,7 @@ fn take_two<R: Threads + Wait + Sync>(
         stage,
         pass,
         &mut renderer,
-        &mut scenes,
+        pipe,
         &media,
         &mut clock,
         &mut outs,
@@ -150,5 +152,78 @@ fn pulses_become_frames(rt: HostRuntime) -> Result<(), Fail> {
     let second_frames = [0, 0, 255, 255, 0, 0, 0, 0, 0, 0, 255, 255, 0, 0, 0, 0];
     assert!(rt; took(&outs, 0, &first_frames));
     assert!(rt; took(&outs, 1, &second_frames));
+    Ok(())
+}
+
+/// Returns two outputs, each with room for 24 bytes, of which the first holds its first write until the flag is set.
+fn held_outputs(alloc: Global, flag: &Flag) -> Result<Vec<HeldSink>, Fail>
+    ensures { IfOk result (λ outs. vec_len outs ≡ 2) }
+{
+    let flag = Arc::try_clone(flag)?;
+    let first = MemSink::new(alloc, 0, 24, 8, Vec::new(alloc))?;
+    let second = MemSink::new(alloc, 0, 24, 8, Vec::new(alloc))?;
+    let mut outs = Vec::new(alloc);
+    outs.push(HeldSink::new(first, Some(FlaggedCall { call: 1, flag }), None))?;
+    outs.push(HeldSink::new(second, None, None))?;
+    Ok(outs)
+}
+
+/// Takes three pulses, of which the third sets the flag that the first write waits for, and returns how they ended and how many
+/// bytes each output took.
+fn take_three_held<R: Threads + Wait + Sync>(
+    rt: &R,
+    alloc: Global,
+    config: &Config,
+    stage: &SharedStage,
+    pass: &mut Pass,
+) -> Result<(TickEnd, usize, usize), Fail>
+    requires of { pass.old.stage ≡ stage.now }
+    requires first { pass.old.number ≡ 0 }
+    requires made { pass.old.made ≡ [] }
+    requires config { length config.now.channels ≡ 2 }
+    requires channels { stage.now.sizes.channels ≡ 2 }
+{
+    let flag = Arc::new(alloc, AtomicBool::new(false))?;
+    let media = MediaTable::empty(alloc)?;
+    let mut renderer = two_frames(alloc, config)?;
+    let pipe = ScenePipe::new(alloc, config)?;
+    let mut outs = held_outputs(alloc, &flag)?;
+    let sets = FlaggedCall { call: 3, flag };
+    let mut clock = HeldClock::new(MemClock::new(3, Vec::new(alloc)), None, Some(sets));
+    let end = tick_all(
+        rt,
+        stage,
+        pass,
+        &mut renderer,
+        pipe,
+        &media,
+        &mut clock,
+        &mut outs,
+    );
+    Ok((end, bytes_taken(&outs, 0), bytes_taken(&outs, 1)))
+}
+
+/// Returns how many bytes the output at a place took, and 0 if there is none.
+fn bytes_taken(outs: &[HeldSink], at: usize) -> usize {
+    match outs.get(at) {
+        Some(out) => out.sink().taken().len(),
+        None => 0,
+    }
+}
+
+/// An output that holds its first write until the clock's third call keeps no pulse from becoming a tick.
+#[test]
+fn slow_output_keeps_no_pulse(rt: HostRuntime) -> Result<(), Fail> {
+    let alloc = rt.alloc();
+    let config = two_channels(alloc)?;
+    let stage = Stage::new(alloc, &config)?;
+    let Ok((shared, mut passes)) = SharedStage::share(alloc, stage, 1) else {
+        return Err("memory for a shared stage")?;
+    };
+    let Some(mut first) = passes.pop() else {
+        return Err("a pass")?;
+    };
+    let ended = take_three_held(&rt, alloc, &config, &shared, &mut first)?;
+    assert_eq!(rt; ended, (TickEnd::ClockClosed, 24, 24));
     Ok(())
 }

@@ -1,0 +1,207 @@
+//! Cue sheets that are played, and what is told of those that are refused. The outputs were worked out by hand, and the digests
+//! are those of `sha256sum`.
+
+use crate::scripts::words_of;
+use crate::tellers::{MemTeller, Told};
+use play_outside::{MemConfig, MemMedia, MemSink, MemSource};
+use play_schedule::LineFault;
+use run_script::run_and_tell;
+use std::alloc::Global;
+use std::test::Fail;
+use std::thread::Threads;
+
+/// One channel of one pixel, at 25 frames a second.
+const CONFIG: &str = "listen='l'\nmedia='m'\nrate=25\nchannel=[{width=1,height=1,output='o'}]";
+
+/// Plans: the words, the cue sheet, the exit status and the output.
+const PLANS: [(&str, &str, u8, &str); 8] = [
+    // The lines come by their moments, whatever their order.
+    (
+        "plan --config one",
+        "AT 00:00:00:02 1.1 PLAY 1-0 BLUE\nAT 0 1.1 PLAY 1-0 RED\nAFTER 1 2.1 MIXER 1-0 OPACITY 0.5\nEND 3\n",
+        0,
+        "1.1 202 PLAY OK\nF 1 1\n0000ffff\n2.1 202 MIXER OK\nF 1 2\n00008080\n1.1 202 PLAY OK\nF 1 3\n80000080\n",
+    ),
+    // A copy may be due at the end.
+    (
+        "plan --config one",
+        "AT 1 EVERY 2 TIMES 2 1.1 VERSION\nEND 3",
+        0,
+        "F 1 1\n00000000\n1.1 201 VERSION OK\n1.1 2.0 PLAYD\nF 1 2\n00000000\nF 1 3\n00000000\n1.1 201 VERSION OK\n1.1 2.0 PLAYD\n",
+    ),
+    ("plan --config one", "END 0", 0, ""),
+    // Without a cue line before it, AFTER counts from 0, and copies without a distance come together.
+    (
+        "plan --config one",
+        "AFTER 1 1.1 MIXER 1-0 OPACITY\r\nAT 1 EVERY 0 TIMES 2 2.1 VERSION\r\nEND 1\r\n",
+        0,
+        "F 1 1\n00000000\n1.1 201 MIXER OK\n1.1 1\n2.1 201 VERSION OK\n2.1 2.0 PLAYD\n2.1 201 VERSION OK\n2.1 2.0 PLAYD\n",
+    ),
+    // After KILL nothing is played.
+    (
+        "plan --config one",
+        "AT 2 1.1 INFO\r\nAT 1 1.1 KILL\r\n# a\r\nEND 5\r\n",
+        0,
+        "F 1 1\n00000000\n1.1 202 KILL OK\n",
+    ),
+    // A batch is one event at the moment of its COMMIT, and the texts of a connection are those of one session.
+    (
+        "plan --config one --workers 3 --digest",
+        "AT 0 1.1 BEGIN\nAT 0 1.1 PLAY 1-0 RED\nAT 1 1.1 COMMIT\nAT 1 2.1 \nEND 2\n",
+        0,
+        "1.1 202 BEGIN OK\n1.1 202 PLAY OK\nD 1 1 df3f619804a92fdb4057192dc43dd748ea778adc52bc498ce80524c014b81119\n1.1 202 COMMIT OK\nD 1 2 b7d1b3a1104cc86b1cea310793cf777002db0517281d135a02de079b0ea87c23\n",
+    ),
+    ("plan 1 1", "END 0", 1, "E usage\n"),
+    ("plan --config none", "END 0", 4, "E device\n"),
+];
+
+/// Cue sheets that are refused: the sheet, the output and what is told. Nothing of them is played.
+const REFUSED: [(&str, &str, Told); 17] = [
+    (
+        "AT 1 EVERY 2 TIMES 2 1.1 VERSION\nEND 2",
+        "E plan 2\n",
+        Told::FaultyCue(2, LineFault::EndPlace),
+    ),
+    (
+        "END 1\n\nEND 1",
+        "E plan 3\n",
+        Told::FaultyCue(3, LineFault::EndPlace),
+    ),
+    (
+        "AT 1 EVERY 2 TIMES 2 1.1 VERSION\n",
+        "E plan end\n",
+        Told::NoEnd,
+    ),
+    ("", "E plan end\n", Told::NoEnd),
+    (
+        "AT 00:00:00:25 1.1 INFO\nEND 1\n",
+        "E plan 1\n",
+        Told::FaultyCue(1, LineFault::Frame),
+    ),
+    (
+        "# a\r\nEND 00:00:00:25",
+        "E plan 2\n",
+        Told::FaultyCue(2, LineFault::Frame),
+    ),
+    (
+        "AT 0 1.1 PLAY 1-0 RED\nEND 1\nAT 0 1.1 INFO\n",
+        "E plan 3\n",
+        Told::FaultyCue(3, LineFault::CuePlace),
+    ),
+    (
+        "AT 20736000 EVERY 1 TIMES 2 1.1 INFO\nEND 1",
+        "E plan 1\n",
+        Told::FaultyCue(1, LineFault::CuePlace),
+    ),
+    (
+        "AT 00:00:60:00 1.1 INFO\nEND 1",
+        "E plan 1\n",
+        Told::FaultyCue(1, LineFault::Time),
+    ),
+    (
+        "AT noon 1.1 INFO\nEND 1",
+        "E plan 1\n",
+        Told::FaultyCue(1, LineFault::Time),
+    ),
+    (
+        "AT 20736001 1.1 INFO\nEND 1",
+        "E plan 1\n",
+        Told::FaultyCue(1, LineFault::LateTime),
+    ),
+    (
+        "END 5000000000",
+        "E plan 1\n",
+        Told::FaultyCue(1, LineFault::LateTime),
+    ),
+    (
+        "\n\nAFTER 00:00:00:01 1.1 INFO\nEND 1",
+        "E plan 3\n",
+        Told::FaultyCue(3, LineFault::Ticks),
+    ),
+    (
+        "AT 0 EVERY 1 TIMES 0 1.1 INFO\nEND 1",
+        "E plan 1\n",
+        Told::FaultyCue(1, LineFault::Copies),
+    ),
+    (
+        "AT 0 INFO\nEND 1",
+        "E plan 1\n",
+        Told::FaultyCue(1, LineFault::Connection),
+    ),
+    (
+        "at 0 1.1 INFO\nEND 1",
+        "E plan 1\n",
+        Told::FaultyCue(1, LineFault::Beginning),
+    ),
+    // A faulty line comes before the end that is missing.
+    (
+        "AT 0 1.1 INFO\nT 3",
+        "E plan 2\n",
+        Told::FaultyCue(2, LineFault::Beginning),
+    ),
+];
+
+/// Runs `playrun` with the words of a line over the bytes of a sheet, and returns its exit status.
+fn status_of<R: Threads + Sync>(
+    rt: &R,
+    alloc: Global,
+    line: &str,
+    sheet: &[u8],
+    out: &mut MemSink,
+    teller: &mut MemTeller,
+) -> Result<u8, Fail> {
+    let words = words_of(alloc, line)?;
+    let mut configs = Vec::new(alloc);
+    configs.push(MemConfig {
+        path: String::from_str(alloc, "one")?,
+        bytes: Vec::from_slice(alloc, CONFIG.as_bytes())?,
+    })?;
+    let mut media = MemMedia::new(configs, Vec::new(alloc), Vec::new(alloc));
+    let mut input = MemSource::new(sheet.to_vec(alloc)?, 4096, Vec::new(alloc));
+    Ok(run_and_tell(
+        rt,
+        alloc,
+        words.as_slice(),
+        &mut input,
+        &mut media,
+        out,
+        teller,
+    ))
+}
+
+#[test]
+fn lines_are_played_at_their_moments(rt: HostRuntime) -> Result<(), Fail> {
+    let alloc = rt.alloc();
+    for (line, sheet, status, output) in PLANS {
+        let mut out = MemSink::new(alloc, 0, 1000, 4096, Vec::new(alloc))?;
+        let mut teller = MemTeller {
+            listens: true,
+            told: Vec::new(alloc),
+            texts: Vec::new(alloc),
+        };
+        let found = status_of(&rt, alloc, line, sheet.as_bytes(), &mut out, &mut teller)?;
+        assert_eq!(&rt; found, status, "{sheet}");
+        assert_eq!(&rt; out.taken(), output.as_bytes(), "{sheet}");
+        assert!(&rt; teller.told.is_empty(), "{sheet}");
+    }
+    Ok(())
+}
+
+#[test]
+fn faulty_sheets_are_refused_and_told(rt: HostRuntime) -> Result<(), Fail> {
+    let alloc = rt.alloc();
+    for (sheet, output, told) in REFUSED {
+        let mut out = MemSink::new(alloc, 0, 1000, 4096, Vec::new(alloc))?;
+        let mut teller = MemTeller {
+            listens: true,
+            told: Vec::new(alloc),
+            texts: Vec::new(alloc),
+        };
+        let line = "plan --config one";
+        let found = status_of(&rt, alloc, line, sheet.as_bytes(), &mut out, &mut teller)?;
+        assert_eq!(&rt; found, 2, "{sheet}");
+        assert_eq!(&rt; out.taken(), output.as_bytes(), "{sheet}");
+        assert_eq!(&rt; teller.told.as_slice(), [told].as_slice(), "{sheet}");
+    }
+    Ok(())
+}

@@ -1,16 +1,18 @@
 #!/usr/bin/env python3
 """Makes a clip file of any film that ffmpeg reads, with its sound.
 
-make_clip.py FILM CLIP.rclp [--size WxH] [--rate N] [--pairs N] [--seconds N]
+make_clip.py FILM CLIP.rclp [--size WxH] [--rate N] [--pairs N] [--seconds N] [--straight]
 
 --size     the size of the pictures in pixels, 1280x720 if it is left out; that of the channel, or another one, which the server scales
 --rate     the ticks a second of the server's configuration, 25 if it is left out
 --pairs    the stereo pairs a frame, as in the configuration of the channel: 48,000 divided by the rate if the film has sound, else 0.
            The sound is resampled to `pairs * rate` pairs a second
 --seconds  how much of the film is taken, all of it if it is left out
+--straight makes a clip of version 2, whose colours are not multiplied by the alpha, at the size of the film. It goes without --size,
+           since scaling comes after multiplying: the server multiplies first, and then scales
 
-Colours of a film with an alpha channel are multiplied by the alpha before they are scaled. A film without sound gives silence if
---pairs asks for some. It needs ffmpeg and ffprobe on the path.
+Without --straight it makes a clip of version 1: colours of a film with an alpha channel are multiplied by the alpha before they are
+scaled. A film without sound gives silence if --pairs asks for some. It needs ffmpeg and ffprobe on the path.
 """
 
 import argparse
@@ -20,6 +22,7 @@ import subprocess
 import sys
 import tempfile
 
+MULTIPLIED, STRAIGHT = 1, 2
 MOST_BYTES = 1_073_741_824
 MOST_FRAMES = 1_000_000
 
@@ -39,9 +42,13 @@ def pictures(said, room):
     """Writes the pictures of the film as raw frames into a file, and returns its path."""
     path = f"{room}/pictures"
     width, height = said.size
-    multiplied = "format=gbrap,premultiply=inplace=1," if has_alpha(streams(said.film, "v", "pix_fmt")) else ""
+    filters = [f"fps={said.rate}"]
+    if not said.straight and has_alpha(streams(said.film, "v", "pix_fmt")):
+        filters.append("format=gbrap,premultiply=inplace=1")
+    if not said.straight:
+        filters.append(f"scale={width}:{height}")
     words = ["ffmpeg", "-nostdin", "-v", "error", "-i", said.film, *said.taken, "-an"]
-    subprocess.run([*words, "-vf", f"fps={said.rate},{multiplied}scale={width}:{height}", "-pix_fmt", "bgra", "-f", "rawvideo", path], check=True)
+    subprocess.run([*words, "-vf", ",".join(filters), "-pix_fmt", "bgra", "-f", "rawvideo", path], check=True)
     return path
 
 
@@ -66,7 +73,7 @@ def write_clip(said, room):
     if 20 + frames * (picture_bytes + sound_bytes) > MOST_BYTES:
         print(f"make_clip.py: {said.clip}: more than the {MOST_BYTES:,} bytes that all clips of a folder may have together", file=sys.stderr)
     with open(said.clip, "wb") as clip, open(picture_path, "rb") as shown, open(sound_path or os.devnull, "rb") as heard:
-        clip.write(struct.pack(">4s4HI2H", b"RCLP", 1, 0, width, height, frames, said.pairs, 0))
+        clip.write(struct.pack(">4s4HI2H", b"RCLP", STRAIGHT if said.straight else MULTIPLIED, 0, width, height, frames, said.pairs, 0))
         for _ in range(frames):
             clip.write(shown.read(picture_bytes))
             clip.write(heard.read(sound_bytes).ljust(sound_bytes, b"\0"))
@@ -85,11 +92,15 @@ def main():
     reader = argparse.ArgumentParser(description="Makes a clip file of any film that ffmpeg reads.")
     reader.add_argument("film")
     reader.add_argument("clip", help="the file to make, whose name ends in .rclp")
-    reader.add_argument("--size", type=size, default=(1280, 720), help="WxH, 1280x720 if it is left out")
+    reader.add_argument("--size", type=size, help="WxH, 1280x720 if it is left out")
     reader.add_argument("--rate", type=int, default=25, choices=range(1, 241), metavar="N", help="ticks a second, 25 if it is left out")
     reader.add_argument("--pairs", type=int, choices=range(4097), metavar="N", help="stereo pairs a frame")
     reader.add_argument("--seconds", type=float, metavar="N", help="how much of the film is taken")
+    reader.add_argument("--straight", action="store_true", help="a clip of version 2, with straight alpha, at the size of the film")
     said = reader.parse_args()
+    if said.straight and said.size:
+        reader.error("--straight goes without --size: scaling comes after multiplying")
+    said.size = size("x".join(streams(said.film, "v", "width,height").split())) if said.straight else said.size or (1280, 720)
     said.taken = ["-t", str(said.seconds)] if said.seconds else []
     if said.pairs is None:
         said.pairs = min(48_000 // said.rate, 4096) if streams(said.film, "a", "codec_name") else 0

@@ -1,5 +1,5 @@
 #!/usr/bin/env python3
-"""Makes the clips of the show: bumper, title, soft and hum, in the folder media beside this file. The sound has 8,000 pairs a second."""
+"""Makes the clips of the show, bumper, title, soft and hum, and the logo, in the folder media beside this file. The sound has 8,000 pairs a second."""
 import math
 import os
 import struct
@@ -17,10 +17,13 @@ LETTERS = {
 }
 
 
-def write(name, width, height, frames, pairs=0):
+MULTIPLIED, STRAIGHT = 1, 2
+
+
+def write(name, width, height, frames, pairs=0, version=MULTIPLIED):
     """Writes a clip of frames, each its pixels and its sound."""
     with open(f"{MEDIA}/{name}.rclp", "wb") as file:
-        file.write(struct.pack(">4s4HI2H", b"RCLP", 1, 0, width, height, len(frames), pairs, 0))
+        file.write(struct.pack(">4s4HI2H", b"RCLP", version, 0, width, height, len(frames), pairs, 0))
         for pixels, sound in frames:
             file.write(b"".join(bytes(pixel) for pixel in pixels))
             file.write(b"".join(struct.pack("<h", sample) for sample in sound))
@@ -50,7 +53,19 @@ def title(text):
     return len(rows[0]), 7, [([(0xFF,) * 4 if dot == "1" else (0,) * 4 for row in rows for dot in row], [])]
 
 
+def logo(side):
+    """A white ring and disc on orange with a soft edge. The alpha is straight: the colours are not multiplied by it."""
+    pixels = []
+    for y in range(side):
+        for x in range(side):
+            away = math.hypot(x + 0.5 - side / 2, y + 0.5 - side / 2) / (side / 2)
+            colour = (0xFF,) * 3 if away < 0.3 or 0.5 < away < 0.65 else (0x10, 0x70, 0xF0)
+            pixels.append((*colour, round(255 * min(1, max(0, (1 - away) * 5)))))
+    return side, side, [(pixels, [])]
+
+
 write("bumper", 16, 9, bumper(), PAIRS)
 write("title", *title("SEVUATO"))
 write("soft", 32, 1, [([(0, 0, 255 - max(0, 16 * (x - 16)), 255) for x in range(32)], [])])
 write("hum", 1, 1, [([(0, 0, 0, 0)], tone(200, 0, lambda at: 4000))], PAIRS)
+write("logo", *logo(48), version=STRAIGHT)

@@ -1,7 +1,9 @@
 """What the scripts that measure share: the name of this machine, and clips."""
+import ctypes
 import os
 import platform
 import struct
+import time
 
 
 def processor():
@@ -28,3 +30,18 @@ def clip_file(width, height, frames):
     """Returns the bytes of a clip file without sound whose frames differ."""
     header = struct.pack(">4s4HI2H", b"RCLP", 1, 0, width, height, frames, 0, 0)
     return header + b"".join(raw_frame(width, height, number) for number in range(frames))
+
+
+def copy_seconds(size, runs=200):
+    """Returns the least seconds of copying, and of filling, this number of bytes."""
+    one, two = ctypes.create_string_buffer(size), ctypes.create_string_buffer(size)
+    ctypes.memset(one, 1, size)
+    copies, fills = [], []
+    for _ in range(runs):
+        began = time.perf_counter()
+        ctypes.memmove(two, one, size)
+        copies.append(time.perf_counter() - began)
+        began = time.perf_counter()
+        ctypes.memset(two, 3, size)
+        fills.append(time.perf_counter() - began)
+    return min(copies), min(fills)

@@ -4,7 +4,8 @@ The programs in this folder call it. If a source that goes into the program has 
 first, on a copy of the sources and on all processors, and what the gate passed on this machine is taken from there. What
 happens is told on standard error: one line a crate, and each minute what the build is at. Then the program runs in the place
 of this script, with the caller's standard streams, and its status is the status. With the word --build and the names of some
-programs it builds all of them at once and runs none.
+programs it builds all of them at once and runs none. With the word --install and a folder it builds both programs and puts them
+there, each under its name and the sum of its sources, with a link of the name alone to it.
 
 What was built is kept in sevuato/ of the caller's folder for such files (XDG_CACHE_HOME, ~/.cache if it is not set), under the
 name of the program and the sum of its sources, so that the gate does not clear it and other clones with the same sources use
@@ -34,6 +35,10 @@ PARTS = ("src", "specs", "proofs")
 TEST_MODULE = re.compile(r"(?ms)^#\[cfg\(test\)\]\n(?:pub )?mod (\w+)(?:;\n| \{\n.*?^\}\n)")
 # What the gate says of a crate.
 SAID = re.compile(r"rt: (\w+) (proved|is kept|NOT PROVED)\b")
+
+
+# The programs of this repository.
+PROGRAMS = ["playrun", "playd"]
 
 
 class NotBuilt(Exception):
@@ -230,12 +235,17 @@ def prove(names, crates, folder, rooms, log):
     raise NotBuilt("the toolchain stopped before the program was built")
 
 
+def put(program, to):
+    """Copies a program to this path. Whoever looks there finds all of it, or what stood there before."""
+    shutil.copyfile(program, f"{to}.new")
+    os.chmod(f"{to}.new", 0o755)
+    os.replace(f"{to}.new", to)
+
+
 def keep(built, name, sources):
     """Keeps a program under the sum of its sources, and removes the oldest ones of its name."""
     to = program_of(name, sources)
-    shutil.copyfile(built, f"{to}.new")
-    os.chmod(f"{to}.new", 0o755)
-    os.replace(f"{to}.new", to)
+    put(built, to)
     of_name = re.compile(rf"{name}\.[0-9a-f]{{16}}")
     paths = [f"{kept_in()}/{it}" for it in os.listdir(kept_in()) if of_name.fullmatch(it)]
     for path in sorted(paths, key=os.path.getmtime)[:-KEPT_PROGRAMS]:
@@ -287,14 +297,38 @@ def run(name, words):
             os.execv(program, [name, *words])
 
 
+def install(names, folder):
+    """Puts the programs of these names into the folder, which is made if it is not there. Older ones stay there."""
+    while True:
+        sums = {it: sum_of(TOP, crates_below(it)) for it in names}
+        if all(is_own_program(program_of(name, it)) for name, it in sums.items()):
+            break
+        build(names)
+    os.makedirs(folder, exist_ok=True)
+    for name, sources in sums.items():
+        put(program_of(name, sources), f"{folder}/{name}.{sources}")
+        link = f"{folder}/{name}"
+        with contextlib.suppress(FileNotFoundError):
+            os.remove(f"{link}.new")
+        os.symlink(f"{name}.{sources}", f"{link}.new")
+        os.replace(f"{link}.new", link)
+        say(name, f"installed as {link}, built from {sources}")
+
+
 def main(name, words):
     def stop(number, _):
         sys.exit(128 + number)
 
     for it in (signal.SIGINT, signal.SIGTERM, signal.SIGHUP):
         signal.signal(it, stop)
-    names = words if name == "--build" else [name]
+    done = {"--build": "built", "--install": "installed"}.get(name, "started")
+    names = words if name == "--build" else PROGRAMS if name == "--install" else [name]
     try:
+        if name == "--install":
+            if len(words) != 1:
+                raise NotBuilt("bin/install takes one word, the folder")
+            install(names, words[0])
+            return 0
         if name == "--build":
             build(names)
             return 0
@@ -302,9 +336,9 @@ def main(name, words):
             run(name, words)
             build(names)
     except NotBuilt as why:
-        say(" ".join(names), f"not started: {why}")
+        say(" ".join(names), f"not {done}: {why}")
     except OSError as error:
-        say(" ".join(names), f"not started: {error.filename or 'the build'}: {error.strerror}")
+        say(" ".join(names), f"not {done}: {error.filename or 'the build'}: {error.strerror}")
     return NOT_BUILT
 
 

@@ -3,7 +3,7 @@ ghost use Rattle.std.specs.Prelude.{◌≡◌, ◌∷◌, ◌++◌, [], IfOk, On
 ghost use Rattle.std.specs.Iterator.{YieldsFirstRef, item_count};
 ghost use Rattle.std.specs.List.{flat_map};
 
-use play_types::Event;
+use play_types::{Cmd, Event};
 use std::alloc::{AllocError, Global};
 use std::marker::Model;
 
@@ -17,8 +17,16 @@ pub(crate) struct Entry {
     pub(crate) event: Event,
 }
 
-// An entry has at most the bytes that a command of a journal may take.
-const _: () = prove!(size_of::<Entry>() <= 80);
+/// The most bytes that a command of a journal takes.
+const COMMAND_BYTES: usize = 128;
+
+// A command, or one that is alone in its batch, takes an entry.
+const _: () = prove!(size_of::<Entry>() <= 88);
+
+const _: () = prove!(size_of::<Entry>() <= COMMAND_BYTES);
+
+// The commands of a larger batch lie beside its entry. Those of two take the most for each.
+const _: () = prove!(size_of::<Entry>() + 2 * size_of::<Cmd>() <= 2 * COMMAND_BYTES);
 
 /// Entries in order. They lie in blocks of one size, which are not moved when entries are added.
 #[derive(Debug, Drop)]

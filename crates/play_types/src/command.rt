@@ -173,19 +173,28 @@ impl Cmd {
 /// The most commands of a batch.
 pub const MAX_BATCH_COMMANDS: usize = 256;
 
-/// Commands in order.
+/// Commands in order. A command that is alone is kept in place, and takes no memory.
 #[derive(Debug, Drop)]
 pub struct CmdList {
-    cmds: Vec<Cmd>,
+    alloc: Global,
+    cmds: Kept,
+}
+
+/// Where the commands of a list lie.
+#[derive(Debug, Drop)]
+enum Kept {
+    Alone(Cmd),
+    Several(Vec<Cmd>),
 }
 
 impl Model for CmdList {
     ghost use Rattle.std.specs.Prelude.{List};
     ghost use Rattle.play_types.specs.declared.command.Cmd.{Cmd};
+    ghost use Rattle.play_types.specs.CmdList.{commands_in};
 
     ghost Value = { List Cmd };
 
-    ghost view = { λ l. l.cmds.items };
+    ghost view = { λ l. commands_in l.cmds };
 }
 
 impl CmdList {
@@ -194,7 +203,8 @@ impl CmdList {
         ensures { result ≡ [] }
     {
         CmdList {
-            cmds: Vec::new(alloc),
+            alloc,
+            cmds: Kept::Several(Vec::new(alloc)),
         }
     }
 
@@ -202,9 +212,11 @@ impl CmdList {
     pub fn copy_of(alloc: Global, cmds: &[Cmd]) -> Result<CmdList, AllocError>
         ensures { IfOk result (λ list. list ≡ cmds.now) }
     {
-        let mut list = Vec::with_capacity(alloc, cmds.len())?;
-        list.extend_from_slice(cmds)?;
-        Ok(CmdList { cmds: list })
+        let cmds = match cmds {
+            [cmd] => Kept::Alone(*cmd),
+            _ => Kept::Several(exact_copy(alloc, cmds)?),
+        };
+        Ok(CmdList { alloc, cmds })
     }
 
     /// Adds a command at the end. If memory runs out, the list stays as it was.
@@ -212,7 +224,13 @@ impl CmdList {
         ensures ok { OnOk result (self.new ≡ self.old ++ cmd ∷ []) }
         ensures err { OnErr result (self.new ≡ self.old) }
     {
-        self.cmds.push(cmd)?;
+        match &mut self.cmds {
+            Kept::Alone(first) => {
+                let both = exact_copy(self.alloc, &[*first, cmd])?;
+                self.cmds = Kept::Several(both);
+            }
+            Kept::Several(cmds) => cmds.push(cmd)?,
+        }
         Ok(())
     }
 
@@ -220,34 +238,46 @@ impl CmdList {
     pub fn len(&self) -> usize
         ensures { result ≡ length self.now }
     {
-        self.cmds.len()
+        self.as_slice().len()
     }
 
     /// Returns whether there are no commands.
     pub fn is_empty(&self) -> bool
         ensures { result ≡ (length self.now == 0) }
     {
-        self.cmds.is_empty()
+        self.as_slice().is_empty()
     }
 
     /// Returns the commands in order.
     pub fn as_slice(&self) -> &[Cmd]
         ensures { result.now ≡ self.now }
     {
-        self.cmds.as_slice()
+        match &self.cmds {
+            Kept::Alone(cmd) => slice::from_ref(cmd),
+            Kept::Several(cmds) => cmds.as_slice(),
+        }
     }
 
     /// Returns the commands in order.
     pub fn iter(&self) -> slice::Iter<'_, Cmd>
         ensures { iter_rest result ≡ self.now }
     {
-        self.cmds.iter()
+        self.as_slice().iter()
     }
 
     /// Returns the command at position `at`, counted from 0: `None` exactly if `at` is not below the length.
     pub fn get(&self, at: usize) -> Option<&Cmd>
         ensures { option_copied result ≡ slice_get self.now at }
     {
-        self.cmds.get(at)
+        self.as_slice().get(at)
     }
+}
+
+/// Returns the commands of a slice in memory that has room for no more.
+fn exact_copy(alloc: Global, cmds: &[Cmd]) -> Result<Vec<Cmd>, AllocError>
+    ensures { IfOk result (λ copy. copy.items ≡ cmds.now) }
+{
+    let mut copy = Vec::with_capacity(alloc, cmds.len())?;
+    copy.extend_from_slice(cmds)?;
+    Ok(copy)
 }

@@ -1,12 +1,12 @@
 //! Writes clip files.
 ghost use Rattle.std.specs.Prelude.{◌≡◌, Ok};
 ghost use Rattle.play_outside.specs.Sink.{Sends};
-ghost use Rattle.play_types.specs.ClipFile.{clip_bytes};
+ghost use Rattle.play_types.specs.ClipFile.{clip_bytes, header_bytes};
 ghost use Rattle.clip_format.specs.Decoding.{clip_of};
 
-use crate::header::header_of;
+use crate::header::{header_of, header_with};
 use play_outside::{Sent, Sink, send_parts};
-use play_types::Clip;
+use play_types::{Clip, Geometry};
 
 /// Writes the file of a clip, which [`decode`](crate::decode) reads back as the clip. No memory is taken. `Failed` comes
 /// only if the sink failed, and then a prefix of the file was written.
@@ -16,4 +16,12 @@ pub fn encode<K: Sink>(clip: &Clip, to: &mut K) -> Sent
 {
     let header = header_of(clip);
     send_parts(&[&header, clip.bytes()], to)
+}
+
+/// Writes what stands before the frames in the file of a clip of this version, this size and this number of frames. `Failed` comes
+/// only if the sink failed, and then a prefix of it was written.
+pub fn send_header<K: Sink>(version: u16, size: Geometry, frames: u32, to: &mut K) -> Sent
+    ensures { Sends result (header_bytes version size frames) (K.state to.old) (K.state to.new) }
+{
+    send_parts(&[&header_with(version, size, frames)], to)
 }

@@ -23,11 +23,17 @@ pub(crate) struct Header {
 pub(crate) fn header_of(clip: &Clip) -> [u8; HEADER_LEN]
     ensures { result ≡ header_bytes clip.now.version clip.now.geometry clip.now.frames }
 {
-    let size = clip.geometry();
-    let [v0, v1] = clip.version().to_be_bytes();
+    header_with(clip.version(), clip.geometry(), clip.frames())
+}
+
+/// Returns the header of a clip of this version, this size and this number of frames.
+pub(crate) fn header_with(version: u16, size: Geometry, frames: u32) -> [u8; HEADER_LEN]
+    ensures { result ≡ header_bytes version size frames }
+{
+    let [v0, v1] = version.to_be_bytes();
     let [w0, w1] = size.width.to_be_bytes();
     let [h0, h1] = size.height.to_be_bytes();
-    let [f0, f1, f2, f3] = clip.frames().to_be_bytes();
+    let [f0, f1, f2, f3] = frames.to_be_bytes();
     let [p0, p1] = size.pairs.to_be_bytes();
     [
         b'R', b'C', b'L', b'P', v0, v1, 0, 0, w0, w1, h0, h1, f0, f1, f2, f3, p0, p1, 0, 0,

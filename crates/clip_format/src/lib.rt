@@ -21,6 +21,6 @@ mod straight;
 mod table;
 
 pub use decoding::decode;
-pub use encoding::encode;
+pub use encoding::{encode, send_header};
 pub use straight::straight_clip;
 pub use table::MediaTable;

@@ -27,7 +27,7 @@ pub use link::{Link, LinkStep, Look};
 pub use listener::{Arrival, Listener, MOST_AWAY};
 pub use memory::{
     DoorAnswer, LinkPlan, MemClock, MemConfig, MemDoor, MemFile, MemLink, MemMedia, MemSink,
-    MemSource,
+    MemSource, PlannedFaults,
 };
 pub use plain::{PlainClock, PlainDoor, PlainLink, PlainMedia, PlainSink, PlainSource};
 pub use sink::{Sent, Sink, WriteFailed, WriteStep, send, send_number, send_parts};

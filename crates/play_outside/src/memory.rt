@@ -14,6 +14,7 @@ pub use clock::MemClock;
 pub use door::{DoorAnswer, MemDoor};
 pub use link::{LinkPlan, MemLink};
 pub use media::{MemConfig, MemFile, MemMedia};
+pub use planned_faults::PlannedFaults;
 pub use sink::MemSink;
 pub use source::MemSource;
 pub(crate) use unread::Unread;

@@ -4,11 +4,11 @@ use Rattle.std.specs.List.{list_any}
 use Rattle.play_types.specs.Config.{ConfigView}
 use Rattle.play_outside.specs.Faults.{one_more}
 use Rattle.play_outside.specs.declared.devices.Devices.{Devices}
-use Rattle.play_server.specs.declared.in_memory.planned_faults.PlannedFaults.{PlannedFaults}
+use Rattle.play_outside.specs.declared.memory.planned_faults.PlannedFaults.{PlannedFaults}
 
 -- whether the next call is planned to fail
 abbrev pub fails_next : PlannedFaults → Bool
-fails_next planned = list_any (λ number. number == one_more planned.calls) planned.fails.items
+fails_next planned = list_any (λ number. number == one_more planned.calls) planned.at_calls.items
 
 -- whether there are devices, with a door for each connection of the configuration and an output for each channel
 abbrev pub has_devices_for : {C D O : Type 0} → ConfigView → Option (Devices C D O) → Bool

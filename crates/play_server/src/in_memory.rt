@@ -4,7 +4,6 @@ mod copies;
 mod kept_devices;
 mod mem_site;
 mod plain_site;
-mod planned_faults;
 
 pub use mem_site::MemSite;
 pub use plain_site::PlainSite;

@@ -6,9 +6,8 @@ ghost use Rattle.play_server.specs.MemSite.{fails_next, is_ready};
 
 use super::copies::{new_call, push_line};
 use super::kept_devices::KeptDevices;
-use super::planned_faults::PlannedFaults;
 use crate::site::{ReadyCall, Site};
-use play_outside::{Clock, Devices, FileFault, Listener, MemMedia, Sink, WriteStep};
+use play_outside::{Clock, Devices, FileFault, Listener, MemMedia, PlannedFaults, Sink, WriteStep};
 use play_types::Config;
 use std::alloc::{AllocError, Global};
 
@@ -97,7 +96,7 @@ impl<C: Clock, D: Listener, O: Sink + Send> MemSite<C, D, O> {
     pub fn faults(&self) -> u64
         ensures { result ≡ (⟦<MemSite<C, D, O> as Site>⟧.state self.now).faults }
     {
-        self.planned.faults
+        self.planned.count
     }
 }
 
@@ -110,7 +109,7 @@ impl<C: Clock, D: Listener, O: Sink + Send> Site for MemSite<C, D, O> {
 
     type Out = O;
 
-    ghost state = { λ s. record { told = Some (record { calls = s.calls.items; calls_without_memory = s.calls_without_memory; finished = s.finished; finishes = s.finishes; said = s.said.items }); faults = s.planned.faults } };
+    ghost state = { λ s. record { told = Some (record { calls = s.calls.items; calls_without_memory = s.calls_without_memory; finished = s.finished; finishes = s.finishes; said = s.said.items }); faults = s.planned.count } };
 
     ghost folder = { λ s. s.media };
 

@@ -33,6 +33,8 @@ pub enum RunFault {
     Plan(u32),
     /// The cue sheet has no END.
     PlanEnd,
+    /// The script has no film of this name.
+    Record(Text),
     /// The input is no clip.
     Clip(ClipFault),
     /// Two clip files have this name.
@@ -46,8 +48,8 @@ pub enum RunFault {
 }
 
 impl RunFault {
-    /// Returns the exit status: 1 for the command line, 2 for the configuration, the script, the cue sheet and the clip that
-    /// is read, 3 for the clips of the folder, 4 for a device and 5 for memory.
+    /// Returns the exit status: 1 for the command line, 2 for the configuration, the script, the cue sheet, the recording
+    /// and the clip that is read, 3 for the clips of the folder, 4 for a device and 5 for memory.
     pub fn status(&self) -> u8
         ensures { result ≡ status_of self.now }
     {
@@ -58,7 +60,8 @@ impl RunFault {
             | RunFault::BadLine(_)
             | RunFault::InputTooLong
             | RunFault::Plan(_)
-            | RunFault::PlanEnd => 2,
+            | RunFault::PlanEnd
+            | RunFault::Record(_) => 2,
             RunFault::Clip(fault) => clip_line::status(*fault),
             RunFault::MediaTwice(_) | RunFault::MediaTotal(_) => 3,
             RunFault::Device => 4,
@@ -87,6 +90,7 @@ impl RunFault {
             RunFault::ConfigKey(_)
             | RunFault::BadLine(_)
             | RunFault::Plan(_)
+            | RunFault::Record(_)
             | RunFault::MediaTwice(_)
             | RunFault::MediaTotal(_) => None,
             RunFault::Clip(fault) => clip_line::short(*fault),
@@ -127,6 +131,7 @@ impl RunFault {
             RunFault::InputTooLong => "E input too long",
             RunFault::Plan(_) => "E plan ",
             RunFault::PlanEnd => "E plan end",
+            RunFault::Record(_) => "E record ",
             RunFault::Clip(fault) => clip_line::label(*fault),
             RunFault::MediaTwice(_) => "E media twice ",
             RunFault::MediaTotal(_) => "E media total ",
@@ -140,7 +145,8 @@ impl RunFault {
         ensures { result.now ≡ detail_of self.entry.now }
     {
         match self {
-            RunFault::ConfigKey(name) | RunFault::MediaTwice(name) => name.as_str(),
+            RunFault::ConfigKey(name) | RunFault::Record(name) | RunFault::MediaTwice(name) =>
+                name.as_str(),
             RunFault::BadLine(number) | RunFault::MediaTotal(number) => digits.format(*number),
             RunFault::Plan(number) => digits.format(*number),
             RunFault::Clip(fault) => clip_line::first_number(*fault, digits),
@@ -166,6 +172,7 @@ impl RunFault {
             | RunFault::InputTooLong
             | RunFault::Plan(_)
             | RunFault::PlanEnd
+            | RunFault::Record(_)
             | RunFault::MediaTwice(_)
             | RunFault::MediaTotal(_)
             | RunFault::Device
@@ -215,6 +222,10 @@ impl fmt::Display for RunFault {
                 )
             }
             RunFault::PlanEnd => write!(f, "the cue sheet has no END"),
+            RunFault::Record(name) => {
+                let name = name.as_str();
+                write!(f, "nothing was recorded under the name {name}")
+            }
             RunFault::Clip(fault) => write!(f, "the input is no clip: {fault}"),
             RunFault::MediaTwice(name) => {
                 let name = name.as_str();

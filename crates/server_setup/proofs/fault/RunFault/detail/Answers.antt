@@ -7,5 +7,8 @@ returns-in-ConfigKey c =
     let bytes = bytes_of_chars _ _ c.as_str.utf8 c.as_str.ensures in
     elim c.in-ConfigKey.is [
       | inl key ↦ rw key bytes
-      | inr name ↦ rw name bytes
+      | inr other ↦ elim other [
+        | inl recorded ↦ rw recorded bytes
+        | inr name ↦ rw name bytes
+      ]
     ]

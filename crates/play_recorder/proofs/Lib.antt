@@ -1,3 +1,8 @@
 pub mod Marks
 pub mod Events
-pub mod Recorded
+pub mod FilmFrames
+pub mod Served
+pub mod Refusals
+pub mod Playing
+pub mod Texts
+pub mod Recorders

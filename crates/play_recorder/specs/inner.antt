@@ -1,1 +1,4 @@
 pub mod Begun
+pub mod EachEvent
+pub mod Replay
+pub mod Recorder

@@ -1,15 +1,20 @@
 //! Which ticks of a channel a film has.
 ghost use Rattle.std.specs.Prelude.{◌≡◌};
 ghost use Rattle.play_recorder.specs.Film.{IsFilm};
+ghost use Rattle.play_recorder.specs.Recording.{is_recorded};
+ghost use Rattle.play_recorder.specs.inner.Recorder.{is_over};
 
 use std::marker::Model;
 
-/// The ticks of a channel that are recorded: 1 to 1,000,000 of them. It is made by a [`FilmFinder`](crate::FilmFinder) alone.
+/// The recorded ticks of a channel, 1 to 1,000,000 of them. Each is a frame of the film.
 #[derive(Clone, Copy, Debug, PartialEq, Eq)]
 pub struct Film {
-    pub(crate) channel: u8,
-    pub(crate) first: u64,
-    pub(crate) frames: u32,
+    /// The channel.
+    pub channel: u8,
+    /// The number of ticks of the history before the first recorded one.
+    pub first: u64,
+    /// The number of recorded ticks.
+    pub frames: u32,
 }
 
 impl Model for Film {
@@ -26,25 +31,17 @@ impl Model for Film {
 }
 
 impl Film {
-    /// Returns the channel.
-    pub fn channel(self) -> u8
-        ensures { result ≡ self.channel }
+    /// Returns whether the tick behind `before` ticks is recorded.
+    pub(crate) fn has(&self, before: u64) -> bool
+        ensures { result ≡ is_recorded self.now before }
     {
-        self.channel
+        self.first <= before && before - self.first < u64::from(self.frames)
     }
 
-    /// Returns the number of ticks of the history before the first recorded one.
-    pub fn first(self) -> u64
-        ensures { result ≡ self.first }
+    /// Returns whether all recorded ticks are among the first `count` ticks.
+    pub(crate) fn is_over(&self, count: u64) -> bool
+        ensures { result ≡ is_over self.now count }
     {
-        self.first
-    }
-
-    /// Returns the number of recorded ticks, 1 to 1,000,000. Each is a frame of the film.
-    pub fn frames(self) -> u32
-        ensures value { result ≡ self.frames }
-        ensures range { IsFilm self }
-    {
-        self.frames
+        self.first <= count && count - self.first >= u64::from(self.frames)
     }
 }

@@ -1,13 +1,25 @@
 //! Films of recordings.
 //!
 //! `ADD` and `REMOVE` mark recordings in the history of a server. A `FilmFinder` is given the events of a history with their
-//! answers, one by one, and tells which ticks of which channel are recorded under a name.
+//! answers, one by one, and tells which ticks of which channel are recorded under a name. `find_film` plays the events of a journal
+//! again and tells it of them. `write_film` plays them too, and writes what the channel shows and sounds at these ticks as a clip
+//! file. It keeps no frame but the last one, and can
+//! tell a [`Watcher`] how far it is.
 #![tactic(auto)]
 
 mod begun;
+mod each_event;
 mod film;
 mod finder;
+mod finding;
 pub mod laws;
+mod recorder;
+mod recording;
+mod replay;
+mod watcher;
 
 pub use film::Film;
 pub use finder::FilmFinder;
+pub use finding::find_film;
+pub use recording::{FilmSource, Recorded, write_film};
+pub use watcher::{Unwatched, Watcher};

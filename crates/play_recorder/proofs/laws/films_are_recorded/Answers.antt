@@ -1,4 +1,4 @@
-use Rattle.play_recorder.proofs.Recorded.{film_recorded, film_within}
+use Rattle.play_recorder.proofs.FilmFrames.{film_recorded, film_within}
 use Rattle.play_recorder.proofs.laws.films_are_recorded.Goals as goal
 
 pub returns-clause-within : goal.returns-clause-within

@@ -2,7 +2,6 @@
 use Rattle.std.proofs.Common.{◌≡◌, ℕ, ◌+◌, ◌*◌, ◌≤◌, List, ◌++◌, length, take, drop, Vec, ap, sym, ◌∙◌, arith, take_at}
 use Rattle.std.specs.Vec.{with_items}
 use Rattle.lane_blend.specs.Rows.{IsRow, pixel_at}
-use Rattle.play_scene.specs.Frames.{with_piece}
 use Rattle.play_scene.proofs.Pieces.{copied_piece}
 use Rattle.row_render.specs.inner.Sources.{scaled_pixel}
 

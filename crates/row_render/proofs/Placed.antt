@@ -75,6 +75,41 @@ fade-nothing opacity =
     let none : fade_byte 0 opacity ≡ 0 = (let no : 0 * opacity ≡ 0 = omega arith in ap (λ (n : ℕ). (n + 500000) / 1000000) no) in
     same_pixel _ _ none none none none
 
+-- a pixel at opacity 0 is transparent
+fade-none : (p : PixelView) → fade p 0 ≡ transparent
+fade-none p = same_pixel _ _ (gone p.b) (gone p.g) (gone p.r) (gone p.a)
+  where
+    gone : (byte : ℕ) → fade_byte byte 0 ≡ 0
+    gone byte = (let no : byte * 0 ≡ 0 = omega arith in ap (λ (n : ℕ). (n + 500000) / 1000000) no)
+
+-- so is a layer at opacity 0
+faded-none : (across down : Option ℕ) (raster : ℕ → ℕ → PixelView) → faded_at across down raster 0 ≡ transparent
+faded-none None down raster = refl
+faded-none (Some column) None raster = refl
+faded-none (Some column) (Some row) raster = fade-none (raster column row)
+
+pub none_shown : (pictures : Pictures) (size : Geometry) (layer : Drawn) (x y : ℕ) → layer.opacity ≡ pos 0 →
+    layer_pixel pictures size x y layer ≡ transparent
+none_shown pictures size layer x y none =
+    let across = visible_column size.width layer.fill layer.clip 0 x in
+    let down = visible_column size.height layer.fill layer.clip 1 y in
+    let raster = raster_pixel pictures size layer in
+    ap (λ (o : ℤ). faded_at across down raster (nat_abs o)) none ∙ faded-none across down raster
+
+-- and a layer whose raster is transparent
+faded-clear : (across down : Option ℕ) (raster : ℕ → ℕ → PixelView) (opacity : ℕ) → ((x y : ℕ) → raster x y ≡ transparent) →
+    faded_at across down raster opacity ≡ transparent
+faded-clear None down raster opacity clear = refl
+faded-clear (Some column) None raster opacity clear = refl
+faded-clear (Some column) (Some row) raster opacity clear =
+    ap (λ (p : PixelView). fade p opacity) (clear column row) ∙ fade-nothing opacity
+
+pub clear_shown : (pictures : Pictures) (size : Geometry) (layer : Drawn) (x y : ℕ) →
+    ((column row : ℕ) → raster_pixel pictures size layer column row ≡ transparent) → layer_pixel pictures size x y layer ≡ transparent
+clear_shown pictures size layer x y clear =
+    faded-clear (visible_column size.width layer.fill layer.clip 0 x) (visible_column size.height layer.fill layer.clip 1 y)
+    (raster_pixel pictures size layer) (nat_abs layer.opacity) clear
+
 -- the pixel of a layer, by its row of the raster
 fade-placed : (across down : Option ℕ) (line : ℕ) (raster : ℕ → ℕ → PixelView) (opacity : ℕ) → down ≡ Some line →
     fade (shown_pixel (λ (x : ℕ). raster x line) across) opacity ≡ faded_at across down raster opacity

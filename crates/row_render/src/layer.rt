@@ -10,18 +10,25 @@ ghost use Rattle.row_render.specs.inner.Rasters.{placed_at};
 
 use crate::kept::Kept;
 use crate::placing::{keeps_columns, place_row};
-use crate::raster::raster_row;
+use crate::raster::{is_clear_raster, raster_row};
 use crate::view::View;
 use lane_blend::fill_row;
 use pixel_math::Pixel;
 use play_scene::visible_column;
 use play_types::{Drawn, MICROS_PER_UNIT};
 
-/// Returns whether a layer, laid into the frame by its fill and clip, shows nothing in the row.
+/// Returns whether a layer, laid into the frame, shows nothing in the row: its opacity is 0, its raster is transparent, or its
+/// fill and clip bring no row of it there.
 pub(crate) fn shows_nothing(view: &View, layer: &Drawn) -> bool
     requires range { IsDrawn layer.now }
     ensures { result ≡ true → (pictures : Pictures) (x : ℕ) → layer_pixel pictures view.now.size x view.now.y layer.now ≡ transparent }
 {
+    if layer.opacity == 0 {
+        return true;
+    }
+    if is_clear_raster(layer) {
+        return true;
+    }
     let (fill, clip) = (layer.fill, layer.clip);
     let line = visible_column(
         view.size.height,

@@ -1,21 +1,34 @@
 //! The row of a layer's raster.
-ghost use Rattle.std.specs.Prelude.{◌≡◌, ℕ, ◌+◌, ◌*◌, ◌%◌, ◌<◌, ◌≤◌, ◌⊎◌, length, All};
+ghost use Rattle.std.specs.Prelude.{◌≡◌, ℕ, ◌+◌, ◌*◌, ◌%◌, ◌<◌, ◌≤◌, ◌⊎◌, true, length, All};
 ghost use Rattle.std.specs.Option.{option_to_list};
 ghost use Rattle.play_types.specs.Scene.{NamesConfigured, ShowsConfigured};
+ghost use Rattle.play_types.specs.declared.geometry.Geometry.{Geometry as GeometryView};
 ghost use Rattle.play_transitions.specs.Column.{column_view};
 ghost use Rattle.play_transitions.specs.Runs.{number_of, raised, run_column};
+ghost use Rattle.pixel_math.specs.Pixel.{transparent};
 ghost use Rattle.history_model.specs.pictures.Raster.{Pictures, raster_pixel, still_pixel};
 ghost use Rattle.play_scene.specs.Frames.{ArePictures};
 ghost use Rattle.lane_blend.specs.Rows.{AreLowered, IsRow, pixel_at, width_of};
 ghost use Rattle.row_render.specs.inner.Rasters.{IsOutside, IsRunOf, moving_pixel};
 
 use crate::kept::Kept;
-use crate::source::{plain_pixel, source_row};
+use crate::source::{is_clear, plain_pixel, source_row};
 use crate::view::View;
 use lane_blend::fill_row;
 use pixel_math::Pixel;
 use play_transitions::{Column, Run, runs};
 use play_types::{Drawn, Still};
+
+/// Returns whether the raster of a layer is transparent, whatever the clips and the frames of the channels show: its new still
+/// is, and, while the transition runs, its old one too.
+pub(crate) fn is_clear_raster(layer: &Drawn) -> bool
+    ensures { result ≡ true → (pictures : Pictures) (size : GeometryView) (x y : ℕ) → raster_pixel pictures size layer.now x y ≡ transparent }
+{
+    if !is_clear(layer.still) {
+        return false;
+    }
+    layer.step >= layer.trans.duration() || is_clear(layer.old)
+}
 
 /// Writes row `y` of the raster of a layer: that of its new picture, or, while the transition runs, what it shows of its new
 /// and of its old picture. `other` is a row of the same length for the time of the call.

@@ -1,8 +1,9 @@
 //! Rows of pictures.
-ghost use Rattle.std.specs.Prelude.{◌≡◌, ℕ, ◌+◌, ◌*◌, ◌<◌, ◌≤◌, ◌^◌, length, take, drop, IfSome, MatchOption};
+ghost use Rattle.std.specs.Prelude.{◌≡◌, ℕ, ◌+◌, ◌*◌, ◌<◌, ◌≤◌, ◌^◌, true, length, take, drop, IfSome, MatchOption};
 ghost use Rattle.play_types.specs.Geometry.{IsSize};
 ghost use Rattle.play_types.specs.Scene.{ShowsConfigured};
 ghost use Rattle.play_types.specs.declared.clip.TheConstants.{MULTIPLIED};
+ghost use Rattle.play_types.specs.declared.geometry.Geometry.{Geometry as GeometryView};
 ghost use Rattle.pixel_math.specs.Pixel.{transparent};
 ghost use Rattle.clip_format.specs.Preparing.{IsLowered};
 ghost use Rattle.history_model.specs.pictures.Media.{clip_pixel};
@@ -21,6 +22,17 @@ pub(crate) fn plain_pixel(still: Still) -> Pixel
     match still {
         Still::Colour(value) => Pixel::colour(value),
         Still::Nothing | Still::Frame(_, _) | Still::Channel(_) => Pixel::transparent(),
+    }
+}
+
+/// Returns whether a still is transparent at each column and row: it is no picture, or a colour whose alpha is 0.
+pub(crate) fn is_clear(still: Still) -> bool
+    ensures { result ≡ true → (pictures : Pictures) (size : GeometryView) (x y : ℕ) → still_pixel pictures size still x y ≡ transparent }
+{
+    match still {
+        Still::Nothing => true,
+        Still::Colour(value) => value < 0x0100_0000,
+        Still::Frame(_, _) | Still::Channel(_) => false,
     }
 }
 

@@ -1,5 +1,6 @@
 -- Sixteen bytes, which are four pixels.
 use Rattle.std.specs.Prelude.{ℕ, ◌+◌, ◌*◌, ◌/◌, ◌<◌, ◌≤◌, List, slice_index}
+use Rattle.std.specs.Simd.Lanes.{Each1}
 use Rattle.pixel_math.specs.Pixel.{scaled}
 use Rattle.pixel_math.specs.Arithmetic.{over_byte}
 
@@ -22,3 +23,11 @@ key_at old keys k = scaled (slice_index old k) (red_at keys k)
 -- none of the sixteen bytes is above the alpha of its pixel
 abbrev pub AreBelowAlpha : List ℕ → Type 0
 AreBelowAlpha lanes = (k : ℕ) → k < 16 → slice_index lanes k ≤ alpha_at lanes k
+
+-- each of the lanes is one byte
+abbrev pub AreBytes : List ℕ → Type 0
+AreBytes lanes = Each1 (λ (x : ℕ). x ≤ 255) lanes
+
+-- the byte at k times the 255ths of its two bytes
+abbrev pub scaled_at : List ℕ → List ℕ → ℕ → ℕ
+scaled_at values by k = scaled (slice_index values k) (slice_index by (k / 2))

@@ -1,5 +1,5 @@
 use Rattle.std.proofs.Common.{◌≡◌, ℕ, ◌+◌, ◌%◌, get_or, ap, arith}
-use Rattle.pixel_math.specs.Pixel.{PixelView, pixel_of, pixel_bytes}
+use Rattle.pixel_math.specs.Pixel.{pixel_of, pixel_bytes}
 use Rattle.pixel_math.proofs.Pixels.{same_pixel}
 use Rattle.lane_blend.proofs.Rows.{AreLowered-row}
 use Rattle.lane_blend.proofs.Writing.{filled_at, four_pixels, lanes_more, row_fill}

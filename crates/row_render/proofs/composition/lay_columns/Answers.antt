@@ -1,6 +1,5 @@
-use Rattle.std.proofs.Common.{◌≡◌, ℕ, ◌-◌, ◌*◌, ◌<◌, ◌≤◌, length, inl, inr, subst, sym, arith}
-use Rattle.pixel_math.specs.Pixel.{transparent}
-use Rattle.lane_blend.specs.Rows.{AreLowered, pixel_at, width_of}
+use Rattle.std.proofs.Common.{◌*◌, ◌≤◌, length, subst, sym, arith}
+use Rattle.lane_blend.specs.Rows.{AreLowered}
 use Rattle.row_render.proofs.LaidColumns.{laid_columns, part-lowered, part-put}
 use Rattle.row_render.proofs.Pieces.{put-lowered}
 use Rattle.row_render.proofs.Transitions.{outside_along, part_long}

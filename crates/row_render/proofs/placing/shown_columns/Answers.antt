@@ -1,4 +1,4 @@
-use Rattle.std.proofs.Common.{◌≡◌, ℕ, ◌<◌, inl, inr, sym, arith, ℤ, to_z, of_z, w64}
+use Rattle.std.proofs.Common.{sym, ℤ, to_z, of_z, w64}
 use Rattle.std.specs.Prelude.{None}
 use Rattle.play_types.specs.Setting.{number_at}
 use Rattle.play_scene.proofs.Fills.{visible-is}

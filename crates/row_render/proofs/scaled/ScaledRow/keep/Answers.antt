@@ -1,4 +1,4 @@
-use Rattle.std.proofs.Common.{◌≡◌, ℕ, ◌+◌, ◌-◌, ◌≤◌, length, refl, ap, arith}
+use Rattle.std.proofs.Common.{◌+◌, ◌-◌, ◌≤◌, length, refl, ap, arith}
 use Rattle.row_render.specs.inner.Scaled.{ScaledView}
 use Rattle.row_render.proofs.KeptRows.{front_is}
 use Rattle.row_render.proofs.scaled.ScaledRow.keep.Goals as goal

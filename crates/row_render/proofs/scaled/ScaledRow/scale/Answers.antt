@@ -1,4 +1,4 @@
-use Rattle.std.proofs.Common.{◌≡◌, ℕ, ◌+◌, ◌-◌, ◌*◌, ◌≤◌, ◌++◌, length, take, drop, refl, sym, ap, ◌∙◌, arith, length-take-le}
+use Rattle.std.proofs.Common.{◌≡◌, ℕ, ◌-◌, ◌*◌, ◌≤◌, ◌++◌, length, take, drop, refl, sym, ap, ◌∙◌, arith, length-take-le}
 use Rattle.std.specs.Vec.{with_items}
 use Rattle.row_render.specs.inner.Scaled.{ScaledView}
 use Rattle.row_render.proofs.KeptRows.{front_is, kept_row}

@@ -64,8 +64,8 @@ impl Ticker<'_> {
         unreachable!()
     }
 
-    /// Gets scenes to fill, then takes a pulse, and then makes a tick and sends its scenes. The stage is free for other threads once the
-    /// tick is made.
+    /// Gets scenes to fill, then takes a pulse, and then makes a tick, sends its scenes, and tells the clock how many commands the history
+    /// holds. The stage is free for other threads once the tick is made.
     fn stage_tick<R: Wait, C: Clock>(
         &self,
         rt: &R,
@@ -88,8 +88,9 @@ impl Ticker<'_> {
             Beat::Closed => return Err(TickEnd::ClockClosed),
             Beat::Failed => return Err(TickEnd::ClockFault),
         }
-        let tick = self.stage.tick(rt, pass, &mut scenes)?;
-        pipe.send(rt, tick, scenes);
+        let ticked = self.stage.tick_counted(rt, pass, &mut scenes)?;
+        pipe.send(rt, ticked.number, scenes);
+        clock.holds(ticked.held);
         Ok(())
     }
 

@@ -40,7 +40,7 @@ fn devices(
     let mut outs = Vec::new(alloc);
     outs.push(PlainSink::new(1))?;
     Ok(Devices {
-        clock: RateClock::new(rt, 240),
+        clock: RateClock::new(rt, 240, 9),
         doors,
         outs,
         history: PlainSink::new(0),

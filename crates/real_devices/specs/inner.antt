@@ -3,3 +3,4 @@ pub mod Watch
 pub mod Stall
 pub mod Patience
 pub mod Accepting
+pub mod Fill

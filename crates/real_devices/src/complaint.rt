@@ -67,3 +67,17 @@ pub(crate) fn say_stalled<E: Eprint>(errors: &E, output: &str) {
 pub(crate) fn say_stall<E: Eprint>(errors: &E, pulses: u128) {
     let _ = errors.eprintln(format_args!("playd: clock: {pulses} pulses were passed over"));
 }
+
+/// Says that the journal of the history holds nine tenths of its limit.
+pub(crate) fn say_nearly_full<E: Eprint>(errors: &E, commands: u32, limit: u32) {
+    let _ = errors.eprintln(format_args!(
+        "playd: journal: {commands} of {limit} commands are held, nine tenths or more; start the server again when nothing is on air"
+    ));
+}
+
+/// Says that the journal of the history is full.
+pub(crate) fn say_full<E: Eprint>(errors: &E, limit: u32) {
+    let _ = errors.eprintln(format_args!(
+        "playd: journal: full with {limit} commands; each further command is answered 503 until the server is started again"
+    ));
+}

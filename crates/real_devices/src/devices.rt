@@ -79,7 +79,7 @@ pub fn ready<
     let outs = make_outs(rt, alloc, config, &mut run)?;
     let history = make_history(rt, alloc, history, &mut run)?;
     empty_all(&rt, config, &outs)?;
-    let clock = RateClock::new(rt, config.rate());
+    let clock = RateClock::new(rt, config.rate(), config.journal_limit());
     Ok(Devices {
         clock,
         doors,

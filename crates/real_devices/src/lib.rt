@@ -11,6 +11,7 @@ mod door_group;
 mod error_lines;
 mod file_limit;
 mod file_sink;
+mod fill;
 mod host;
 mod journal_names;
 mod output;

@@ -3,7 +3,8 @@ ghost use Rattle.std.specs.Prelude.{◌≡◌, ◌≢◌, ◌<◌};
 ghost use Rattle.play_outside.specs.Clock.{Beats};
 ghost use Rattle.real_devices.specs.Fresh.{quiet_clock};
 
-use crate::complaint::{complain, say_stall};
+use crate::complaint::{complain, say_full, say_nearly_full, say_stall};
+use crate::fill::{Fill, Level};
 use crate::schedule::{Schedule, Step};
 use play_outside::{Beat, Clock};
 use std::io::{self, Eprint, ErrorKind};
@@ -11,13 +12,15 @@ use std::thread;
 use std::time::{self, Instant};
 
 /// Gives `rate` pulses in each second of wall time, from its first call on, and never closes. It says on standard error
-/// why a call failed, and how many pulses it passed over. It does not tell how many it gave.
+/// why a call failed, how many pulses it passed over, and once each that the journal of the history holds nine tenths of
+/// its limit, and that it is full. It does not tell how many pulses it gave.
 #[derive(Drop)]
 pub struct RateClock<R> {
     rt: R,
     rate: u32,
     /// When pulses are due, once a call was made.
     schedule: Option<Schedule>,
+    fill: Fill,
     faults: u64,
     ghost some: { 0 < rate },
 }
@@ -25,8 +28,9 @@ pub struct RateClock<R> {
 impl<R: time::Clock + Eprint + Drop> RateClock<R> {
     ghost use Rattle.real_devices.specs.State.{clock_state};
 
-    /// Returns a clock of `rate` pulses in a second. No call of it was made yet.
-    pub fn new(rt: R, rate: u32) -> RateClock<R>
+    /// Returns a clock of `rate` pulses in a second, beside a journal of at most `journal_limit` commands. No call of it was
+    /// made yet.
+    pub fn new(rt: R, rate: u32, journal_limit: u32) -> RateClock<R>
         requires { 0 < rate }
         ensures { clock_state result ≡ quiet_clock }
     {
@@ -34,6 +38,7 @@ impl<R: time::Clock + Eprint + Drop> RateClock<R> {
             rt,
             rate,
             schedule: None,
+            fill: Fill::new(journal_limit),
             faults: 0,
         }
     }
@@ -72,6 +77,17 @@ impl<R: time::Clock + Eprint + Drop + Send> Clock for RateClock<R> {
                 self.faults = self.faults.saturating_add(1);
                 Beat::Failed
             }
+        }
+    }
+
+    /// Says that the journal holds nine tenths of its limit, and once it is full, that. Each of the two is said once at most.
+    fn holds(&mut self, commands: u32)
+        ensures { clock_state self.new ≡ clock_state self.old }
+    {
+        match self.fill.note(commands) {
+            None | Some(Level::Low) => {}
+            Some(Level::NineTenths) => say_nearly_full(&self.rt, commands, self.fill.limit()),
+            Some(Level::Full) => say_full(&self.rt, self.fill.limit()),
         }
     }
 }

@@ -59,7 +59,7 @@ fn answers_a_client(rt: HostRuntime) -> Result<(), Fail> {
 #[test]
 fn gives_pulses_in_time(rt: HostRuntime) -> Result<(), Fail> {
     let start = Instant::now(&rt)?;
-    let mut clock = RateClock::new(rt, 240);
+    let mut clock = RateClock::new(rt, 240, 1);
     for _ in 0..24 {
         assert_eq!(rt; clock.next(), Beat::Pulse);
     }

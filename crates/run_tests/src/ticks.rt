@@ -5,7 +5,7 @@ ghost use Rattle.play_ticker.specs.Frames.{AreBlank};
 
 use band_render::Renderer;
 use clip_format::MediaTable;
-use play_outside::{Flag, FlaggedCall, HeldClock, HeldSink, MemClock, MemSink};
+use play_outside::{Beat, Clock, Flag, FlaggedCall, HeldClock, HeldSink, MemClock, MemSink};
 use play_ticker::{TickEnd, tick_all};
 use play_types::{Channel, ChannelList, Cmd, Config, Place, Spec, Take, Text, Trans};
 use scene_pipe::ScenePipe;
@@ -90,14 +90,41 @@ fn ask_both<R: Wait>(
     Ok(())
 }
 
-/// Takes two pulses, and returns how they ended and what the outputs then are.
+/// A clock that keeps how many commands it was told that the history holds.
+#[derive(Drop)]
+struct ToldClock {
+    clock: MemClock,
+    told: Vec<u32>,
+}
+
+impl Clock for ToldClock {
+    ghost state = { λ t. ⟦<MemClock as Clock>⟧.state t.clock };
+
+    fn next(&mut self) -> Beat {
+        self.clock.next()
+    }
+
+    fn holds(&mut self, commands: u32) {
+        let _ = self.told.push(commands);
+    }
+}
+
+/// How two pulses ended, what the outputs then are, and how many commands the clock was told that the history held at each.
+#[derive(Drop)]
+struct Taken {
+    end: TickEnd,
+    outs: Vec<MemSink>,
+    told: Vec<u32>,
+}
+
+/// Takes two pulses.
 fn take_two<R: Threads + Wait + Sync>(
     rt: &R,
     alloc: Global,
     config: &Config,
     stage: &SharedStage,
     pass: &mut Pass,
-) -> Result<(TickEnd, Vec<MemSink>), Fail>
+) -> Result<Taken, Fail>
     requires of { pass.old.stage ≡ stage.now }
     requires first { pass.old.number ≡ 0 }
     requires made { pass.old.made ≡ [] }
@@ -108,7 +135,10 @@ fn take_two<R: Threads + Wait + Sync>(
     let mut renderer = two_frames(alloc, config)?;
     let pipe = ScenePipe::new(alloc, config)?;
     let mut outs = two_outputs(alloc)?;
-    let mut clock = MemClock::new(2, Vec::new(alloc));
+    let mut clock = ToldClock {
+        clock: MemClock::new(2, Vec::new(alloc)),
+        told: Vec::new(alloc),
+    };
     let end = tick_all(
         rt,
         stage,
@@ -119,7 +149,8 @@ fn take_two<R: Threads + Wait + Sync>(
         &mut clock,
         &mut outs,
     );
-    Ok((end, outs))
+    let ToldClock { told, .. } = clock;
+    Ok(Taken { end, outs, told })
 }
 
 /// Returns whether the output at a place took these bytes.
@@ -130,10 +161,8 @@ fn took(outs: &[MemSink], at: usize, bytes: &[u8]) -> bool {
     }
 }
 
-/// Channel 1 shows what channel 2 showed at the tick before, and channel 2 is red.
-#[test]
-fn pulses_become_frames(rt: HostRuntime) -> Result<(), Fail> {
-    let alloc = rt.alloc();
+/// Asks for red and for the route to it, and takes two pulses.
+fn ask_and_take<R: Threads + Wait + Sync>(rt: &R, alloc: Global) -> Result<Taken, Fail> {
     let config = two_channels(alloc)?;
     let stage = Stage::new(alloc, &config)?;
     let Ok((shared, mut passes)) = SharedStage::share(alloc, stage, 2) else {
@@ -145,13 +174,27 @@ fn pulses_become_frames(rt: HostRuntime) -> Result<(), Fail> {
     let Some(mut first) = passes.pop() else {
         return Err("two passes")?;
     };
-    ask_both(&rt, alloc, &shared, &mut second)?;
-    let (end, outs) = take_two(&rt, alloc, &config, &shared, &mut first)?;
-    assert_eq!(rt; end, TickEnd::ClockClosed);
+    ask_both(rt, alloc, &shared, &mut second)?;
+    take_two(rt, alloc, &config, &shared, &mut first)
+}
+
+/// Channel 1 shows what channel 2 showed at the tick before, and channel 2 is red.
+#[test]
+fn pulses_become_frames(rt: HostRuntime) -> Result<(), Fail> {
+    let taken = ask_and_take(&rt, rt.alloc())?;
+    assert_eq!(rt; taken.end, TickEnd::ClockClosed);
     let first_frames = [0, 0, 0, 0, 0, 0, 0, 0, 0, 0, 255, 255, 0, 0, 0, 0];
     let second_frames = [0, 0, 255, 255, 0, 0, 0, 0, 0, 0, 255, 255, 0, 0, 0, 0];
-    assert!(rt; took(&outs, 0, &first_frames));
-    assert!(rt; took(&outs, 1, &second_frames));
+    assert!(rt; took(&taken.outs, 0, &first_frames));
+    assert!(rt; took(&taken.outs, 1, &second_frames));
+    Ok(())
+}
+
+/// No clause says what a clock is told.
+#[test]
+fn clock_is_told_of_the_commands_at_each_tick(rt: HostRuntime) -> Result<(), Fail> {
+    let taken = ask_and_take(&rt, rt.alloc())?;
+    assert_eq!(rt; taken.told.as_slice(), [2, 2].as_slice());
     Ok(())
 }
 

@@ -5,7 +5,8 @@ use Rattle.std.proofs.lemmas.Result.{IfErr-weaker, on_err_weaker, on_ok_weaker}
 use Rattle.atomic_table.specs.Seated.{TableId}
 use Rattle.play_types.specs.declared.answer.Answer.{Answer}
 use Rattle.play_types.specs.declared.event.Event.{Event}
-use Rattle.play_types.specs.declared.event.Event.TheVariants.{Stop}
+use Rattle.play_types.specs.declared.drawn.Drawn.{Drawn}
+use Rattle.play_types.specs.declared.event.Event.TheVariants.{Stop, Tick}
 use Rattle.history_model.specs.pictures.Media.{Setup}
 use Rattle.play_types.specs.History.{held_by}
 use Rattle.play_journal.specs.Journal.{JournalView}
@@ -13,8 +14,9 @@ use Rattle.history_model.specs.stage.Answer.{StageAnswer, answer}
 use Rattle.stage_core.specs.Stage.{HasRoom, IsNotTaken, StageView, after_event}
 use Rattle.stage_core.specs.declared.fault.ApplyFault.{ApplyFault}
 use Rattle.stage_lock.specs.Own.{is_final, is_own, made_by}
-use Rattle.stage_lock.specs.Views.{Sizes, journal_of, stage_of}
-use Rattle.stage_lock.specs.Calls.{Adds, IsAnswered, Looks, added, looked, stop_tag, tag_of}
+use Rattle.stage_lock.specs.declared.ticked.Ticked.{Ticked}
+use Rattle.stage_lock.specs.Views.{PassView, Sizes, journal_of, stage_of}
+use Rattle.stage_lock.specs.Calls.{Adds, IsAnswered, IsCounted, IsTicked, Looks, added, looked, stop_tag, tag_of}
 use Rattle.stage_lock.specs.Seats.{SeatView, ends_final, grown, holding, pass_view, released}
 use Rattle.stage_lock.specs.Rule.{Seat}
 use Rattle.stage_lock.specs.Steps.{HasEvent, HasWon}
@@ -73,6 +75,10 @@ answered_at m m' c sizes f e reply won same is room replies = record {
   room = subst (λ (x : Event). HasRoom (journal_of sizes c.journal.events) (held_by x)) is (subst (λ (j : JournalView). HasRoom j (held_by f)) (journal_is m m' c sizes won same) room);
   reply = λ setup channels. ap (λ (x : Event). answer setup c.journal.events x) (sym is) ∙ replies setup (channels ∙ sym (channels_are m m' c sizes won same));
 }
+
+-- a tick beside which the commands were counted is a tick
+pub counted_tick : (old new : PassView) (sizes : Sizes) (ticked : Ticked) (drawn : List (List Drawn)) → Adds old Tick (IsCounted sizes ticked drawn) new → Adds old Tick (IsTicked sizes ticked.number drawn) new
+counted_tick old new sizes ticked drawn h = record { history = h.history; found = h.found; told = h.told.tick; after = h.after }
 
 -- the stage that holds one event more than was won
 event_at : (m m' : Seat) (c c' : StageView) (e : Event) → HasWon m c m' → c' ≡ after_event e c → (is_own m.0.number e ≡ true) ⊎ (is_final e ≡ true) → HasEvent m'.0 c'

@@ -2,7 +2,7 @@
 use Rattle.std.specs.Prelude.{◌≡◌, ℕ, ◌+◌, false, List, [], ◌∷◌, ◌++◌, ◌==◌, ◌||◌, None, nat_lt, if◌then◌else◌, length, map}
 use Rattle.std.specs.List.{range_with_len}
 use mathlib.Core.List.{IsPrefix}
-use Rattle.play_types.specs.History.{held_by, stop_at, ticks}
+use Rattle.play_types.specs.History.{held, held_by, stop_at, ticks}
 use Rattle.play_types.specs.declared.answer.Answer.{Answer}
 use Rattle.play_types.specs.declared.event.Event.{Event}
 use Rattle.play_types.specs.declared.event.Tag.{Tag}
@@ -11,6 +11,7 @@ use Rattle.history_model.specs.pictures.Media.{Setup}
 use Rattle.history_model.specs.pictures.Scene.{scene}
 use Rattle.history_model.specs.stage.Answer.{StageAnswer, answer}
 use Rattle.stage_core.specs.Stage.{HasRoom, HasTime}
+use Rattle.stage_lock.specs.declared.ticked.Ticked.{Ticked}
 use Rattle.stage_lock.specs.Own.{is_final, is_own, made_by}
 use Rattle.stage_lock.specs.Views.{PassView, SharedView, Sizes, journal_of}
 
@@ -74,6 +75,11 @@ pub record IsTicked (sizes : Sizes) (ticked : ℕ) (drawn : List (List Drawn)) (
   pub time : HasTime (journal_of sizes history)
   pub number : ticked ≡ ticks history + 1
   pub scenes : drawn ≡ map (scene history) (range_with_len 1 sizes.channels)
+
+-- a tick is taken after a history, and these are its number, how many commands the history holds, and its scenes
+pub record IsCounted (sizes : Sizes) (ticked : Ticked) (drawn : List (List Drawn)) (history : List Event) : Type 0 where
+  pub tick : IsTicked sizes ticked.number drawn history
+  pub held : ticked.held ≡ held history
 
 -- a stop is taken after a history, and this is its position
 pub record IsStopped (at : ℕ) (history : List Event) : Type 0 where

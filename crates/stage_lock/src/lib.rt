@@ -11,8 +11,10 @@ mod pass;
 mod rule;
 mod shared;
 mod slot;
+mod ticked;
 mod view;
 
 pub use note::Note;
 pub use pass::Pass;
 pub use shared::{MAX_PASSES, SharedStage};
+pub use ticked::Ticked;

@@ -11,6 +11,7 @@ use crate::note::Note;
 use crate::pass::Pass;
 use crate::rule::StageRule;
 use crate::slot::{Board, Seat, absorb, count, enroll, give_back, meet, put_back, take, tell};
+use crate::ticked::Ticked;
 use crate::view::{SeatView, Shape};
 use atomic_table::{Refused, Table};
 use play_types::{Answer, Cmd, Scenes, Tag};
@@ -49,7 +50,7 @@ impl SharedStage {
     ghost use Rattle.history_model.specs.commands.Channels.{IsServed};
     ghost use Rattle.stage_core.specs.Stage.{IsNoTick, IsNotTaken};
     ghost use Rattle.stage_lock.specs.declared.shared.TheConstants.{MAX_PASSES};
-    ghost use Rattle.stage_lock.specs.Calls.{Adds, IsAnswered, IsStopped, IsTicked, Looks, Meets, new_passes, stop_tag, tag_of};
+    ghost use Rattle.stage_lock.specs.Calls.{Adds, IsAnswered, IsCounted, IsStopped, IsTicked, Looks, Meets, new_passes, stop_tag, tag_of};
     ghost use Rattle.stage_lock.specs.Closing.{AreAll, Closes};
     ghost use Rattle.stage_lock.specs.Views.{journal_of, sizes_of, stage_of};
 
@@ -168,9 +169,34 @@ impl SharedStage {
             (λ fault. (scenes.new ≡ scenes.old)
             × Looks pass.old (λ history. IsNoTick (journal_of self.now.sizes history) fault) pass.new) }
     {
+        let ticked = self.tick_counted(rt, pass, scenes)?;
+        Ok(ticked.number)
+    }
+
+    /// Adds a tick to the history, writes what each channel shows at it into the scenes, and returns its number and how many
+    /// commands the history holds. The pass has the number 0, and there are as many scenes as the stage has channels. There
+    /// is a fault if the history holds a stop, which is tested first, and if it holds as many ticks as it may. After a fault
+    /// the scenes are as before, and the history is as it was found. It takes no memory.
+    pub fn tick_counted<R: Wait>(
+        &self,
+        rt: &R,
+        pass: &mut Pass,
+        scenes: &mut Scenes,
+    ) -> Result<Ticked, TickFault>
+        requires of { pass.old.stage ≡ self.now }
+        requires first { pass.old.number ≡ 0 }
+        requires scenes { length scenes.old ≡ self.now.sizes.channels }
+        ensures of { pass.new.stage ≡ self.now }
+        ensures call { MatchResult result
+            (λ ticked. Adds pass.old Tick (IsCounted self.now.sizes ticked scenes.new) pass.new)
+            (λ fault. (scenes.new ≡ scenes.old)
+            × Looks pass.old (λ history. IsNoTick (journal_of self.now.sizes history) fault) pass.new) }
+    {
         let mut stage = take(rt, &self.table.shared, &mut pass.seat);
+        let held = stage.journal().held();
         let ticked = stage.tick(scenes);
-        put_back(&self.table.shared, &mut pass.seat, stage, ticked)
+        let number = put_back(&self.table.shared, &mut pass.seat, stage, ticked)?;
+        Ok(Ticked { number, held })
     }
 
     /// Adds a stop to the history and returns its position. Its tag is the pass's number and the session, and 0.0 in session

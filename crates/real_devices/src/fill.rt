@@ -1,0 +1,81 @@
+//! When it is said how full the journal of the history is.
+ghost use Rattle.std.specs.Prelude.{◌≡◌};
+ghost use Rattle.real_devices.specs.declared.fill.Level.TheVariants.{Low};
+ghost use Rattle.real_devices.specs.inner.Fill.{Notes, is_above, level_of};
+
+/// How full a journal is.
+#[derive(Clone, Copy, Debug, PartialEq, Eq)]
+pub(crate) enum Level {
+    /// It holds less than nine tenths of its limit.
+    Low,
+    /// It holds nine tenths of its limit or more, and is not full.
+    NineTenths,
+    /// It holds its limit.
+    Full,
+}
+
+impl Level {
+    /// Returns whether it is fuller than another.
+    fn is_above(self, other: Level) -> bool
+        ensures { result ≡ is_above self other }
+    {
+        match self {
+            Level::Low => false,
+            Level::NineTenths => matches!(other, Level::Low),
+            Level::Full => !matches!(other, Level::Full),
+        }
+    }
+}
+
+/// How full a journal was when it was last said.
+#[derive(Clone, Copy, Debug, PartialEq, Eq)]
+pub(crate) struct Fill {
+    /// The most commands of the journal.
+    limit: u32,
+    said: Level,
+}
+
+impl Fill {
+    /// Returns a journal of at most `limit` commands, of which nothing was said.
+    pub(crate) const fn new(limit: u32) -> Fill
+        ensures { result ≡ record { limit = limit; said = Low } }
+    {
+        Fill {
+            limit,
+            said: Level::Low,
+        }
+    }
+
+    /// Returns the most commands of the journal.
+    pub(crate) fn limit(&self) -> u32
+        ensures { result ≡ self.now.limit }
+    {
+        self.limit
+    }
+
+    /// Notes that the journal holds this many commands, and returns what is to be said: how full it is, if it is fuller than
+    /// when that was last said. So each level is said once at most.
+    pub(crate) fn note(&mut self, commands: u32) -> Option<Level>
+        ensures { Notes result commands self.old self.new }
+    {
+        let level = level_of(self.limit, commands);
+        if level.is_above(self.said) {
+            self.said = level;
+            return Some(level);
+        }
+        None
+    }
+}
+
+/// Returns how full a journal is that may hold `limit` commands and holds `commands`.
+fn level_of(limit: u32, commands: u32) -> Level
+    ensures { result ≡ level_of limit commands }
+{
+    if commands >= limit {
+        Level::Full
+    } else if u64::from(commands) * 10 >= u64::from(limit) * 9 {
+        Level::NineTenths
+    } else {
+        Level::Low
+    }
+}

@@ -10,8 +10,9 @@ use std::thread::{self, Builder, Threads};
 /// How often a thread of a trial looks whether it may end, before it ends anyway.
 const LOOKS: u32 = 1_000_000;
 
-/// Finds out whether the system has a thread for each connection of a configuration, besides the one of the caller: the
-/// ticks are made beside the connections. Threads are started for a trial, and have ended when this returns.
+/// Finds out whether the system has a thread for each connection of a configuration and one more, besides the one of the caller:
+/// beside the connections ticks are made, and frames are made and written. Threads are started for a trial, and have ended when this
+/// returns.
 ///
 /// It fails as if memory ran out if some could not be started, and standard error says how many were; or if memory ran out.
 pub fn try_threads<R: Threads + Eprint>(
@@ -19,7 +20,7 @@ pub fn try_threads<R: Threads + Eprint>(
     alloc: Global,
     config: &Config,
 ) -> Result<(), AllocError> {
-    let wanted = config.connections();
+    let wanted = config.connections() + 1;
     let started = start_threads(rt, alloc, wanted)?;
     if started < wanted as usize {
         say_few_threads(rt, started, wanted);

@@ -13,7 +13,7 @@ use Rattle.server_setup.specs.Setup.{SetsUp, TellsFirst, fault_of_files}
 use Rattle.play_types.specs.declared.clip_fault.ClipFault.{ClipFault}
 use Rattle.play_types.specs.declared.clip_fault.ClipFault.TheVariants as clip
 use Rattle.server_setup.specs.declared.fault.RunFault.{RunFault}
-use Rattle.server_setup.specs.declared.fault.RunFault.TheVariants.{Usage, ConfigText, ConfigKey, BadLine, InputTooLong, Plan, PlanEnd, Clip, MediaTwice, MediaTotal, Device, OutOfMemory}
+use Rattle.server_setup.specs.declared.fault.RunFault.TheVariants.{Usage, ConfigText, ConfigKey, BadLine, InputTooLong, Plan, PlanEnd, Record, Clip, MediaTwice, MediaTotal, Device, OutOfMemory}
 use Rattle.server_setup.specs.declared.setup.ServerSetup.{ServerSetup}
 use Rattle.play_server.specs.Program.{AtSite, RunsLine, RunsOn, RunsServer, RunsSetUp, RunsWords, SaysEnd, SaysLine, asked_in, asked_of, program_of, status_in}
 use Rattle.play_server.specs.ServerWords.{Accepts, ReadsWords, playd_app}
@@ -22,8 +22,8 @@ use Rattle.play_server.specs.SiteState.{SiteState, after_call_without_memory}
 use Rattle.play_server.specs.Statuses.{EndsUncalled, EndsWell, HasFirstFault, HasServedClients, IsRefused, RefusesClips, RefusesConfig, SomethingFails}
 use Rattle.play_server.specs.declared.served.ServeEnd.TheVariants as serve
 use Rattle.play_server.specs.declared.words.ServerWords.{ServerWords}
-use Rattle.play_server.specs.declared.words.WordsFault.{WordsFault}
-use Rattle.play_server.specs.declared.words.WordsFault.TheVariants as words
+use Rattle.play_server.specs.declared.words.ServerWordsFault.{ServerWordsFault}
+use Rattle.play_server.specs.declared.words.ServerWordsFault.TheVariants as words
 use Rattle.play_server.proofs.SaysLine.{moved_clips, moved_config, moved_failure, moved_run}
 use Rattle.play_server.proofs.DeviceFaults.{device_rose, devices_stay, rises, stopped_by}
 
@@ -61,6 +61,7 @@ module _ {C D O L : Type 0} (device : DeviceStates C D O L) (tells : L → SinkS
   Came (Err InputTooLong) moments = ⊥
   Came (Err (Plan number)) moments = ⊥
   Came (Err PlanEnd) moments = ⊥
+  Came (Err (Record name)) moments = ⊥
   Came (Err (Clip fault)) moments = ⊥
   Came (Err (MediaTwice name)) moments = IsRefused line (MediaTwice name) moments
   Came (Err (MediaTotal total)) moments = IsRefused line (MediaTotal total) moments
@@ -83,6 +84,7 @@ module _ {C D O L : Type 0} (device : DeviceStates C D O L) (tells : L → SinkS
   came_of_fault named InputTooLong moments accepted sets same = absurd sets
   came_of_fault named (Plan number) moments accepted sets same = absurd sets
   came_of_fault named PlanEnd moments accepted sets same = absurd sets
+  came_of_fault named (Record name) moments accepted sets same = absurd sets
   came_of_fault named (Clip fault) moments accepted sets same = absurd sets
   came_of_fault named (MediaTwice name) moments accepted sets same = record { named = named; accepted = accepted; refused = sets }
   came_of_fault named (MediaTotal total) moments accepted sets same = record { named = named; accepted = accepted; refused = sets }
@@ -116,6 +118,7 @@ module _ {C D O L : Type 0} (device : DeviceStates C D O L) (tells : L → SinkS
   came_of_run named setup (Err InputTooLong) moments accepted sets runs = absurd runs
   came_of_run named setup (Err (Plan number)) moments accepted sets runs = absurd runs
   came_of_run named setup (Err PlanEnd) moments accepted sets runs = absurd runs
+  came_of_run named setup (Err (Record name)) moments accepted sets runs = absurd runs
   came_of_run named setup (Err (Clip fault)) moments accepted sets runs = absurd runs
   came_of_run named setup (Err (MediaTwice name)) moments accepted sets runs = absurd runs
   came_of_run named setup (Err (MediaTotal total)) moments accepted sets runs = absurd runs
@@ -131,7 +134,7 @@ module _ {C D O L : Type 0} (device : DeviceStates C D O L) (tells : L → SinkS
         | inr late ↦ subst (λ (f : RunFault). Came (Err f) moments) (sym late.1) (inl runs.3)
       ])
 
-  came_of_words : (read : Result ServerWords WordsFault) (result : Result (Unit {0}) RunFault) (moments : AtSite C D O × AtSite C D O) → ReadsWords line read
+  came_of_words : (read : Result ServerWords ServerWordsFault) (result : Result (Unit {0}) RunFault) (moments : AtSite C D O × AtSite C D O) → ReadsWords line read
       → RunsWords device tells read result moments → Came result moments
   came_of_words (Ok named) result moments reads runs = came_of_setup named runs.setup result moments reads runs.sets_up runs.runs
   came_of_words (Err words.Usage) result moments reads runs = subst (λ (r : Result (Unit {0}) RunFault). Came r moments) (sym runs.0) reads
@@ -151,6 +154,7 @@ module _ {C D O L : Type 0} (device : DeviceStates C D O L) (tells : L → SinkS
   only_usage (Err InputTooLong) moments came is = absurd came
   only_usage (Err (Plan number)) moments came is = absurd came
   only_usage (Err PlanEnd) moments came is = absurd came
+  only_usage (Err (Record name)) moments came is = absurd came
   only_usage (Err (Clip fault)) moments came is = absurd came
   only_usage (Err (MediaTwice name)) moments came is = absurd (omega (arith, is))
   only_usage (Err (MediaTotal total)) moments came is = absurd (omega (arith, is))
@@ -168,6 +172,7 @@ module _ {C D O L : Type 0} (device : DeviceStates C D O L) (tells : L → SinkS
   refused_words (Err InputTooLong) moments came refused = absurd came
   refused_words (Err (Plan number)) moments came refused = absurd came
   refused_words (Err PlanEnd) moments came refused = absurd came
+  refused_words (Err (Record name)) moments came refused = absurd came
   refused_words (Err (Clip fault)) moments came refused = absurd came
   refused_words (Err (MediaTwice name)) moments came refused = absurd (refused came.accepted.accepted)
   refused_words (Err (MediaTotal total)) moments came refused = absurd (refused came.accepted.accepted)
@@ -184,6 +189,7 @@ module _ {C D O L : Type 0} (device : DeviceStates C D O L) (tells : L → SinkS
   only_config (Err InputTooLong) moments came is = absurd came
   only_config (Err (Plan number)) moments came is = absurd came
   only_config (Err PlanEnd) moments came is = absurd came
+  only_config (Err (Record name)) moments came is = absurd came
   only_config (Err (Clip fault)) moments came is = absurd came
   only_config (Err (MediaTwice name)) moments came is = absurd (omega (arith, is))
   only_config (Err (MediaTotal total)) moments came is = absurd (omega (arith, is))
@@ -200,6 +206,7 @@ module _ {C D O L : Type 0} (device : DeviceStates C D O L) (tells : L → SinkS
   only_clips (Err InputTooLong) moments came is = absurd came
   only_clips (Err (Plan number)) moments came is = absurd came
   only_clips (Err PlanEnd) moments came is = absurd came
+  only_clips (Err (Record name)) moments came is = absurd came
   only_clips (Err (Clip fault)) moments came is = absurd came
   only_clips (Err (MediaTwice name)) moments came is = inl (name, came)
   only_clips (Err (MediaTotal total)) moments came is = inr (total, came)
@@ -226,6 +233,7 @@ module _ {C D O L : Type 0} (device : DeviceStates C D O L) (tells : L → SinkS
   only_device (Err InputTooLong) moments came is = absurd came
   only_device (Err (Plan number)) moments came is = absurd came
   only_device (Err PlanEnd) moments came is = absurd came
+  only_device (Err (Record name)) moments came is = absurd came
   only_device (Err (Clip fault)) moments came is = absurd came
   only_device (Err (MediaTwice name)) moments came is = absurd (omega (arith, is))
   only_device (Err (MediaTotal total)) moments came is = absurd (omega (arith, is))
@@ -250,6 +258,7 @@ module _ {C D O L : Type 0} (device : DeviceStates C D O L) (tells : L → SinkS
   at_most (Err InputTooLong) = omega arith
   at_most (Err (Plan number)) = omega arith
   at_most (Err PlanEnd) = omega arith
+  at_most (Err (Record name)) = omega arith
   at_most (Err (Clip fault)) = clip_at_most fault
   at_most (Err (MediaTwice name)) = omega arith
   at_most (Err (MediaTotal total)) = omega arith
@@ -281,6 +290,7 @@ module _ {C D O L : Type 0} (device : DeviceStates C D O L) (tells : L → SinkS
   completes decides (Err InputTooLong) moments has came = absurd came
   completes decides (Err (Plan number)) moments has came = absurd came
   completes decides (Err PlanEnd) moments has came = absurd came
+  completes decides (Err (Record name)) moments has came = absurd came
   completes decides (Err (Clip fault)) moments has came = absurd came
   completes decides (Err (MediaTwice name)) moments has came = absurd (none-some _ (first_of_refused decides (MediaTwice name) None moments has came))
   completes decides (Err (MediaTotal total)) moments has came = absurd (none-some _ (first_of_refused decides (MediaTotal total) None moments has came))
@@ -309,6 +319,7 @@ module _ {C D O L : Type 0} (device : DeviceStates C D O L) (tells : L → SinkS
   meets decides fault (Err InputTooLong) moments has came = absurd came
   meets decides fault (Err (Plan number)) moments has came = absurd came
   meets decides fault (Err PlanEnd) moments has came = absurd came
+  meets decides fault (Err (Record name)) moments has came = absurd came
   meets decides fault (Err (Clip refused)) moments has came = absurd came
   meets decides fault (Err (MediaTwice name)) moments has came = same_fault (MediaTwice name) fault moments.0.folder moments.1.folder (first_of_refused decides (MediaTwice name) (Some fault) moments has came)
   meets decides fault (Err (MediaTotal total)) moments has came = same_fault (MediaTotal total) fault moments.0.folder moments.1.folder (first_of_refused decides (MediaTotal total) (Some fault) moments has came)
@@ -341,6 +352,7 @@ module _ {C D O L : Type 0} (device : DeviceStates C D O L) (tells : L → SinkS
   only_success (Err InputTooLong) first between last folder says came is = absurd came
   only_success (Err (Plan number)) first between last folder says came is = absurd came
   only_success (Err PlanEnd) first between last folder says came is = absurd came
+  only_success (Err (Record name)) first between last folder says came is = absurd came
   only_success (Err (Clip fault)) first between last folder says came is = absurd came
   only_success (Err (MediaTwice name)) first between last folder says came is = absurd (omega (arith, is))
   only_success (Err (MediaTotal total)) first between last folder says came is = absurd (omega (arith, is))
@@ -374,6 +386,7 @@ module _ {C D O L : Type 0} (device : DeviceStates C D O L) (tells : L → SinkS
   only_memory (Err InputTooLong) first between last folder says came is = absurd came
   only_memory (Err (Plan number)) first between last folder says came is = absurd came
   only_memory (Err PlanEnd) first between last folder says came is = absurd came
+  only_memory (Err (Record name)) first between last folder says came is = absurd came
   only_memory (Err (Clip fault)) first between last folder says came is = absurd came
   only_memory (Err (MediaTwice name)) first between last folder says came is = absurd (omega (arith, is))
   only_memory (Err (MediaTotal total)) first between last folder says came is = absurd (omega (arith, is))

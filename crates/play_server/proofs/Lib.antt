@@ -17,6 +17,7 @@ mod IsReplayable
 mod IsShownAgain
 mod LinkRuns
 pub mod OnLiterals
+mod OnAir
 mod PassOn
 mod Reversed
 mod RunPasses

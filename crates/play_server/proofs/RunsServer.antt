@@ -5,7 +5,7 @@ use Rattle.play_outside.specs.FolderState.{FolderState}
 use Rattle.play_outside.specs.SinkState.{SinkState}
 use Rattle.play_outside.specs.declared.devices.Devices.{Devices}
 use Rattle.server_setup.specs.declared.fault.RunFault.{RunFault}
-use Rattle.server_setup.specs.declared.fault.RunFault.TheVariants.{Usage, ConfigText, ConfigKey, BadLine, InputTooLong, Plan, PlanEnd, Clip, MediaTwice, MediaTotal, Device, OutOfMemory}
+use Rattle.server_setup.specs.declared.fault.RunFault.TheVariants.{Usage, ConfigText, ConfigKey, BadLine, InputTooLong, Plan, PlanEnd, Record, Clip, MediaTwice, MediaTotal, Device, OutOfMemory}
 use Rattle.server_setup.specs.Setup.{SetsUp}
 use Rattle.server_setup.specs.declared.setup.ServerSetup.{ServerSetup}
 use Rattle.play_server.specs.Program.{Asked, AtSite, IsToldAs, RunsLine, RunsOn, RunsServer, RunsSetUp, RunsWords, ServesOn, TakesMemory, asked_in, asked_of}
@@ -15,8 +15,8 @@ use Rattle.play_server.specs.Site.{AreReady, DeviceStates, ready_call}
 use Rattle.play_server.specs.SiteState.{SiteState, after_call, after_finish}
 use Rattle.play_server.specs.declared.served.ServeEnd.{ServeEnd}
 use Rattle.play_server.specs.declared.words.ServerWords.{ServerWords}
-use Rattle.play_server.specs.declared.words.WordsFault.{WordsFault}
-use Rattle.play_server.specs.declared.words.WordsFault.TheVariants as words
+use Rattle.play_server.specs.declared.words.ServerWordsFault.{ServerWordsFault}
+use Rattle.play_server.specs.declared.words.ServerWordsFault.TheVariants as words
 use Rattle.play_server.specs.inner.Ending.{EndsWithFault}
 
 -- devices were given, served and finished
@@ -88,6 +88,7 @@ module _ {C D O L : Type 0} (device : DeviceStates C D O L) (tells : L → SinkS
   no_line_of_run asked InputTooLong moments takes runs = takes
   no_line_of_run asked (Plan number) moments takes runs = runs
   no_line_of_run asked PlanEnd moments takes runs = takes
+  no_line_of_run asked (Record name) moments takes runs = runs
   no_line_of_run asked (Clip fault) moments takes runs = runs
   no_line_of_run asked (MediaTwice name) moments takes runs = runs
   no_line_of_run asked (MediaTotal total) moments takes runs = takes
@@ -102,7 +103,7 @@ module _ {C D O L : Type 0} (device : DeviceStates C D O L) (tells : L → SinkS
       let same : met ≡ runs.0 = let both = runs.2 in cc in
       (OutOfMemory, inr (takes_line fault runs.0 runs.1 (subst TakesMemory same takes), refl), refl, runs.3)
 
-  lost_in_words : (read : Result ServerWords WordsFault) (met : RunFault) (moments : AtSite C D O × AtSite C D O) → TakesMemory met
+  lost_in_words : (read : Result ServerWords ServerWordsFault) (met : RunFault) (moments : AtSite C D O × AtSite C D O) → TakesMemory met
       → RunsWords device tells read (Err met) moments → RunsWords device tells read (Err OutOfMemory) moments
   lost_in_words (Ok named) met moments takes runs = record {
     setup = runs.setup;

@@ -8,7 +8,7 @@ use Rattle.play_outside.specs.declared.sink.WriteStep.{WriteStep}
 use Rattle.server_setup.specs.Fault.{HasNumber, fault_line, status_of}
 use Rattle.server_setup.specs.Setup.{SetsUp}
 use Rattle.server_setup.specs.declared.fault.RunFault.{RunFault}
-use Rattle.server_setup.specs.declared.fault.RunFault.TheVariants.{Usage, ConfigText, ConfigKey, BadLine, InputTooLong, Plan, PlanEnd, Clip, MediaTwice, MediaTotal, Device, OutOfMemory}
+use Rattle.server_setup.specs.declared.fault.RunFault.TheVariants.{Usage, ConfigText, ConfigKey, BadLine, InputTooLong, Plan, PlanEnd, Record, Clip, MediaTwice, MediaTotal, Device, OutOfMemory}
 use Rattle.server_setup.specs.declared.setup.ServerSetup.{ServerSetup}
 use Rattle.play_server.specs.Run.{Program, Serves}
 use Rattle.play_server.specs.ServerWords.{ReadsWords}
@@ -17,8 +17,8 @@ use Rattle.play_server.specs.SiteState.{SiteState, after_call, after_finish}
 use Rattle.play_server.specs.declared.served.ServeEnd.{ServeEnd}
 use Rattle.play_server.specs.declared.served.ServeEnd.TheVariants as serve
 use Rattle.play_server.specs.declared.words.ServerWords.{ServerWords}
-use Rattle.play_server.specs.declared.words.WordsFault.{WordsFault}
-use Rattle.play_server.specs.declared.words.WordsFault.TheVariants as words
+use Rattle.play_server.specs.declared.words.ServerWordsFault.{ServerWordsFault}
+use Rattle.play_server.specs.declared.words.ServerWordsFault.TheVariants as words
 
 -- the exit status
 abbrev pub status_in : Result (Unit {0}) RunFault → ℕ
@@ -52,6 +52,7 @@ TakesMemory (BadLine number) = Unit {0}
 TakesMemory InputTooLong = ⊥
 TakesMemory (Plan number) = Unit {0}
 TakesMemory PlanEnd = ⊥
+TakesMemory (Record name) = Unit {0}
 TakesMemory (Clip fault) = HasNumber fault
 TakesMemory (MediaTwice name) = Unit {0}
 TakesMemory (MediaTotal total) = ⊥
@@ -63,7 +64,7 @@ abbrev pub IsToldAs : RunFault → RunFault → Type 0
 IsToldAs met told = (told ≡ met) ⊎ (TakesMemory met × (told ≡ OutOfMemory))
 
 -- the fault of a run whose words name nothing
-abbrev pub fault_of_words : WordsFault → RunFault
+abbrev pub fault_of_words : ServerWordsFault → RunFault
 fault_of_words words.Usage = Usage
 fault_of_words words.OutOfMemory = OutOfMemory
 
@@ -113,6 +114,7 @@ module _ {C D O L : Type 0} where
   RunsOn device tells asked (Err InputTooLong) moments = ⊥
   RunsOn device tells asked (Err (Plan number)) moments = ⊥
   RunsOn device tells asked (Err PlanEnd) moments = ⊥
+  RunsOn device tells asked (Err (Record name)) moments = ⊥
   RunsOn device tells asked (Err (Clip fault)) moments = ⊥
   RunsOn device tells asked (Err (MediaTwice name)) moments = ⊥
   RunsOn device tells asked (Err (MediaTotal total)) moments = ⊥
@@ -129,13 +131,13 @@ module _ {C D O L : Type 0} where
     pub runs : RunsSetUp device tells (asked_in setup (option_map string_bytes named.journal)) result (moments.0.site, moments.1.site)
 
   -- after the words were read: they are refused, or memory ran out, and nothing else was called; or they name a run
-  abbrev pub RunsWords : DeviceStates C D O L → (L → SinkState) → Result ServerWords WordsFault → Result (Unit {0}) RunFault → AtSite C D O × AtSite C D O → Type 0
+  abbrev pub RunsWords : DeviceStates C D O L → (L → SinkState) → Result ServerWords ServerWordsFault → Result (Unit {0}) RunFault → AtSite C D O × AtSite C D O → Type 0
   RunsWords device tells (Ok named) result moments = RunsAccepted device tells named result moments
   RunsWords device tells (Err fault) result moments = (result ≡ Err (fault_of_words fault)) × (moments.1 ≡ moments.0)
 
   -- the words are read, and then the server runs as they say. The first word of the line is the program's name
   pub record RunsLine (device : DeviceStates C D O L) (tells : L → SinkState) (line : List (List ℕ)) (result : Result (Unit {0}) RunFault) (moments : AtSite C D O × AtSite C D O) : Type 0 where
-    pub read : Result ServerWords WordsFault
+    pub read : Result ServerWords ServerWordsFault
     pub reads : ReadsWords line read
     pub runs : RunsWords device tells read result moments
 

@@ -7,8 +7,8 @@ use Rattle.clap.specs.Walk.{Row, byte_or_zero}
 use Rattle.clap.specs.declared.builder.action.ArgAction.TheVariants.{Set}
 use Rattle.clap.specs.declared.builder.value_parser.ValueParser.TheVariants as value
 use Rattle.play_server.specs.declared.words.ServerWords.{ServerWords}
-use Rattle.play_server.specs.declared.words.WordsFault.{WordsFault}
-use Rattle.play_server.specs.declared.words.WordsFault.TheVariants.{Usage, OutOfMemory}
+use Rattle.play_server.specs.declared.words.ServerWordsFault.{ServerWordsFault}
+use Rattle.play_server.specs.declared.words.ServerWordsFault.TheVariants.{Usage, OutOfMemory}
 
 -- `--config FILE` has to be there
 abbrev pub config_rule : Rule
@@ -51,10 +51,10 @@ pub record Accepts (line : List (List ℕ)) (words : ServerWords) : Type 0 where
   pub names : Names (matches_of playd_app line) words
 
 -- the words are refused, or memory ran out
-abbrev pub Refuses : List (List ℕ) → WordsFault → Type 0
+abbrev pub Refuses : List (List ℕ) → ServerWordsFault → Type 0
 Refuses line Usage = fault_of playd_app line ≢ []
 Refuses line OutOfMemory = Unit {0}
 
 -- what reading the words gives, the first of which is the program's name
-abbrev pub ReadsWords : List (List ℕ) → Result ServerWords WordsFault → Type 0
+abbrev pub ReadsWords : List (List ℕ) → Result ServerWords ServerWordsFault → Type 0
 ReadsWords line result = MatchResult result (Accepts line) (Refuses line)

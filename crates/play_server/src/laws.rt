@@ -1,11 +1,15 @@
 //! Laws of runs. Each is the contract of a function that does nothing.
-ghost use Rattle.std.specs.Prelude.{◌≡◌, ℕ, ◌≤◌, Bool, Some, List, [], ◌∷◌, ◌++◌, All, length};
+ghost use Rattle.std.specs.Prelude.{◌≡◌, ℕ, ◌+◌, ◌≤◌, Bool, Some, List, [], ◌∷◌, ◌++◌, All, length};
+ghost use mathlib.Core.List.{IsPrefix};
+ghost use Rattle.play_types.specs.History.{ticks};
 ghost use Rattle.play_types.specs.declared.event.Event.{Event};
 ghost use Rattle.play_types.specs.declared.event.Event.TheVariants.{Tick};
 ghost use Rattle.play_outside.specs.Fresh.{IsNewSink};
 ghost use Rattle.play_outside.specs.declared.devices.Devices.{Devices};
 ghost use Rattle.play_outside.specs.declared.sink.Sent.TheVariants as sent;
 ghost use Rattle.clip_format.specs.Table.{media_names};
+ghost use Rattle.history_model.specs.pictures.Media.{Setup};
+ghost use Rattle.history_model.specs.recordings.Film.{Span, before_tick, film, filmed};
 ghost use Rattle.history_model.specs.scripts.History.{PlayedLine, script_events};
 ghost use Rattle.history_model.specs.scripts.Memory.{HasMemory, lines_played};
 ghost use Rattle.history_model.specs.scripts.Output.{script_output};
@@ -15,10 +19,12 @@ ghost use Rattle.history_replay.specs.ReplayOutput.{history_output};
 ghost use Rattle.conn_worker.specs.Explained.{covered};
 ghost use Rattle.conn_worker.specs.Followed.{Followed, events_of};
 ghost use Rattle.conn_worker.specs.Work.{LinkRun, service_of};
+ghost use Rattle.play_ticker.specs.Frames.{frames_text};
+ghost use Rattle.play_ticker.specs.Outputs.{AllTakeFrames};
 ghost use Rattle.play_server.specs.Links.{IsExplainedLink};
 ghost use Rattle.play_server.specs.Program.{AtSite, program_of};
 ghost use Rattle.play_server.specs.Replay.{IsAnsweredAgain, IsOpenedAgain, IsShownAgain, playout_of};
-ghost use Rattle.play_server.specs.Run.{HasRun, Program, setting_of};
+ghost use Rattle.play_server.specs.Run.{HasRun, Program, setting_of, setup_of};
 ghost use Rattle.play_server.specs.Site.{device_states};
 ghost use Rattle.play_server.specs.Statuses.{HasServedClients};
 ghost use Rattle.play_server.specs.declared.served.ServeEnd.{ServeEnd};
@@ -108,4 +114,29 @@ pub fn programs_are_played_again<C: Clock, D: Listener, O: Sink>()
         (played : List PlayedLine) → lines_played played ≡ script_of (history_text (media_names run.setup.media) run.served.serves.history) →
         HasMemory (playout_of (program_of run.setup) digests) played →
         script_output (playout_of (program_of run.setup) digests) played ≡ history_output (playout_of (program_of run.setup) digests) run.served.serves.history }
+{}
+
+/// A recording that is made of the text of a run is the film of what was on air.
+///
+/// The run is one of the program that ends with status 0. Its text is what the output for the history tells. Each run of the text as
+/// a script on the same configuration and clips, of which no reply says that memory ran out, has for each name the film of the
+/// history of the first run. In that run each output took the frames of its channel at all ticks, and the bytes of recorded ticks
+/// stand in them right behind the frames of the ticks before.
+pub fn recordings_are_made_again<C: Clock, D: Listener, O: Sink>()
+    ensures film { (line : List (List ℕ)) (moments : AtSite C D O × AtSite C D O) (digests : Bool)
+        (run : HasServedClients (device_states C.state D.state O.state) D.Line.state line serve.Ended moments) →
+        IsPlayout (playout_of (program_of run.setup) digests) →
+        All (NamesShortClips (media_names run.setup.media)) run.served.serves.history →
+        (text : List ℕ) → (O.state run.served.finished.history).taken ≡ Some text →
+        (played : List PlayedLine) → lines_played played ≡ script_of text →
+        HasMemory (playout_of (program_of run.setup) digests) played → (name : List ℕ) →
+        film (setup_of (program_of run.setup)) (script_events (playout_of (program_of run.setup) digests) played) name
+        ≡ film (setup_of (program_of run.setup)) run.served.serves.history name }
+    ensures taken { (line : List (List ℕ)) (moments : AtSite C D O × AtSite C D O)
+        (run : HasServedClients (device_states C.state D.state O.state) D.Line.state line serve.Ended moments) →
+        AllTakeFrames O.state (record { setup = setup_of (program_of run.setup); history = run.served.serves.history })
+        run.served.given.outs.items run.served.finished.outs.items }
+    ensures on_air { (setup : Setup) (history : List Event) (span : Span) → span.first + span.frames ≤ ticks history →
+        IsPrefix (frames_text setup (before_tick history span.first) span.channel ++ (filmed setup history span).bytes)
+        (frames_text setup history span.channel) }
 {}

@@ -24,4 +24,4 @@ pub use program::serve_main;
 pub use served::{ServeEnd, Served};
 pub use serving::serve;
 pub use site::{ReadyCall, Site};
-pub use words::{ServerWords, WordsFault};
+pub use words::{ServerWords, ServerWordsFault};

@@ -8,7 +8,7 @@ use crate::ending::end_with;
 use crate::served::{ServeEnd, Served};
 use crate::serving::serve;
 use crate::site::Site;
-use crate::words::{ServerWords, WordsFault};
+use crate::words::{ServerWords, ServerWordsFault};
 use server_setup::{RunFault, ServerSetup, laws, set_up};
 use std::alloc::Global;
 use std::sync::Wait;
@@ -129,13 +129,13 @@ fn journal_path(words: &ServerWords) -> Option<&str>
     words.journal.as_ref().map(|path| path.as_str())
 }
 
-impl From<WordsFault> for RunFault {
+impl From<ServerWordsFault> for RunFault {
     ghost from_gives = { λ error fault. fault ≡ fault_of_words error };
 
-    fn from(fault: WordsFault) -> RunFault {
+    fn from(fault: ServerWordsFault) -> RunFault {
         match fault {
-            WordsFault::Usage => RunFault::Usage,
-            WordsFault::OutOfMemory => RunFault::OutOfMemory,
+            ServerWordsFault::Usage => RunFault::Usage,
+            ServerWordsFault::OutOfMemory => RunFault::OutOfMemory,
         }
     }
 }

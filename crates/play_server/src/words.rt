@@ -4,7 +4,7 @@ ghost use Rattle.clap.specs.Words.{fault_of, first_of, first_value, found_of, ma
 ghost use Rattle.clap.specs.Built.{FitsChain, TakesValue};
 ghost use Rattle.play_server.specs.ServerWords.{ReadsWords, Names, config_rule, journal_rule, playd_app, workers_in, workers_rule};
 ghost use Rattle.play_server.specs.inner.ServerCommand.{IsServerCommand};
-ghost use Rattle.play_server.specs.declared.words.WordsFault.TheVariants.{OutOfMemory};
+ghost use Rattle.play_server.specs.declared.words.ServerWordsFault.TheVariants.{OutOfMemory};
 
 use clap::error::ErrorKind;
 use clap::{Arg, ArgAction, ArgMatches, Command};
@@ -28,29 +28,29 @@ pub struct ServerWords {
 
 /// Why the words name nothing.
 #[derive(Clone, Copy, Debug, PartialEq, Eq)]
-pub enum WordsFault {
+pub enum ServerWordsFault {
     /// They are no command line of `playd`.
     Usage,
     /// Memory ran out.
     OutOfMemory,
 }
 
-impl fmt::Display for WordsFault {
+impl fmt::Display for ServerWordsFault {
     fn fmt<W: fmt::Write>(&self, f: &mut fmt::Formatter<W>) -> fmt::Result {
         match self {
-            WordsFault::Usage => write!(f, "the words are no command line of playd"),
-            WordsFault::OutOfMemory => write!(f, "out of memory"),
+            ServerWordsFault::Usage => write!(f, "the words are no command line of playd"),
+            ServerWordsFault::OutOfMemory => write!(f, "out of memory"),
         }
     }
 }
 
-impl Error for WordsFault {}
+impl Error for ServerWordsFault {}
 
-impl From<AllocError> for WordsFault {
+impl From<AllocError> for ServerWordsFault {
     ghost from_gives = { λ _ fault. fault ≡ OutOfMemory };
 
-    fn from(_error: AllocError) -> WordsFault {
-        WordsFault::OutOfMemory
+    fn from(_error: AllocError) -> ServerWordsFault {
+        ServerWordsFault::OutOfMemory
     }
 }
 
@@ -59,7 +59,7 @@ impl ServerWords {
     /// and `--journal FILE` at most once each, in any order. Without `--workers` there is one worker.
     ///
     /// `Usage` comes exactly if `clap` refuses the words for another cause than memory.
-    pub fn read(alloc: Global, words: &[String]) -> Result<ServerWords, WordsFault>
+    pub fn read(alloc: Global, words: &[String]) -> Result<ServerWords, ServerWordsFault>
         ensures { ReadsWords (codes "playd" ∷ map string_bytes words.now) result }
     {
         let line = command_line(alloc, words)?;
@@ -81,11 +81,11 @@ fn command_line(alloc: Global, words: &[String]) -> Result<Vec<&str>, AllocError
 }
 
 /// Parses the words, the first of which is the program's name.
-fn parse<'a>(alloc: Global, words: &'a [&'a str]) -> Result<ArgMatches<'a>, WordsFault>
+fn parse<'a>(alloc: Global, words: &'a [&'a str]) -> Result<ArgMatches<'a>, ServerWordsFault>
     ensures accepted { IfOk result (λ m. (fault_of playd_app (map (λ w. w.now) words.entry.now) ≡ [])
         × (rows_of (found_of m) ≡ matches_of playd_app (map (λ w. w.now) words.entry.now))) }
     ensures config { IfOk result (λ m. is_some (first_value (found_of m) (codes "config")) ≡ true) }
-    ensures usage { IsErrOf result WordsFault.Usage
+    ensures usage { IsErrOf result ServerWordsFault.Usage
         → fault_of playd_app (map (λ w. w.now) words.entry.now) ≢ [] }
 {
     let command = server_command(alloc)?;
@@ -93,9 +93,9 @@ fn parse<'a>(alloc: Global, words: &'a [&'a str]) -> Result<ArgMatches<'a>, Word
         Ok(matches) => Ok(matches),
         Err(error) => {
             if error.kind() == ErrorKind::OutOfMemory {
-                Err(WordsFault::OutOfMemory)
+                Err(ServerWordsFault::OutOfMemory)
             } else {
-                Err(WordsFault::Usage)
+                Err(ServerWordsFault::Usage)
             }
         }
     }
@@ -153,10 +153,10 @@ fn journal_arg<'a>(alloc: Global) -> Arg<'a>
 }
 
 /// Returns what words that were accepted name.
-fn named(alloc: Global, matches: &ArgMatches<'_>) -> Result<ServerWords, WordsFault>
+fn named(alloc: Global, matches: &ArgMatches<'_>) -> Result<ServerWords, ServerWordsFault>
     requires { is_some (first_value (found_of matches.now) (codes "config")) ≡ true }
     ensures words { IfOk result (λ words. Names (rows_of (found_of matches.now)) words) }
-    ensures memory { IsErrOf result WordsFault.Usage → ⊥ }
+    ensures memory { IsErrOf result ServerWordsFault.Usage → ⊥ }
 {
     let config = String::from_str(alloc, config_of(matches))?;
     let journal = journal_of(alloc, matches)?;

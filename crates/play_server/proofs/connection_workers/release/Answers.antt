@@ -1,4 +1,4 @@
-use Rattle.std.proofs.Common.{◌≡◌, ◌+◌, List, [], ◌++◌, append-nil, map, reverse, sym, ap, ◌∙◌, arith}
+use Rattle.std.proofs.Common.{◌≡◌, List, [], ◌++◌, append-nil, map, reverse, sym, ap, ◌∙◌, arith}
 use Rattle.play_server.specs.declared.connection_workers.ConnectionWorker.{ConnectionWorker}
 use Rattle.play_server.proofs.Reversed.{given_more, none}
 use Rattle.play_server.proofs.connection_workers.release.Goals as goal

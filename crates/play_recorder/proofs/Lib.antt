@@ -6,3 +6,5 @@ pub mod Refusals
 pub mod Playing
 pub mod Texts
 pub mod Recorders
+pub mod LowPixels
+pub mod FilmClips

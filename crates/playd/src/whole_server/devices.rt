@@ -48,8 +48,8 @@ const CONFIGS: [(&str, &str); 4] = [
     ),
 ];
 
-/// Returns a folder with the configurations and with empty clip files of these names.
-pub fn folder_of(alloc: Global, clips: &[&str]) -> Result<MemMedia, Fail> {
+/// Returns a folder with the configurations and with empty clip files of these names. Its calls of these numbers fail.
+pub fn folder_of(alloc: Global, clips: &[&str], fails: &[u64]) -> Result<MemMedia, Fail> {
     let mut configs = Vec::new(alloc);
     for (path, text) in CONFIGS {
         configs.push(MemConfig {
@@ -65,7 +65,8 @@ pub fn folder_of(alloc: Global, clips: &[&str]) -> Result<MemMedia, Fail> {
             bytes: Vec::new(alloc),
         })?;
     }
-    Ok(MemMedia::new(configs, files, Vec::new(alloc)))
+    let fails = Vec::from_slice(alloc, fails)?;
+    Ok(MemMedia::new(configs, files, fails))
 }
 
 /// Returns copies of words.
@@ -88,15 +89,13 @@ pub fn run<R: Threads + Wait + Sync, S: Site>(
     Ok(serve_main(rt, alloc, words.as_slice(), site))
 }
 
-/// Returns a site with the planned devices and with clip files of these names. The calls of `ready` and `say` of these
-/// numbers fail.
+/// Returns a site with this folder and the planned devices. The calls of `ready` and `say` of these numbers fail.
 pub fn site_of(
     alloc: Global,
     plan: &Plan,
-    clips: &[&str],
+    media: MemMedia,
     fails: &[u64],
 ) -> Result<HeldSite, Fail> {
-    let media = folder_of(alloc, clips)?;
     let devices = devices_of(alloc, plan)?;
     let fails = Vec::from_slice(alloc, fails)?;
     Ok(MemSite::new(alloc, media, devices, 100, fails)?)

@@ -16,6 +16,9 @@ struct End {
     words: &'static [&'static str],
     /// The names of the clip files.
     clips: &'static [&'static str],
+    /// The calls of the folder that fail: the first reads the configuration, the second the names of the clip files, and each
+    /// further one the bytes of a clip.
+    folder_fails: &'static [u64],
     /// The calls of `ready` and `say` that fail.
     fails: &'static [u64],
     plan: Plan,
@@ -85,6 +88,7 @@ const NO_RUN: End = End {
     name: "",
     words: ONE,
     clips: &[],
+    folder_fails: &[],
     fails: &[],
     plan: PLAN,
     status: 4,
@@ -102,7 +106,7 @@ const WHOLE_RUN: End = End {
 };
 
 // (a constant would be built anew in the test that names it)
-static ENDS: [End; 16] = [
+static ENDS: [End; 18] = [
     End {
         name: "no words",
         words: &[],
@@ -127,6 +131,18 @@ static ENDS: [End; 16] = [
         clips: &["a.rclp", "A.RCLP"],
         status: 3,
         said: "E media twice A\n",
+        ..NO_RUN
+    },
+    End {
+        name: "the names of the clips cannot be read",
+        clips: &["a.rclp"],
+        folder_fails: &[2],
+        ..NO_RUN
+    },
+    End {
+        name: "the bytes of a clip cannot be read",
+        clips: &["a.rclp", "b.rclp"],
+        folder_fails: &[4],
         ..NO_RUN
     },
     End {
@@ -266,7 +282,8 @@ static ENDS: [End; 16] = [
 fn the_server_ends_with_its_status(rt: HostRuntime) -> Result<(), Fail> {
     let alloc = rt.alloc();
     for end in &ENDS {
-        let mut site = site_of(alloc, &end.plan, end.clips, end.fails)?;
+        let media = folder_of(alloc, end.clips, end.folder_fails)?;
+        let mut site = site_of(alloc, &end.plan, media, end.fails)?;
         let status = run(&rt, alloc, end.words, &mut site)?;
         assert_eq!(rt; status, end.status, "{}", end.name);
         check_site(&rt, end, &site)?;
@@ -319,7 +336,7 @@ fn plain_devices_serve(rt: HostRuntime) -> Result<(), Fail> {
     let mut plain = PlainSite::new(3, 2);
     let status = run(&rt, alloc, &words, &mut plain)?;
     assert_eq!(rt; status, 2);
-    let mut folder = folder_of(alloc, &[])?;
+    let mut folder = folder_of(alloc, &[], &[])?;
     let setup = set_up(&rt, alloc, "two", &mut folder)?;
     let devices = plain.ready(alloc, &setup.config, None)?;
     let mut site = MemSite::new(alloc, folder, devices, 0, Vec::new(alloc))?;
@@ -331,7 +348,7 @@ fn plain_devices_serve(rt: HostRuntime) -> Result<(), Fail> {
 #[test]
 fn devices_come_back(rt: HostRuntime) -> Result<(), Fail> {
     let alloc = rt.alloc();
-    let setup = set_up(&rt, alloc, "two", &mut folder_of(alloc, &[])?)?;
+    let setup = set_up(&rt, alloc, "two", &mut folder_of(alloc, &[], &[])?)?;
     let devices = PlainSite::new(3, 2).ready(alloc, &setup.config, None)?;
     let served = serve(&rt, alloc, &setup.config, &setup.media, 2, devices);
     assert_eq!(rt; served.end, ServeEnd::Ended);

@@ -21,7 +21,7 @@ pub fn replay<R: Threads + Sync>(
 ) -> Result<(u8, MemSink), Fail> {
     let words = words_of(alloc, &["run", "--config", config])?;
     let mut input = MemSource::new(Vec::from_slice(alloc, text)?, 4096, Vec::new(alloc));
-    let mut media = folder_of(alloc, &[])?;
+    let mut media = folder_of(alloc, &[], &[])?;
     let room = digits.saturating_mul(ROOM.0).saturating_add(ROOM.1);
     let mut out = MemSink::new(alloc, 0, room, 4096, Vec::new(alloc))?;
     let status = run_main(

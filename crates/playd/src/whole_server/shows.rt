@@ -1,6 +1,6 @@
 //! Runs in which clients are served beside the ticker.
 
-use super::devices::{HeldDevices, HeldSite, run, site_of};
+use super::devices::{HeldDevices, HeldSite, folder_of, run, site_of};
 use super::plan::Moment::{Answered, Released, Written};
 use super::plan::{Calls, Client, Plan};
 use super::replay::{frames_in, replay, replies_in, without_tokens};
@@ -267,7 +267,8 @@ const BATCH: Show = Show {
 fn clients_are_served_beside_the_ticker(rt: HostRuntime) -> Result<(), Fail> {
     let alloc = rt.alloc();
     for show in &SHOWS {
-        let mut site = site_of(alloc, &show.plan, &[], &[])?;
+        let media = folder_of(alloc, &[], &[])?;
+        let mut site = site_of(alloc, &show.plan, media, &[])?;
         let status = run(&rt, alloc, &["--config", show.config], &mut site)?;
         assert_eq!(&rt; status, 0, "{}", show.name);
         check_site(&rt, alloc, show, &site)?;

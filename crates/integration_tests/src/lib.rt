@@ -17,6 +17,8 @@ mod journals;
 #[cfg(test)]
 mod layers;
 #[cfg(test)]
+mod messages;
+#[cfg(test)]
 mod mixers;
 #[cfg(test)]
 mod outside;

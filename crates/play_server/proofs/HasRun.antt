@@ -39,7 +39,7 @@ use Rattle.play_ticker.proofs.Frames.{GoesOn, goes_on_by_ticks, ticks-quiet}
 use Rattle.play_server.specs.Site.{DeviceStates}
 use Rattle.play_server.specs.Doors.{DoorRun, EachDoor, HasServed, is_door_fault}
 use Rattle.play_server.specs.Links.{EachFrom}
-use Rattle.play_server.specs.Run.{EndsWithStop, HasRun, IsMadeBy, IsStoppedBy, Program, Serves, ends_so, is_cut, is_found, is_tick_fault, setting_of, setup_of}
+use Rattle.play_server.specs.Run.{EndsWithStop, HasRun, IsMadeBy, IsProgram, IsStoppedBy, Program, Serves, ends_so, is_cut, is_found, is_tick_fault, setting_of, setup_of}
 use Rattle.play_server.specs.inner.Threads.{Moment, RanBeside, ticker_pass, ticker_states, worker_passes}
 use Rattle.play_server.specs.inner.Workers.{HasWorkedAt, door_states}
 use Rattle.play_server.specs.declared.connection_workers.ConnectionWorker.{ConnectionWorker}
@@ -86,6 +86,7 @@ pub record Closed {C D O L : Type 0} (states : DeviceStates C D O L) (tells : L 
   pub passes : after ≡ first ∷ others
   pub ended : List WorkEnd
   pub journal : JournalView
+  pub on : IsProgram program
   pub config : server.config.now ≡ program.config
   pub names : server.media.now ≡ media_names program.media
   pub channels : server.stage.now.sizes.channels ≡ length program.config.channels
@@ -245,6 +246,7 @@ module _ {C D O L : Type 0} (states : DeviceStates C D O L) (tells : L → SinkS
     met = c.met;
     runs = served.runs;
     written = written;
+    on = c.on;
     whole = c.is_journal.history;
     within = subst (λ (n : ℕ). held history ≤ n) c.limit c.is_journal.commands;
     stopped = stopped;
@@ -298,6 +300,7 @@ pub record HoldsDevices {C D O : Type 0} (moment : Moment C D O) (devices : Devi
 
 -- what a run is played on is what its threads share
 pub record IsPlayedOn (program : Program) (server : Server) (setup : Setup) : Type 0 where
+  pub on : IsProgram program
   pub config : server.config.now ≡ program.config
   pub names : server.media.now ≡ media_names program.media
   pub channels : server.stage.now.sizes.channels ≡ length program.config.channels
@@ -336,6 +339,7 @@ module _ {C D O L : Type 0} (states : DeviceStates C D O L) (tells : L → SinkS
         passes = ending.passes;
         ended = ends_of (reverse new.workers);
         journal = ending.journal;
+        on = on.on;
         config = on.config;
         names = on.names;
         channels = on.channels;

@@ -6,7 +6,7 @@ use Rattle.play_outside.specs.declared.sink.Sent.{Sent}
 use Rattle.play_outside.specs.declared.sink.Sent.TheVariants as sent
 use Rattle.clip_format.specs.Table.{media_names}
 use Rattle.history_model.specs.text.History.{history_text}
-use Rattle.history_replay.specs.Replay.{IsPlayout, IsReplayable, NamesShortClips}
+use Rattle.history_replay.specs.Replay.{IsReplayable, NamesShortClips}
 use Rattle.play_server.specs.Program.{AtSite, program_of}
 use Rattle.play_server.specs.Replay.{playout_of}
 use Rattle.play_server.specs.Run.{is_cut}
@@ -33,9 +33,8 @@ module _ {C D O L : Type 0} (device : DeviceStates C D O L) (tells : L → SinkS
       (history_text (media_names run.setup.media) serves.history) text run.served.ready.new.history (whole serves.written uncut.2) serves.text told
 
   -- it is a history that its text plays again
-  pub program_replayable : (digests : Bool) → IsPlayout (playout_of (program_of run.setup) digests)
-      → All (NamesShortClips (media_names run.setup.media)) run.served.serves.history
+  pub program_replayable : (digests : Bool) → All (NamesShortClips (media_names run.setup.media)) run.served.serves.history
       → IsReplayable (playout_of (program_of run.setup) digests) run.served.serves.history
-  program_replayable digests known named =
+  program_replayable digests named =
       let doors : length run.served.given.doors.items ≡ run.setup.config.connections = sym run.served.given.doors.ok.0 ∙ run.served.ready.doors in
-      run_replayable device tells (program_of run.setup) serve.Ended (run.served.given, run.served.finished) digests run.served.serves doors known named
+      run_replayable device tells (program_of run.setup) serve.Ended (run.served.given, run.served.finished) digests run.served.serves doors named

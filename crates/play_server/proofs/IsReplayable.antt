@@ -140,9 +140,9 @@ module _ {L : Type 0} (program : Program) (tells : L → SinkState) (digests : B
 module _ {C D O L : Type 0} (words : DeviceStates C D O L) (tells : L → SinkState) (program : Program) (end : ServeEnd) (devices : Devices C D O × Devices C D O)
     (digests : Bool) where
   pub run_replayable : (run : HasRun words tells program end devices) → length devices.0.doors.items ≡ program.config.connections
-      → IsPlayout (playout_of program digests) → All (NamesShortClips (media_names program.media)) run.history
-      → IsReplayable (playout_of program digests) run.history
-  run_replayable run many known named =
+      → All (NamesShortClips (media_names program.media)) run.history → IsReplayable (playout_of program digests) run.history
+  run_replayable run many named =
+      let known : IsPlayout (playout_of program digests) = record { config = run.on.config; names = run.on.names; texts = run.on.texts } in
       let limit = known.config.parts.connections in
       let few : 1 + length devices.0.doors.items ≤ MAX_WORKER + 1 = omega (arith, many, limit) in
       record {

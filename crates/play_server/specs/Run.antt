@@ -1,8 +1,9 @@
 -- A run: one history, of which all replies, frames and the text that is written are.
 use Rattle.std.specs.Prelude.{◌≡◌, ◌⊎◌, ℕ, ◌≤◌, ◌||◌, Bool, true, false, Some, List, [], ◌∷◌, ◌++◌, All, length, map}
 use Rattle.std.specs.List.{list_any}
-use Rattle.play_types.specs.Config.{ConfigView}
+use Rattle.play_types.specs.Config.{ConfigView, IsConfig}
 use Rattle.play_types.specs.History.{IsHistory, held, stop_at, ticks}
+use Rattle.play_types.specs.Media.{IsMediaName}
 use Rattle.play_types.specs.declared.event.Event.{Event}
 use Rattle.play_types.specs.declared.event.Event.TheVariants.{Do, Batch, Tick, Stop}
 use Rattle.play_types.specs.declared.event.Tag.{Tag}
@@ -17,6 +18,7 @@ use Rattle.history_model.specs.pictures.Media.{Setup}
 use Rattle.play_scene.specs.Picture.{clips_of}
 use Rattle.history_model.specs.scripts.History.{channel_size, server}
 use Rattle.history_model.specs.text.History.{history_text}
+use Rattle.history_replay.specs.Replay.{IsTextName}
 use Rattle.conn_worker.specs.Work.{Setting}
 use Rattle.play_ticker.specs.Ends.{Meets, clock_at_end}
 use Rattle.play_ticker.specs.Outputs.{AreWritten}
@@ -31,6 +33,12 @@ use Rattle.play_server.specs.declared.served.ServeEnd.TheVariants as serve
 pub record Program : Type 0 where
   pub config : ConfigView
   pub media : List Entry
+
+-- a run can be played on it: the configuration is in its ranges, and so is each name of a clip, which is a text
+pub record IsProgram (program : Program) : Type 0 where
+  pub config : IsConfig program.config
+  pub names : All IsMediaName (media_names program.media)
+  pub texts : All IsTextName (media_names program.media)
 
 -- the formats of the channels, and the clips
 abbrev pub setup_of : Program → Setup
@@ -107,6 +115,8 @@ module _ {C D O L : Type 0} where
     pub met : TickEnd
     pub runs : List (DoorRun L)
     pub written : Sent
+    -- a run can be played on the configuration and the clips that it had
+    pub on : IsProgram program
     -- no batch of the history is empty, and it has one stop, as its last event; the journal may hold its commands
     pub whole : IsHistory history
     pub within : held history ≤ program.config.journal_limit

@@ -14,7 +14,7 @@ ghost use Rattle.history_model.specs.scripts.History.{PlayedLine, script_events}
 ghost use Rattle.history_model.specs.scripts.Memory.{HasMemory, lines_played};
 ghost use Rattle.history_model.specs.scripts.Output.{script_output};
 ghost use Rattle.history_model.specs.text.History.{history_text};
-ghost use Rattle.history_replay.specs.Replay.{IsPlayout, IsReplayable, NamesShortClips, script_of};
+ghost use Rattle.history_replay.specs.Replay.{IsReplayable, NamesShortClips, script_of};
 ghost use Rattle.history_replay.specs.ReplayOutput.{history_output};
 ghost use Rattle.conn_worker.specs.Explained.{covered};
 ghost use Rattle.conn_worker.specs.Followed.{Followed, events_of};
@@ -41,23 +41,21 @@ use play_outside::{Clock, Listener, Sink};
 pub fn runs_are_played_again<C: Clock, D: Listener, O: Sink>()
     ensures replayable { (program : Program) (end : ServeEnd) (devices : Devices C D O × Devices C D O) (digests : Bool)
         (run : HasRun (device_states C.state D.state O.state) D.Line.state program end devices) →
-        length devices.0.doors.items ≡ program.config.connections → IsPlayout (playout_of program digests) →
-        All (NamesShortClips (media_names program.media)) run.history → IsReplayable (playout_of program digests) run.history }
+        length devices.0.doors.items ≡ program.config.connections → All (NamesShortClips (media_names program.media)) run.history →
+        IsReplayable (playout_of program digests) run.history }
     ensures text { (program : Program) (end : ServeEnd) (devices : Devices C D O × Devices C D O)
         (run : HasRun (device_states C.state D.state O.state) D.Line.state program end devices) →
         IsNewSink (O.state devices.0.history) → run.written ≡ sent.All →
         (text : List ℕ) → (O.state devices.1.history).taken ≡ Some text → text ≡ history_text (media_names program.media) run.history }
     ensures again { (program : Program) (end : ServeEnd) (devices : Devices C D O × Devices C D O) (digests : Bool)
         (run : HasRun (device_states C.state D.state O.state) D.Line.state program end devices) →
-        length devices.0.doors.items ≡ program.config.connections → IsPlayout (playout_of program digests) →
-        All (NamesShortClips (media_names program.media)) run.history →
+        length devices.0.doors.items ≡ program.config.connections → All (NamesShortClips (media_names program.media)) run.history →
         (played : List PlayedLine) → lines_played played ≡ script_of (history_text (media_names program.media) run.history) →
         HasMemory (playout_of program digests) played →
         script_events (playout_of program digests) played ≡ run.history }
     ensures output { (program : Program) (end : ServeEnd) (devices : Devices C D O × Devices C D O) (digests : Bool)
         (run : HasRun (device_states C.state D.state O.state) D.Line.state program end devices) →
-        length devices.0.doors.items ≡ program.config.connections → IsPlayout (playout_of program digests) →
-        All (NamesShortClips (media_names program.media)) run.history →
+        length devices.0.doors.items ≡ program.config.connections → All (NamesShortClips (media_names program.media)) run.history →
         (played : List PlayedLine) → lines_played played ≡ script_of (history_text (media_names program.media) run.history) →
         HasMemory (playout_of program digests) played →
         script_output (playout_of program digests) played ≡ history_output (playout_of program digests) run.history }
@@ -102,14 +100,12 @@ pub fn programs_are_played_again<C: Clock, D: Listener, O: Sink>()
         text ≡ history_text (media_names run.setup.media) run.served.serves.history }
     ensures again { (line : List (List ℕ)) (moments : AtSite C D O × AtSite C D O) (digests : Bool)
         (run : HasServedClients (device_states C.state D.state O.state) D.Line.state line serve.Ended moments) →
-        IsPlayout (playout_of (program_of run.setup) digests) →
         All (NamesShortClips (media_names run.setup.media)) run.served.serves.history →
         (played : List PlayedLine) → lines_played played ≡ script_of (history_text (media_names run.setup.media) run.served.serves.history) →
         HasMemory (playout_of (program_of run.setup) digests) played →
         script_events (playout_of (program_of run.setup) digests) played ≡ run.served.serves.history }
     ensures output { (line : List (List ℕ)) (moments : AtSite C D O × AtSite C D O) (digests : Bool)
         (run : HasServedClients (device_states C.state D.state O.state) D.Line.state line serve.Ended moments) →
-        IsPlayout (playout_of (program_of run.setup) digests) →
         All (NamesShortClips (media_names run.setup.media)) run.served.serves.history →
         (played : List PlayedLine) → lines_played played ≡ script_of (history_text (media_names run.setup.media) run.served.serves.history) →
         HasMemory (playout_of (program_of run.setup) digests) played →
@@ -125,7 +121,6 @@ pub fn programs_are_played_again<C: Clock, D: Listener, O: Sink>()
 pub fn recordings_are_made_again<C: Clock, D: Listener, O: Sink>()
     ensures film { (line : List (List ℕ)) (moments : AtSite C D O × AtSite C D O) (digests : Bool)
         (run : HasServedClients (device_states C.state D.state O.state) D.Line.state line serve.Ended moments) →
-        IsPlayout (playout_of (program_of run.setup) digests) →
         All (NamesShortClips (media_names run.setup.media)) run.served.serves.history →
         (text : List ℕ) → (O.state run.served.finished.history).taken ≡ Some text →
         (played : List PlayedLine) → lines_played played ≡ script_of text →

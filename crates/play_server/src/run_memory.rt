@@ -1,5 +1,7 @@
 //! The memory of a run, which is taken before the first call on a device.
-ghost use Rattle.std.specs.Prelude.{◌≡◌, ◌≤◌, IfOk, vec_len};
+ghost use Rattle.std.specs.Prelude.{◌≡◌, ◌≤◌, All, IfOk, vec_len};
+ghost use Rattle.play_types.specs.Media.{IsMediaName};
+ghost use Rattle.history_replay.specs.Replay.{IsTextName};
 ghost use Rattle.stage_lock.specs.Calls.{new_passes};
 ghost use Rattle.play_server.specs.inner.Threads.{IsRunMemory, sizes_for};
 
@@ -43,6 +45,7 @@ impl<D: Listener> RunMemory<D> {
         ensures { IfOk result (IsRunMemory config.now media.now) }
     {
         let names = media.names(alloc)?;
+        read_names(&names);
         let renderer = Renderer::new(alloc, config, render_workers)?;
         let pipe = ScenePipe::new(alloc, config)?;
         let sessions = sessions(alloc, config.connections())?;
@@ -57,6 +60,16 @@ impl<D: Listener> RunMemory<D> {
             sessions,
             connection_workers,
         })
+    }
+}
+
+/// Reads each name, which tells that it is a text. The numbers of all names are in their ranges.
+fn read_names(names: &MediaNames)
+    ensures ranges { All IsMediaName names.now }
+    ensures texts { All IsTextName names.now }
+{
+    for at in 0..names.len() {
+        let _ = names.get(at).unwrap().name().as_str();
     }
 }
 

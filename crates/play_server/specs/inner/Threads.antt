@@ -15,6 +15,7 @@ use Rattle.play_ticker.specs.Ends.{HasEnded}
 use Rattle.play_ticker.specs.Frames.{AreBlank, tick_positions}
 use Rattle.play_ticker.specs.Outputs.{AreWritten}
 use Rattle.play_ticker.specs.declared.ending.TickEnd.{TickEnd}
+use Rattle.play_server.specs.Run.{IsProgram}
 use Rattle.play_server.specs.inner.Workers.{DoorStates, HasWorkedAt}
 use Rattle.play_server.specs.declared.connection_workers.ConnectionWorker.{ConnectionWorker}
 use Rattle.play_server.specs.declared.run_memory.RunMemory.{RunMemory}
@@ -25,8 +26,9 @@ abbrev pub sizes_for : ConfigView → Sizes
 sizes_for config =
     record { limit = config.journal_limit; channels = length config.channels; passes = config.connections + 1 }
 
--- the memory of a run on this configuration and these clips
+-- the memory of a run on this configuration and these clips, and what is known of both
 pub record IsRunMemory {D : Type 0} (config : ConfigView) (media : List Entry) (memory : RunMemory D) : Type 0 where
+  pub on : IsProgram (record { config = config; media = media })
   pub names : memory.names ≡ media_names media
   pub renderer : memory.renderer ≡ map zero_frame config.channels
   pub pipe : memory.pipe ≡ length config.channels

@@ -11,10 +11,10 @@ use Rattle.play_server.proofs.OnAir.{film_on_air, run_taken}
 use Rattle.play_server.proofs.laws.recordings_are_made_again.Goals as goal
 
 pub returns-clause-film : goal.returns-clause-film
-returns-clause-film g c = λ line moments digests run known named text told played same without name.
+returns-clause-film g c = λ line moments digests run named text told played same without name.
     ap (λ (events : List Event). film (setup_of (program_of run.setup)) events name)
     (replay_events (playout_of (program_of run.setup) digests) run.served.serves.history played
-    (program_replayable (record { clock = g.C.Clock.state; door = g.D.Listener.state; out = g.O.Sink.state }) g.D.Line.Sink.state line moments run digests known named)
+    (program_replayable (record { clock = g.C.Clock.state; door = g.D.Listener.state; out = g.O.Sink.state }) g.D.Line.Sink.state line moments run digests named)
     (same ∙ ap script_of (text_taken (record { clock = g.C.Clock.state; door = g.D.Listener.state; out = g.O.Sink.state }) g.D.Line.Sink.state line moments run text told))
     without)
 

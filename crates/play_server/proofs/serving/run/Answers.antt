@@ -210,6 +210,7 @@ returns g c =
     c.run_threads-tick_end.ensures
     c.write_history-written.result c.end_of.result
     (record {
+      on = c.requires.memory.on;
       config = refl;
       names = c.requires.memory.names;
       channels = ap (λ (s : Sizes). s.channels) c.requires.memory.sizes;

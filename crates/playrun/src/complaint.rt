@@ -36,6 +36,15 @@ pub fn say_no_end<E: Eprint>(errors: &E) {
     let _ = errors.eprintln(format_args!("{PROGRAM}: the cue sheet has no line END"));
 }
 
+/// Says how far the writing of a film is, over what was said of it before: how many ticks were made again, of `all` up to the last
+/// recorded one, and how many frames were written. The line ends with the last of these ticks.
+pub fn say_film<E: Eprint>(errors: &E, ticks: u64, all: u64, frames: u32) {
+    let end = if ticks == all { "\n" } else { "" };
+    let _ = errors.eprint(format_args!(
+        "\r{PROGRAM}: {ticks} of {all} ticks made again, {frames} frames written{end}"
+    ));
+}
+
 /// Returns what is wrong with a line of a cue sheet, in words.
 fn why_faulty(fault: LineFault) -> &'static str {
     match fault {
@@ -68,10 +77,13 @@ const USAGE: &str = "playrun: these words name no run. The words are one of
   convert
   plan --config FILE [--workers N] [--digest]
   osc --config FILE
-with W and H from 1 to 4096, N from 1 to 64, SEED below 2 to the 64th and STEPS from 1 to 100000, as in
+  record --config FILE NAME [--workers N]
+with W and H from 1 to 4096, N from 1 to 64, SEED below 2 to the 64th, STEPS from 1 to 100000, and NAME of 1 to 32
+letters, digits, _ and -, as in
   playrun run 1280 720 < show.script
   playrun run --config studio.toml --digest < show.script
   playrun gen 7 2000
   playrun convert < logo.rclp > straight.rclp
   playrun plan --config studio.toml --digest < evening.cues
-  playrun osc --config studio.toml < show.script";
+  playrun osc --config studio.toml < show.script
+  playrun record --config studio.toml EVENING < evening.script > evening.rclp";

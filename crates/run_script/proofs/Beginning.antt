@@ -34,6 +34,7 @@ nothing_last player (display.Frames renderer) shown =
     subst (λ last. frames.Represents (setup_in player) [] player.setup.media last) (sym shown)
     (represents-first (setup_in player) player.setup.config.channels player.setup.media refl (sym (zero_sizes player.setup.config.channels)))
 nothing_last player display.Status shown = shown
+nothing_last player display.Replies shown = shown
 
 -- a stage without events, scenes without layers, zero frames and no connections are ready
 pub nothing_shown : (player : Player)

@@ -12,14 +12,15 @@ use Rattle.server_setup.specs.declared.fault.RunFault.{RunFault}
 use Rattle.server_setup.specs.declared.fault.RunFault.TheVariants.{Usage, ConfigText, ConfigKey, InputTooLong, MediaTwice, MediaTotal, Device, OutOfMemory}
 use Rattle.server_setup.specs.declared.fault.RunFault.TheVariants as faults
 use Rattle.run_script.specs.Ending.{status_of}
-use Rattle.run_script.specs.CommandLine.{CommandLine, Plain, Configured, Generated, Converted, Planned, command_line_of}
-use Rattle.run_script.specs.Program.{Outside, streams_of, SaysUsage, RunsCommandLine, PlaysToEnd, DeviceFails, MeetsFault, MeetsFirstFault, SucceedsIfValid, PlaysScript, plain_playout, playout_of}
+use Rattle.run_script.specs.CommandLine.{CommandLine, Plain, Configured, Generated, Converted, Planned, Recorded, command_line_of}
+use Rattle.run_script.specs.Program.{Outside, film_of, streams_of, SaysUsage, RunsCommandLine, PlaysToEnd, DeviceFails, MeetsFault, MeetsFirstFault, SucceedsIfValid, PlaysScript, plain_playout, playout_of}
 use Rattle.server_setup.specs.Setup.{SetsUp, TellsFirst, fault_of_files}
 use Rattle.server_setup.specs.Fault as setup
 use Rattle.run_script.specs.Shown.{Frames}
 use Rattle.run_script.proofs.Complete.{completes_run, device_of_run, is_played}
 use Rattle.run_script.proofs.Conversions.{clip_known, converted_complete, converted_device, converted_finished, converted_status}
 use Rattle.run_script.proofs.Plans.{plan_complete, plan_device, plan_finished, plan_status}
+use Rattle.run_script.proofs.Recordings.{record_complete, record_device, record_finished, record_status}
 use Rattle.run_script.proofs.Summaries.{summary_complete, summary_device, summary_finished, summary_status}
 use Rattle.server_setup.proofs.FirstFault.{told_first}
 use Rattle.server_setup.proofs.Setups.{files_kept, kept_but_device}
@@ -44,6 +45,7 @@ of_fault path (ConfigKey name) before after sets = (omega arith, λ e. omega (ar
 of_fault path (faults.BadLine number) before after sets = absurd sets
 of_fault path (faults.Plan number) before after sets = absurd sets
 of_fault path faults.PlanEnd before after sets = absurd sets
+of_fault path (faults.Record name) before after sets = absurd sets
 of_fault path InputTooLong before after sets = absurd sets
 of_fault path (faults.Clip fault) before after sets = absurd sets
 of_fault path (MediaTwice name) before after sets = (omega arith, λ e. omega (arith, e))
@@ -74,6 +76,7 @@ not_well Usage e = omega (arith, e)
 not_well (faults.BadLine number) e = omega (arith, e)
 not_well (faults.Plan number) e = omega (arith, e)
 not_well faults.PlanEnd e = omega (arith, e)
+not_well (faults.Record name) e = omega (arith, e)
 not_well InputTooLong e = omega (arith, e)
 
 -- only a device has its status
@@ -89,6 +92,7 @@ is_device Usage e = absurd (let no : 1 ≡ 4 = e in omega (arith, no))
 is_device (faults.BadLine number) e = absurd (let no : 2 ≡ 4 = e in omega (arith, no))
 is_device (faults.Plan number) e = absurd (let no : 2 ≡ 4 = e in omega (arith, no))
 is_device faults.PlanEnd e = absurd (let no : 2 ≡ 4 = e in omega (arith, no))
+is_device (faults.Record name) e = absurd (let no : 2 ≡ 4 = e in omega (arith, no))
 is_device InputTooLong e = absurd (let no : 2 ≡ 4 = e in omega (arith, no))
 
 module _ (before after : Outside) where
@@ -111,6 +115,14 @@ module _ (before after : Outside) where
         | inl refused ↦ subst IsRunStatus (sym refused.outcome) (of_fault path refused.fault before.media after.media refused.refused)
         | inr planned ↦ (
             let known = plan_status (playout_of planned.setup digests) status (streams_of before) (streams_of after) planned.run in
+            (known.0, known.1)
+            )
+      ]
+  run_status (Recorded path name) status runs =
+      elim runs [
+        | inl refused ↦ subst IsRunStatus (sym refused.outcome) (of_fault path refused.fault before.media after.media refused.refused)
+        | inr recorded ↦ (
+            let known = record_status (film_of recorded.setup name) status (streams_of before) (streams_of after) recorded.run in
             (known.0, known.1)
             )
       ]
@@ -137,6 +149,15 @@ module _ (before after : Outside) where
           plan_finished (playout_of planned.setup digests) status (streams_of before) (streams_of after) planned.run good,
         )
       ]
+  run_finished (Recorded path name) status runs good =
+      elim runs [
+        | inl refused ↦ absurd (not_well refused.fault (sym refused.outcome ∙ good))
+        | inr recorded ↦ (
+          recorded.setup,
+          recorded.set_up,
+          record_finished (film_of recorded.setup name) status (streams_of before) (streams_of after) recorded.run good,
+        )
+      ]
 
   -- a refusal by a device raises the count of faults of the folder
   refusal_rose : (path : List ℕ) (fault : RunFault) → SetsUp path (Err fault) before.media after.media → fault ≡ Device → Rose before.media.faults after.media.faults
@@ -156,6 +177,11 @@ module _ (before after : Outside) where
         | inl refused ↦ inl (refusal_rose path refused.fault refused.refused (is_device refused.fault (sym refused.outcome ∙ bad)))
         | inr planned ↦ inr (plan_device (playout_of planned.setup digests) status (streams_of before) (streams_of after) planned.run bad)
       ]
+  run_device (Recorded path name) status runs bad =
+      elim runs [
+        | inl refused ↦ inl (refusal_rose path refused.fault refused.refused (is_device refused.fault (sym refused.outcome ∙ bad)))
+        | inr recorded ↦ inr (record_device (film_of recorded.setup name) status (streams_of before) (streams_of after) recorded.run bad)
+      ]
 
   pub run_files : (line : CommandLine) (status : ℕ) → RunsCommandLine line status before after → after.media.files ≡ before.media.files
   run_files (Plain size) status runs = ap (λ (s : FolderState). s.files) runs.0
@@ -170,6 +196,11 @@ module _ (before after : Outside) where
       elim runs [
         | inl refused ↦ files_kept path (Err refused.fault) before.media after.media refused.refused
         | inr planned ↦ files_kept path (Ok planned.setup) before.media after.media planned.set_up
+      ]
+  run_files (Recorded path name) status runs =
+      elim runs [
+        | inl refused ↦ files_kept path (Err refused.fault) before.media after.media refused.refused
+        | inr recorded ↦ files_kept path (Ok recorded.setup) before.media after.media recorded.set_up
       ]
 
   abbrev status_in : Result ServerSetup RunFault → ℕ
@@ -193,6 +224,11 @@ module _ (before after : Outside) where
         | inl refused ↦ kept_but_device path (Err refused.fault) before.media after.media refused.refused (λ e. well (refused.outcome ∙ ap status_in e))
         | inr planned ↦ kept_but_device path (Ok planned.setup) before.media after.media planned.set_up ok_no_device
       ]
+  run_media (Recorded path name) status runs well =
+      elim runs [
+        | inl refused ↦ kept_but_device path (Err refused.fault) before.media after.media refused.refused (λ e. well (refused.outcome ∙ ap status_in e))
+        | inr recorded ↦ kept_but_device path (Ok recorded.setup) before.media after.media recorded.set_up ok_no_device
+      ]
 
   -- what has no fault is refused out of memory alone, if no read fails
   not_refused : (path : List ℕ) (first : Option RunFault) → first ≡ None → (fault : RunFault) → SetsUp path (Err fault) before.media after.media
@@ -208,6 +244,7 @@ module _ (before after : Outside) where
   not_refused path first none (faults.BadLine number) sets tells well = absurd tells
   not_refused path first none (faults.Plan number) sets tells well = absurd tells
   not_refused path first none faults.PlanEnd sets tells well = absurd tells
+  not_refused path first none (faults.Record name) sets tells well = absurd tells
   not_refused path first none InputTooLong sets tells well = absurd tells
 
   -- a refusal meets the first fault
@@ -226,6 +263,7 @@ module _ (before after : Outside) where
   refusal_meets path first (faults.BadLine number) status is sets tells unread = absurd tells
   refusal_meets path first (faults.Plan number) status is sets tells unread = absurd tells
   refusal_meets path first faults.PlanEnd status is sets tells unread = absurd tells
+  refusal_meets path first (faults.Record name) status is sets tells unread = absurd tells
   refusal_meets path first InputTooLong status is sets tells unread = absurd tells
 
   pub run_refused : (line : CommandLine) (status : ℕ) → RunsCommandLine line status before after → MeetsFirstFault line status before after
@@ -256,6 +294,18 @@ module _ (before after : Outside) where
                 (sym (told_first path (Ok planned.setup) before.media after.media files is planned.set_up))
                 (plan_status (playout_of planned.setup digests) status (streams_of before) (streams_of after) planned.run).2
           ]
+  run_refused (Recorded path name) status runs = by_files before.media.files refl
+    where
+      by_files : (found : Option Files) → before.media.files ≡ found → IfSome found (λ files. MeetsFault (fault_of_files path files) status before after)
+      by_files None is = tt
+      by_files (Some files) is =
+          elim runs [
+            | inl refused ↦ refusal_meets path (fault_of_files path files) refused.fault status refused.outcome refused.refused
+                (told_first path (Err refused.fault) before.media after.media files is refused.refused) refused.unread
+            | inr recorded ↦ subst (λ (o : Option RunFault). MeetsFault o status before after)
+                (sym (told_first path (Ok recorded.setup) before.media after.media files is recorded.set_up))
+                (record_status (film_of recorded.setup name) status (streams_of before) (streams_of after) recorded.run).2
+          ]
 
   pub run_complete : (line : CommandLine) (status : ℕ) → RunsCommandLine line status before after → SucceedsIfValid line status before after
   run_complete (Plain size) status runs = λ can valid well.
@@ -276,6 +326,16 @@ module _ (before after : Outside) where
             let sheet = valid.3 planned.setup planned.set_up in
             plan_complete (playout_of planned.setup digests) status (streams_of before) (streams_of after) planned.run valid.0 sheet.0 valid.1 valid.2 sheet.1
             (λ e. well (inl e)) (λ e. well (inr e))
+            )
+      ]
+  run_complete (Recorded path name) status runs = λ can valid well.
+      elim runs [
+        | inl refused ↦ inr (refused.outcome ∙ not_refused path (fault_of_files path can.0) can.2 refused.fault refused.refused
+            (told_first path (Err refused.fault) before.media after.media can.0 can.1 refused.refused) can.3)
+        | inr recorded ↦ (
+            let input = valid.0 in
+            record_complete (film_of recorded.setup name) status (streams_of before) (streams_of after) recorded.run input.0 input.1 input.2 input.3
+            (valid.1 recorded.setup recorded.set_up) (λ e. well (inl e)) (λ e. well (inr e))
             )
       ]
 

@@ -24,14 +24,14 @@ use Rattle.history_model.proofs.Parts.{ended_lines-more}
 use Rattle.run_script.specs.declared.ending.Ending.{Ending}
 use Rattle.run_script.specs.declared.ending.Ending.TheVariants.{Finished, Stopped, BadLine, TooLong, ReadFault, WriteFault, Memory}
 use Rattle.run_script.specs.Ending.{status_of, fault_line}
-use Rattle.run_script.specs.Script.{Run, Reading, meanings, played_meanings, IsAtLast, RejectsAt}
+use Rattle.run_script.specs.Script.{Reading, meanings, played_meanings, IsAtLast}
 use Rattle.run_script.specs.Run.{Streams, IsPrefix, RunsScript}
 use Rattle.run_script.specs.Program.{WritesFaultLine, EndsRun, IsValid, IsPlayed, PlaysInput, is_accepted}
 use Rattle.run_script.proofs.Growth.{reading_of}
 use Rattle.run_script.proofs.Stops.{received_prefix, stop_ended, unplayed, said-later, rejected_line}
 
 -- what was read is a prefix of what the input had, and the rest of it is left
-given_prefix : (read : List ℕ) (left : Option (List ℕ)) (input : List ℕ) → Gives read (Some input) left → (rest : List ℕ) × (input ≡ read ++ rest) × (left ≡ Some rest)
+pub given_prefix : (read : List ℕ) (left : Option (List ℕ)) (input : List ℕ) → Gives read (Some input) left → (rest : List ℕ) × (input ≡ read ++ rest) × (left ≡ Some rest)
 given_prefix read None input gives = absurd (none-some input (sym gives))
 given_prefix read (Some rest) input gives = (rest, same_Some input (read ++ rest) gives, refl)
 
@@ -41,7 +41,7 @@ part_rest whole bytes part =
     sym (take-append-drop MAX_INPUT_BYTES whole.bytes) ∙ ap (λ (l : List ℕ). l ++ drop MAX_INPUT_BYTES whole.bytes) part.parts ∙ append_assoc bytes part.rest (drop MAX_INPUT_BYTES whole.bytes)
 
 -- a part of what was read is a prefix of the input, and all of it if the input ended
-part_of : (whole part : Reading) (rest input : List ℕ) → input ≡ whole.bytes ++ rest → (whole.ended ≡ true → rest ≡ []) → IsPrefix whole part
+pub part_of : (whole part : Reading) (rest input : List ℕ) → input ≡ whole.bytes ++ rest → (whole.ended ≡ true → rest ≡ []) → IsPrefix whole part
     → (more : List ℕ) × (input ≡ part.bytes ++ more) × (part.ended ≡ true → more ≡ [])
 part_of whole part rest input parts at_end prefix = by_end part.ended refl
   where
@@ -58,7 +58,7 @@ part_of whole part rest input parts at_end prefix = by_end part.ended refl
     )
 
 -- what was said up to the last line that was played stands first in what the input says
-found_at : (playout : Playout) (part : Reading) (more input : List ℕ) → input ≡ part.bytes ++ more → (part.ended ≡ true → more ≡ [])
+pub found_at : (playout : Playout) (part : Reading) (more input : List ℕ) → input ≡ part.bytes ++ more → (part.ended ≡ true → more ≡ [])
     → (at : IsAtLast playout part) → (rest : List ScriptLine) × (meanings (lines input) ≡ played_meanings (at.before ++ at.last ∷ []) ++ rest)
 found_at playout part more input parts whole at = by_end part.ended refl
   where
@@ -76,16 +76,16 @@ found_at playout part more input parts whole at = by_end part.ended refl
         (all.0, ap (λ (l : List ℕ). meanings (lines l)) parts ∙ all.1 ∙ ap (λ (ms : List ScriptLine). ms ++ all.0) (sym (said false is)))
 
 -- a rejected line is not before the first stop of a valid input
-rejected_early : (run : Run) (part : Reading) (number : ℕ) (more input : List ℕ) (state : SinkState) → input ≡ part.bytes ++ more → (part.ended ≡ true → more ≡ [])
-    → RejectsAt run part number state → list_all is_accepted (until_stop (meanings (lines input))) ≡ true → ⊥
-rejected_early run part number more input state parts whole rejects accepted =
-    let found = found_at run.playout part more input parts whole rejects.at in
-    let all : meanings (lines input) ≡ played_meanings rejects.at.before ++ Rejected ∷ found.0 =
+pub rejected_early : (playout : Playout) (part : Reading) (more input : List ℕ) → input ≡ part.bytes ++ more → (part.ended ≡ true → more ≡ [])
+    → (at : IsAtLast playout part) → at.last.line ≡ Rejected → list_all is_accepted (until_stop (meanings (lines input))) ≡ true → ⊥
+rejected_early playout part more input parts whole at rejected accepted =
+    let found = found_at playout part more input parts whole at in
+    let all : meanings (lines input) ≡ played_meanings at.before ++ Rejected ∷ found.0 =
     found.1
-    ∙ ap (λ (ms : List ScriptLine). ms ++ found.0) (map-append (λ (one : PlayedLine). one.line) rejects.at.before (rejects.at.last ∷ []))
-    ∙ append_assoc (played_meanings rejects.at.before) (rejects.at.last.line ∷ []) found.0
-    ∙ ap (λ (m : ScriptLine). played_meanings rejects.at.before ++ m ∷ found.0) rejects.rejected in
-    rejected_line run.playout rejects.at.before found.0 rejects.at.runs_on (ap (λ ms. list_all is_accepted (until_stop ms)) (sym all) ∙ accepted)
+    ∙ ap (λ (ms : List ScriptLine). ms ++ found.0) (map-append (λ (one : PlayedLine). one.line) at.before (at.last ∷ []))
+    ∙ append_assoc (played_meanings at.before) (at.last.line ∷ []) found.0
+    ∙ ap (λ (m : ScriptLine). played_meanings at.before ++ m ∷ found.0) rejected in
+    rejected_line playout at.before found.0 at.runs_on (ap (λ ms. list_all is_accepted (until_stop ms)) (sym all) ∙ accepted)
 
 -- a line that was sent was written, or a write of it failed
 pub written_line : (result : Sent) (text : List ℕ) (before after : SinkState) → Sends result text before after → WritesFaultLine text before after
@@ -101,7 +101,7 @@ pub fails_rose : (text : List ℕ) (before after : SinkState) → Fails text bef
 fails_rose text before after fails = (let is = ap (λ (s : SinkState). s.faults) fails.stopped in omega (arith, is))
 
 -- the input was read to the end of the line at which the run ends
-read_past : (playout : Playout) (whole part : Reading) (rest : List ℕ) → IsPrefix whole part → (whole.ended ≡ true → rest ≡ [])
+pub read_past : (playout : Playout) (whole part : Reading) (rest : List ℕ) → IsPrefix whole part → (whole.ended ≡ true → rest ≡ [])
     → (at : IsAtLast playout part) → at.last.line ≢ Rejected → (rest ≡ []) ⊎ (length at.before < length (ended_lines whole.bytes))
 read_past playout whole part rest prefix none at accepted = by_end part.ended refl
   where
@@ -195,7 +195,7 @@ module _ (shown : Shown) (playout : Playout) (before after : Streams) (between :
   completes (BadLine number) run said short accepted read_well wrote_well =
       let rest = given run.reading.bytes run.gives in
       let more = part_of run.reading run.ends.0 rest.0 input rest.1 (λ e. none_left rest.0 rest.2 (run.at_end e)) run.ends.1 in
-      absurd (rejected_early (record { playout = playout; shown = shown; first = before.out }) run.ends.0 number more.0 input between more.1 more.2 run.ends.2 accepted)
+      absurd (rejected_early playout run.ends.0 more.0 input more.1 more.2 run.ends.2.at run.ends.2.rejected accepted)
   completes TooLong run said short accepted read_well wrote_well =
       let rest = given run.reading.bytes run.gives in
       let size : length input ≡ length run.reading.bytes + length rest.0 = ap length rest.1 ∙ length-append run.reading.bytes rest.0 in

@@ -10,7 +10,9 @@ use Rattle.std.proofs.Math.Seq.{take-append-add}
 use Rattle.play_outside.specs.SinkState.{SinkState, after_taking}
 use Rattle.play_outside.proofs.Taking.{after_taking-nil}
 use Rattle.history_model.specs.declared.limits.TheConstants.{MAX_INPUT_BYTES}
+use Rattle.history_model.specs.scripts.History.{Playout, PlayedLine}
 use Rattle.history_model.specs.scripts.Input.{ended_lines, unended, overlong, received}
+use Rattle.run_script.specs.Shown.{Shown}
 use Rattle.history_model.proofs.Outputs.{goes_on-none}
 use Rattle.run_script.proofs.Shown.{shown_output-none}
 use Rattle.history_model.proofs.Parts.{last_line, lines-ended}
@@ -22,10 +24,10 @@ use Rattle.run_script.specs.declared.player.Player.{Player}
 use Rattle.run_script.specs.declared.script.Script.{Script}
 use Rattle.run_script.specs.Ending.{ending_of}
 use Rattle.run_script.specs.Script.{Run, meanings, IsDone}
-use Rattle.run_script.specs.Run.{IsPrefix, EndsAs, FaultsOf}
-use Rattle.run_script.specs.inner.Player.{Represents, IsLineDone, PlaysLine}
-use Rattle.run_script.specs.inner.Taken.{HasTaken, HaltsAt, TakesBytes, TakesPiece, ReadsOn}
-use Rattle.run_script.proofs.Growth.{next_line, line_done, line_stops, line_rejected, line_fails, still_done, reading_of}
+use Rattle.run_script.specs.Run.{IsPrefix, FaultsOf}
+use Rattle.run_script.specs.inner.Player.{HasHistory, Represents, IsLineDone, PlaysLine}
+use Rattle.run_script.specs.inner.Taken.{EndsWith, HasTaken, HaltsAt, TakesBytes, TakesPiece, ReadsOn}
+use Rattle.run_script.proofs.Growth.{next_line, played_as, line_done, line_stops_with, line_rejected, line_fails, still_done, reading_of}
 
 -- nothing was played yet
 pub none_done : (run : Run) → IsDone run (ended_lines []) run.first
@@ -33,6 +35,7 @@ unfolding ended_lines
 none_done run = record {
   played = [];
   said = refl;
+  memory = λ needs. tt;
   runs_on = goes_on-none run.playout;
   written = sym (after_taking-nil run.first) ∙ ap (after_taking run.first) (sym (shown_output-none run.shown run.playout));
 }
@@ -44,6 +47,7 @@ none_taken run script empty none represents = record {
   done = record {
     played = [];
     said = refl;
+    memory = λ needs. tt;
     runs_on = goes_on-none run.playout;
     written = sym (after_taking-nil run.first) ∙ ap (after_taking run.first) (sym (shown_output-none run.shown run.playout));
   };
@@ -71,9 +75,9 @@ received-short bytes short =
     ap (λ (ls : List (List ℕ)). ended_lines bytes ++ ls) (overlong-none (unended bytes) short) ∙ append-nil (ended_lines bytes)
 
 -- lines that are others by name alone are done
-pub done_same : (run : Run) (all lines : List (List ℕ)) (state : SinkState) → all ≡ lines → IsDone run lines state → IsDone run all state
+abbrev pub done_same : (run : Run) (all lines : List (List ℕ)) (state : SinkState) → all ≡ lines → IsDone run lines state → IsDone run all state
 done_same run all lines state is done =
-    record { played = done.played; said = done.said ∙ ap meanings (sym is); runs_on = done.runs_on; written = done.written }
+    record { played = done.played; said = done.said ∙ ap meanings (sym is); memory = done.memory; runs_on = done.runs_on; written = done.written }
 
 -- the lines that were taken are done
 pub taken_done : (run : Run) (script : Script) (bytes : List ℕ) (state : SinkState) → HasTaken run script bytes state → IsDone run (received bytes false) state
@@ -96,27 +100,36 @@ unended_prefix bytes short = record {
   at_end = λ e. absurd (false≢true e);
 }
 
+-- a player that represents lines has their history
+pub history_of : (shown : Shown) (playout : Playout) (player : Player) (played : List PlayedLine) → Represents shown playout player played → HasHistory playout played player
+history_of shown playout player played represents = record { on = represents.on; events = represents.history }
+
 -- the input ended after a line feed, or was empty
 pub ended_empty : (run : Run) (script : Script) (bytes : List ℕ) (state : SinkState) → HasTaken run script bytes state → length bytes ≤ MAX_INPUT_BYTES → length script.waiting.items ≡ 0
-    → EndsAs run Finished (reading_of bytes true) state
+    → EndsWith run Finished script.player (reading_of bytes true) state
 ended_empty run script bytes state taken short empty =
     let none : length (unended bytes) ≡ 0 = ap length (sym taken.waiting) ∙ empty in
     let all : lines bytes ≡ ended_lines bytes =
     lines-ended bytes ∙ ap (λ (ls : List (List ℕ)). ended_lines bytes ++ ls) (last_line-none (unended bytes) none) ∙ append-nil (ended_lines bytes) in
-    (refl, short, done_same run (lines bytes) (ended_lines bytes) state all taken.done)
+    record {
+      ends = (refl, short, done_same run (lines bytes) (ended_lines bytes) state all taken.done);
+      history = history_of run.shown run.playout script.player taken.done.played taken.player;
+    }
 
 lines-last : (bytes : List ℕ) → 0 < length (unended bytes) → lines bytes ≡ ended_lines bytes ++ unended bytes ∷ []
 lines-last bytes some = lines-ended bytes ∙ ap (λ (ls : List (List ℕ)). ended_lines bytes ++ ls) (last_line-some (unended bytes) some)
 
 module _ (run : Run) (script : Script) (bytes : List ℕ) (before after : SinkState) (taken : HasTaken run script bytes before) (short : length bytes ≤ MAX_INPUT_BYTES) (some : 0 < length (unended bytes)) (new : Player) where
   -- the last line was done
-  pub ended_done : {replied : Option Reply} → IsLineDone (next_line run (ended_lines bytes) before taken.done (unended bytes)) replied new before after → EndsAs run Finished (reading_of bytes true) after
-  ended_done plays =
-      (refl, short, line_done run (ended_lines bytes) (unended bytes) before after taken.done new (lines bytes) (lines-last bytes some) plays)
+  pub ended_done : {replied : Option Reply} → IsLineDone (next_line run (ended_lines bytes) before taken.done (unended bytes)) replied new before after → EndsWith run Finished new (reading_of bytes true) after
+  ended_done plays = record {
+    ends = (refl, short, line_done run (ended_lines bytes) (unended bytes) before after taken.done new (lines bytes) (lines-last bytes some) plays);
+    history = history_of run.shown run.playout new (taken.done.played ++ played_as (unended bytes) plays.marks ∷ []) plays.represents;
+  }
 
   -- the last line stopped the run
   pub ended_stops : (reason : Halt) → PlaysLine (next_line run (ended_lines bytes) before taken.done (unended bytes)) (Err reason) new before after
-      → EndsAs run (ending_of reason script.lines) (reading_of bytes true) after
+      → EndsWith run (ending_of reason script.lines) new (reading_of bytes true) after
   ended_stops halt.Memory plays = (reading_of bytes false, unended_prefix bytes short, still_done run (ended_lines bytes) before after taken.done plays)
   ended_stops halt.Rejected plays = (
     reading_of bytes true,
@@ -126,7 +139,7 @@ module _ (run : Run) (script : Script) (bytes : List ℕ) (before after : SinkSt
   ended_stops halt.Stop plays = (
     reading_of bytes true,
     whole_prefix bytes short,
-    line_stops run (ended_lines bytes) (unended bytes) before after taken.done (reading_of bytes true) (lines-last bytes some) new plays,
+    line_stops_with run (ended_lines bytes) (unended bytes) before after taken.done (reading_of bytes true) (lines-last bytes some) new plays,
   )
   ended_stops halt.Write plays = (
     reading_of bytes true,
@@ -136,13 +149,13 @@ module _ (run : Run) (script : Script) (bytes : List ℕ) (before after : SinkSt
 
 -- a line in the bytes stopped the run
 pub halted : (run : Run) (script : Script) (reason : Halt) (whole allowed : List ℕ) (state : SinkState) → take MAX_INPUT_BYTES whole ≡ allowed → TakesBytes run (Err reason) script allowed state
-    → EndsAs run (ending_of reason script.lines) (reading_of whole false) state
+    → EndsWith run (ending_of reason script.lines) script.player (reading_of whole false) state
 halted run script reason whole allowed state cut stops = by_reason reason stops.3
   where
     part : IsPrefix (reading_of whole false) (reading_of stops.0 false)
     part = record { rest = stops.1; parts = cut ∙ stops.2; at_end = λ e. absurd (false≢true e) }
 
-    by_reason : (reason : Halt) → HaltsAt run reason script.lines (reading_of stops.0 false) state → EndsAs run (ending_of reason script.lines) (reading_of whole false) state
+    by_reason : (reason : Halt) → HaltsAt run reason script (reading_of stops.0 false) state → EndsWith run (ending_of reason script.lines) script.player (reading_of whole false) state
     by_reason halt.Rejected halts = (reading_of stops.0 false, part, halts)
     by_reason halt.Stop halts = (reading_of stops.0 false, part, halts)
     by_reason halt.Write halts = (reading_of stops.0 false, part, halts)
@@ -165,6 +178,6 @@ no_fault halt.Memory lines faults = refl
 pub piece_halted : (run : Run) (script : Script) (ending : Ending) (whole allowed : List ℕ) (state : SinkState) → take MAX_INPUT_BYTES whole ≡ allowed
     → TakesPiece run (Err ending) script allowed state → ReadsOn run (Err ending) script whole state
 piece_halted run script ending whole allowed state cut stops = (
-  subst (λ e. EndsAs run e (reading_of whole false) state) (sym stops.1) (halted run script stops.0 whole allowed state cut stops.2),
+  subst (λ e. EndsWith run e script.player (reading_of whole false) state) (sym stops.1) (halted run script stops.0 whole allowed state cut stops.2),
   λ faults. subst (λ e. FaultsOf e faults faults) (sym stops.1) (no_fault stops.0 script.lines faults),
 )

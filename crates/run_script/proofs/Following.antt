@@ -1,5 +1,5 @@
 -- Requests that the stage takes or does not take, and the steps of connections.
-use Rattle.std.proofs.Common.{◌≡◌, ◌≢◌, ℕ, ◌+◌, ◌<◌, ◌≤◌, Bool, true, false, List, [], ◌∷◌, ◌++◌, refl, sym, ap, ◌∙◌, subst, arith, append-nil, append_assoc, length}
+use Rattle.std.proofs.Common.{◌≡◌, ◌≢◌, ℕ, ◌+◌, ◌<◌, ◌≤◌, Bool, true, false, List, [], ◌∷◌, ◌++◌, refl, sym, ap, ◌∙◌, subst, subst₂, arith, append-nil, append_assoc, length}
 use Rattle.std.specs.Prelude.{Option, Some, None, Result, Ok, Err, IfErr, IfOk, OnErr, OnOk, nat_lt, if◌then◌else◌, option_map}
 use Rattle.std.proofs.lemmas.Bool.Decides.{nat_tests}
 use Rattle.std.proofs.lemmas.List.{length-map}
@@ -23,8 +23,9 @@ use Rattle.history_model.specs.pictures.Media.{Setup}
 use Rattle.history_model.specs.stage.Answer.{Answered, answer}
 use Rattle.history_model.specs.text.Replies.{answer_lines, reply_lines, with_token}
 use Rattle.history_model.specs.scripts.History.{JournalFull, OutOfMemory, Taken, Turn, Verdict, channel_size, is_full, is_kill, step_events, verdict, verdict_events}
+use Rattle.history_model.specs.scripts.Memory.{IsNoneOrOfMemory, IsOfMemory}
 use Rattle.history_model.specs.scripts.Output.{answer_output, step_reply, tagged_lines, verdict_reply}
-use Rattle.history_model.specs.sessions.Session.{KillServer}
+use Rattle.history_model.specs.sessions.Session.{KillServer, Step}
 use Rattle.history_model.specs.sessions.Session as model
 use Rattle.clip_format.specs.Table.{Entry}
 use Rattle.band_render.proofs.Ticks.{represents-other}
@@ -42,7 +43,8 @@ use Rattle.run_script.specs.declared.ending.Halt.{Halt}
 use Rattle.run_script.specs.declared.ending.Halt.TheVariants as halt
 use Rattle.run_script.specs.declared.player.Player.{Player}
 use Rattle.run_script.specs.inner.Clients.{HaveAimedBatches}
-use Rattle.run_script.specs.inner.Player.{DoesRequest, FollowsStep, Given, IsFollowed, IsGoingOn, IsReady, MakesEvents, NextStep, RepliesTo, Request, ShowsLast, WritesReply, batch_request, command_request, events_in, playout_in, setup_in, step_text, turn_in}
+use Rattle.run_script.specs.inner.Player.{DoesRequest, FollowsStep, Given, IsFollowed, IsGoingOn, IsReady, MakesEvents, MayReply, NextStep, RepliesTo, Request, ShowsLast, WritesReply, answering, batch_request, command_request, events_in, playout_in, setup_in, shown_in, step_in_turn, step_text, turn_in}
+use Rattle.run_script.specs.Shown.{NeedsMemory, Shown}
 
 -- nothing happened
 pub makes_nothing : (player : Player) → MakesEvents [] player player
@@ -160,6 +162,7 @@ shows_last : (shows : Display) (setup : Setup) (events : List Event) (one : Even
     → ShowsLast shows setup events media → ShowsLast shows setup (events ++ one ∷ []) media
 shows_last (display.Frames renderer) setup events one media other last = represents-other setup events one media renderer other last
 shows_last display.Status setup events one media other last = last
+shows_last display.Replies setup events one media other last = last
 
 -- the player goes on after a command or a batch, whether the stage took it or not
 pub ready_after : (one : Event) (taken : Result Answer ApplyFault) (player : Player) (stage : StageView) → one ≢ event.Tick → stop_at (one ∷ []) ≡ None
@@ -195,17 +198,23 @@ ready_clients player clients ready aimed = record {
   running = ready.running;
 }
 
+-- a reply that was written may be written
+may_reply : (next : NextStep) (answer : Reply) → step_reply next.turn next.step ≡ Some answer → (NeedsMemory next.shown → IsOfMemory answer) → MayReply next
+may_reply next answer replies memory = λ needs. subst IsNoneOrOfMemory (sym replies) (memory needs)
+
 -- a step was followed by a reply alone
 followed : (next : NextStep) (answer : Reply) (result : Result (Option Reply) Halt) (made : List Event) (before after : SinkState)
     → step_reply next.turn next.step ≡ Some answer → made ≡ step_events next.turn next.step → is_kill next.step ≡ false
-    → WritesReply answer result (answer_output next.turn.playout next.turn.tag next.token (Some answer)) before after → IsFollowed next result made before after
+    → WritesReply (record { answer = answer; shown = next.shown }) result (answer_output next.turn.playout next.turn.tag next.token (Some answer)) before after
+    → IsFollowed next result made before after
 followed next answer result made before after replies makes goes writes =
-    by_result result (subst (λ o. WritesReply answer result (answer_output next.turn.playout next.turn.tag next.token o) before after) (sym replies) writes)
+    by_result result (subst (λ o. WritesReply (record { answer = answer; shown = next.shown }) result (answer_output next.turn.playout next.turn.tag next.token o) before after) (sym replies) writes)
   where
-    by_result : (result : Result (Option Reply) Halt) → WritesReply answer result (step_text next) before after → IsFollowed next result made before after
-    by_result (Ok replied) (is, written) = (goes, makes, written, is ∙ sym replies)
+    by_result : (result : Result (Option Reply) Halt) → WritesReply (record { answer = answer; shown = next.shown }) result (step_text next) before after
+        → IsFollowed next result made before after
+    by_result (Ok replied) (is, written, memory) = (goes, makes, written, is ∙ sym replies, may_reply next answer replies memory)
     by_result (Err halt.Write) fails = fails
-    by_result (Err halt.Memory) none = none
+    by_result (Err halt.Memory) stops = (stops.0, stops.2)
     by_result (Err halt.Stop) none = absurd none
     by_result (Err halt.Rejected) none = none
 
@@ -219,16 +228,26 @@ pub follows_local : (given : Given) (token : Option (List ℕ)) (answer : Reply)
     → (is_out_of_memory answer ≡ false → token ≡ given.token)
     → step_reply (turn_in given.player given.tag false) given.step ≡ Some answer
     → step_events (turn_in given.player given.tag false) given.step ≡ [] → is_kill given.step ≡ false
-    → WritesReply answer result (tagged_lines given.tag (answer_lines given.player.setup.config given.player.setup.names token answer)) before after
+    → WritesReply (answering given.player answer) result (tagged_lines given.tag (answer_lines given.player.setup.config given.player.setup.names token answer)) before after
     → FollowsStep given result given.player before after
 follows_local given token answer result before after kept replies none goes writes = record {
   no_memory = false;
   made = [];
   makes = makes_nothing given.player;
-  follows = followed (record { turn = turn_in given.player given.tag false; step = given.step; token = given.token }) answer result [] before after replies (sym none) goes
-      (subst (λ (lines : List (List ℕ)). WritesReply answer result (tagged_lines given.tag lines) before after)
+  follows = followed (step_in_turn given false) answer result [] before after replies (sym none) goes
+      (subst (λ (lines : List (List ℕ)). WritesReply (answering given.player answer) result (tagged_lines given.tag lines) before after)
       (told_lines given.player.setup.config given.player.setup.names token given.token answer kept) writes);
 }
+
+-- a reply was written on the setup of the player before, which told ticks in the same way
+still_written : (given : Given) (answer : Reply) (result : Result (Option Reply) Halt) (old new : Player) (before after : SinkState)
+    → new.setup ≡ old.setup → shown_in new ≡ shown_in old
+    → WritesReply (answering new answer) result (tagged_lines given.tag (answer_lines new.setup.config new.setup.names given.token answer)) before after
+    → WritesReply (answering old answer) result (tagged_lines given.tag (answer_lines old.setup.config old.setup.names given.token answer)) before after
+still_written given answer result old new before after setup shown writes =
+    subst₂
+    (λ (s : ServerSetup) (told : Shown). WritesReply (record { answer = answer; shown = told }) result (tagged_lines given.tag (answer_lines s.config s.names given.token answer)) before after)
+    setup shown writes
 
 -- a request was done, and the reply to it was written
 follows_request : (given : Given) (request : Request) (answer : Reply) (result : Result (Option Reply) Halt) (new : Player) (before after : SinkState)
@@ -238,23 +257,23 @@ follows_request : (given : Given) (request : Request) (answer : Reply) (result :
     → step_events (turn_in given.player given.tag does.no_memory) given.step
     ≡ verdict_events request.event (verdict (turn_in given.player given.tag does.no_memory) request.commands)
     → is_kill given.step ≡ false
-    → WritesReply answer result (tagged_lines given.tag (answer_lines new.setup.config new.setup.names given.token answer)) before after
+    → WritesReply (answering new answer) result (tagged_lines given.tag (answer_lines new.setup.config new.setup.names given.token answer)) before after
     → FollowsStep given result new before after
 follows_request given request answer result new before after does replies makes goes writes =
     let turn = turn_in given.player given.tag does.no_memory in
-    let written : WritesReply answer result (tagged_lines given.tag (answer_lines given.player.setup.config given.player.setup.names given.token answer)) before after =
-    subst (λ (s : ServerSetup). WritesReply answer result (tagged_lines given.tag (answer_lines s.config s.names given.token answer)) before after) does.makes.setup writes in
+    let written : WritesReply (answering given.player answer) result (tagged_lines given.tag (answer_lines given.player.setup.config given.player.setup.names given.token answer)) before after =
+    still_written given answer result given.player new before after does.makes.setup does.makes.shown writes in
     record {
       no_memory = does.no_memory;
       made = verdict_events request.event (verdict turn request.commands);
       makes = does.makes;
-      follows = followed (record { turn = turn; step = given.step; token = given.token }) answer result (verdict_events request.event (verdict turn request.commands)) before after
+      follows = followed (step_in_turn given does.no_memory) answer result (verdict_events request.event (verdict turn request.commands)) before after
           (replies ∙ ap Some (sym does.replies)) (sym makes) goes written;
     }
 
 pub follows_command : (given : Given) (command : Cmd) (answer : Reply) (result : Result (Option Reply) Halt) (new : Player) (before after : SinkState)
     → given.step ≡ Some (model.Ask command) → DoesRequest given.tag (command_request given.player given.tag command) answer given.player new
-    → WritesReply answer result (tagged_lines given.tag (answer_lines new.setup.config new.setup.names given.token answer)) before after
+    → WritesReply (answering new answer) result (tagged_lines given.tag (answer_lines new.setup.config new.setup.names given.token answer)) before after
     → FollowsStep given result new before after
 follows_command given command answer result new before after asks does writes =
     let turn = turn_in given.player given.tag does.no_memory in
@@ -263,12 +282,16 @@ follows_command given command answer result new before after asks does writes =
 
 pub follows_batch : (given : Given) (commands : List Cmd) (answer : Reply) (result : Result (Option Reply) Halt) (new : Player) (before after : SinkState)
     → given.step ≡ Some (model.AskBatch commands) → DoesRequest given.tag (batch_request given.player given.tag commands) answer given.player new
-    → WritesReply answer result (tagged_lines given.tag (answer_lines new.setup.config new.setup.names given.token answer)) before after
+    → WritesReply (answering new answer) result (tagged_lines given.tag (answer_lines new.setup.config new.setup.names given.token answer)) before after
     → FollowsStep given result new before after
 follows_batch given commands answer result new before after asks does writes =
     let turn = turn_in given.player given.tag does.no_memory in
     follows_request given (batch_request given.player given.tag commands) answer result new before after does
     (ap (step_reply turn) asks) (ap (step_events turn) asks) (ap is_kill asks) writes
+
+-- a step when the stage is asked, which has memory
+abbrev next_with : Given → Option Step → NextStep
+next_with given step = record { shown = shown_in given.player; turn = turn_in given.player given.tag false; step = step; token = given.token }
 
 -- the connection's kill was answered, and the history ended
 pub follows_kill : (given : Given) (new : Player) (before after : SinkState) → given.step ≡ Some KillServer
@@ -280,30 +303,33 @@ follows_kill given new before after kills makes written = record {
   made = event.Stop given.tag ∷ [];
   makes = makes;
   follows =
-      subst (λ s. IsFollowed (record { turn = turn_in given.player given.tag false; step = s; token = given.token }) (Err halt.Stop) (event.Stop given.tag ∷ []) before after) (sym kills)
-      (refl, refl, written ∙ ap (λ (s : ServerSetup). after_taking before (tagged_lines given.tag (answer_lines s.config s.names given.token (reply.Done name.Kill)))) makes.setup);
+      subst (λ s. IsFollowed (next_with given s) (Err halt.Stop) (event.Stop given.tag ∷ []) before after) (sym kills) (
+        refl,
+        refl,
+        written ∙ ap (λ (s : ServerSetup). after_taking before (tagged_lines given.tag (answer_lines s.config s.names given.token (reply.Done name.Kill)))) makes.setup,
+        λ needs. tt,
+      );
 }
 
 -- the answer to it was not written
 pub kill_failed : (given : Given) (reason : Halt) (new : Player) (before after : SinkState) → given.step ≡ Some KillServer
     → MakesEvents (event.Stop given.tag ∷ []) given.player new
-    → WritesReply (reply.Done name.Kill) (Err reason) (tagged_lines given.tag (answer_lines new.setup.config new.setup.names given.token (reply.Done name.Kill))) before after
+    → WritesReply (answering new (reply.Done name.Kill)) (Err reason) (tagged_lines given.tag (answer_lines new.setup.config new.setup.names given.token (reply.Done name.Kill))) before after
     → FollowsStep given (Err reason) new before after
 kill_failed given reason new before after kills makes writes = record {
   no_memory = false;
   made = event.Stop given.tag ∷ [];
   makes = makes;
   follows =
-      subst (λ s. IsFollowed (record { turn = turn_in given.player given.tag false; step = s; token = given.token }) (Err reason) (event.Stop given.tag ∷ []) before after) (sym kills)
-      (by_reason reason
-      (subst (λ (s : ServerSetup). WritesReply (reply.Done name.Kill) (Err reason) (tagged_lines given.tag (answer_lines s.config s.names given.token (reply.Done name.Kill))) before after) makes.setup writes));
+      subst (λ s. IsFollowed (next_with given s) (Err reason) (event.Stop given.tag ∷ []) before after) (sym kills)
+      (by_reason reason (still_written given (reply.Done name.Kill) (Err reason) given.player new before after makes.setup makes.shown writes));
 }
   where
     by_reason : (reason : Halt)
-        → WritesReply (reply.Done name.Kill) (Err reason) (tagged_lines given.tag (answer_lines given.player.setup.config given.player.setup.names given.token (reply.Done name.Kill))) before after
-        → IsFollowed (record { turn = turn_in given.player given.tag false; step = Some KillServer; token = given.token }) (Err reason) (event.Stop given.tag ∷ []) before after
+        → WritesReply (answering given.player (reply.Done name.Kill)) (Err reason) (tagged_lines given.tag (answer_lines given.player.setup.config given.player.setup.names given.token (reply.Done name.Kill))) before after
+        → IsFollowed (next_with given (Some KillServer)) (Err reason) (event.Stop given.tag ∷ []) before after
     by_reason halt.Write fails = fails
-    by_reason halt.Memory none = none
+    by_reason halt.Memory stops = (stops.0, stops.2)
     by_reason halt.Stop none = absurd none
     by_reason halt.Rejected none = none
 
@@ -320,5 +346,6 @@ follows_nothing given state replies none goes = record {
     sym none,
     sym (after_taking-nil state) ∙ ap (λ o. after_taking state (answer_output (playout_in given.player) given.tag given.token o)) (sym replies),
     sym replies,
+    λ needs. subst IsNoneOrOfMemory (sym replies) tt,
   );
 }

@@ -18,6 +18,7 @@ use Rattle.history_model.specs.scripts.History.{PlayedLine}
 use Rattle.history_model.specs.scripts.Input.{ended_lines, unended, overlong, received}
 use Rattle.history_model.proofs.Parts.{ended_lines-feed, unended-feed, ended_lines-other, unended-other}
 use Rattle.history_model.proofs.Outputs.{goes_on-snoc}
+use Rattle.history_model.proofs.Replied.{HasMemory-snoc}
 use Rattle.run_script.specs.Shown.{shown_line, shown_output}
 use Rattle.run_script.proofs.Shown.{shown_output-snoc}
 use Rattle.run_script.specs.declared.ending.Halt.{Halt}
@@ -26,7 +27,7 @@ use Rattle.run_script.specs.declared.script.Script.{Script}
 use Rattle.run_script.specs.declared.player.Player.{Player}
 use Rattle.run_script.specs.Script.{Run, Reading, lines_of_reading, meanings, played_meanings, IsDone, IsAtLast, StopsAt, RejectsAt, FailsAt}
 use Rattle.run_script.specs.inner.Player.{Represents, NextLine, Marks, no_marks, IsLineDone, IsLastLine, IsLineFailed, PlaysLine}
-use Rattle.run_script.specs.inner.Taken.{HasTaken, TakesBytes}
+use Rattle.run_script.specs.inner.Taken.{HasTaken, StopsWith, TakesBytes}
 
 -- one line more is said
 pub said-snoc : (played : List PlayedLine) (last : PlayedLine) (lines all : List (List ℕ)) (line : List ℕ) → played_meanings played ≡ meanings lines → all ≡ lines ++ line ∷ [] → last.line ≡ meaning line
@@ -67,6 +68,7 @@ module _ (run : Run) (lines : List (List ℕ)) (line : List ℕ) (before after :
   line_done player all is plays = record {
     played = done.played ++ played_as line plays.marks ∷ [];
     said = said-snoc done.played (played_as line plays.marks) lines all line done.said is refl;
+    memory = λ needs. HasMemory-snoc run.playout done.played (played_as line plays.marks) done.runs_on (done.memory needs) (plays.memory needs);
     runs_on = goes_on-snoc run.playout done.played (played_as line plays.marks) done.runs_on plays.goes_on;
     written = written-snoc plays.marks plays.written;
   }
@@ -81,13 +83,18 @@ module _ (run : Run) (lines : List (List ℕ)) (line : List ℕ) (before after :
     }
 
     -- the line ends the run
-    pub line_stops : (player : Player) → IsLastLine (next_line run lines before done line) player before after → StopsAt run reading after
+    abbrev pub line_stops : (player : Player) → IsLastLine (next_line run lines before done line) player before after → StopsAt run reading after
     line_stops player plays = record {
       at = at_last plays.marks;
       accepted = plays.accepted;
       ends = plays.ends;
+      memory = λ needs. HasMemory-snoc run.playout done.played (played_as line plays.marks) done.runs_on (done.memory needs) (plays.memory needs);
       written = written-snoc plays.marks plays.written;
     }
+
+    -- and the player has the history of the lines
+    pub line_stops_with : (player : Player) → IsLastLine (next_line run lines before done line) player before after → StopsWith run player reading after
+    line_stops_with player plays = record { stops = line_stops player plays; history = plays.history }
 
     -- the line is rejected
     pub line_rejected : (count : ℕ) → count ≡ length lines → meaning line ≡ Rejected → after ≡ before → RejectsAt run reading (count + 1) after
@@ -95,6 +102,7 @@ module _ (run : Run) (lines : List (List ℕ)) (line : List ℕ) (before after :
       at = at_last no_marks;
       rejected = rejected;
       place = ap (λ (n : ℕ). n + 1) (counts ∙ sym (said-length done.played lines done.said));
+      memory = done.memory;
       written = same ∙ done.written;
     }
 
@@ -111,7 +119,8 @@ module _ (run : Run) (lines : List (List ℕ)) (line : List ℕ) (before after :
 
 -- the lines stay done if nothing was written
 pub still_done : (run : Run) (lines : List (List ℕ)) (before after : SinkState) → IsDone run lines before → after ≡ before → IsDone run lines after
-still_done run lines before after done same = record { played = done.played; said = done.said; runs_on = done.runs_on; written = same ∙ done.written }
+still_done run lines before after done same =
+    record { played = done.played; said = done.said; memory = done.memory; runs_on = done.runs_on; written = same ∙ done.written }
 
 -- bytes with the end of the input after them, or not
 abbrev pub reading_of : List ℕ → Bool → Reading
@@ -163,7 +172,7 @@ fed_stops run old new bytes before after taken halt.Stop plays count = (
   bytes ++ 10 ∷ [],
   [],
   sym (append-nil (bytes ++ 10 ∷ [])),
-  line_stops run (ended_lines bytes) (fed_line bytes) before after taken.done (reading_of (bytes ++ 10 ∷ []) false) (received-feed bytes) new.player plays,
+  line_stops_with run (ended_lines bytes) (fed_line bytes) before after taken.done (reading_of (bytes ++ 10 ∷ []) false) (received-feed bytes) new.player plays,
 )
 fed_stops run old new bytes before after taken halt.Write plays count = (
   bytes ++ 10 ∷ [],
@@ -187,6 +196,7 @@ byte_kept run old new bytes byte state other taken player count items short =
       done = record {
         played = taken.done.played;
         said = taken.done.said ∙ ap meanings (sym lines);
+        memory = taken.done.memory;
         runs_on = taken.done.runs_on;
         written = taken.done.written;
       };

@@ -75,6 +75,7 @@ module _ (next : NextText) (shown : Shown) (found : Option Found) (old new : Pla
     (makes : MakesEvents made old new) (serves : AreClients next.playout old.clients.list.items (next.played ++ played_text next found ∷ [])) where
   said_played : (result : Result (Option Reply) Halt)
       → IsFollowed (record {
+        shown = shown;
         turn = turn_of next.playout (script_events next.playout next.played) (played_text next found) next.tag;
         step = said_step next.playout next.played (played_text next found) next.tag;
         token = text_token next.text;
@@ -91,6 +92,7 @@ module _ (next : NextText) (shown : Shown) (found : Option Found) (old new : Pla
       clients = subst (λ k. AreClients next.playout k.list.items (next.played ++ played_text next found ∷ [])) (sym makes.clients) serves;
     };
     replies = follows.3;
+    memory = follows.4;
     written = as_said shown next.playout next.played (played_text next found) (Said next.tag next.text) before after (no_ticks-said next.tag next.text) follows.2;
   }
   said_played (Err halt.Write) follows = record {
@@ -102,10 +104,14 @@ module _ (next : NextText) (shown : Shown) (found : Option Found) (old new : Pla
     marks = record { given_up = gave_up found; no_memory = next.no_memory };
     accepted = differ-said next.tag next.text;
     ends = follows.0;
-    history = history_more next.playout next.played (played_text next found) old new made runs_on history makes follows.1;
+    history = record {
+      on = still_on old new made makes ∙ on;
+      events = history_more next.playout next.played (played_text next found) old new made runs_on history makes follows.1;
+    };
+    memory = follows.3;
     written = as_said shown next.playout next.played (played_text next found) (Said next.tag next.text) before after (no_ticks-said next.tag next.text) follows.2;
   }
-  said_played (Err halt.Memory) follows = absurd follows
+  said_played (Err halt.Memory) follows = follows.1
   said_played (Err halt.Rejected) follows = absurd follows
 
 pub step_followed : (next : NextText) (shown : Shown) (found : Option Found) (step : Option Step) (result : Result (Option Reply) Halt) (old new : Player) (before after : SinkState)
@@ -119,7 +125,13 @@ step_followed next shown found step result old new before after runs_on shows on
     let turn : turn_in old next.tag follows.no_memory ≡ turn_of next.playout (script_events next.playout next.played) line next.tag =
     ap (turn_in old next.tag) (sym marked) ∙ ap₂ (λ p es. record { playout = p; events = es; tag = next.tag; no_memory = next.no_memory }) on history in
     said_played next shown found old new follows.made before after runs_on shows on history follows.makes takes.serves result
-    (subst₂ (λ t s. IsFollowed (record { turn = t; step = s; token = text_token next.text }) result follows.made before after) turn given follows.follows)
+    (subst (λ told. IsFollowed (record {
+      shown = told;
+      turn = turn_of next.playout (script_events next.playout next.played) line next.tag;
+      step = said_step next.playout next.played line next.tag;
+      token = text_token next.text;
+    }) result follows.made before after) shows
+    (subst₂ (λ t s. IsFollowed (record { shown = shown_in old; turn = t; step = s; token = text_token next.text }) result follows.made before after) turn given follows.follows))
 
 -- `count` ticks are what their line says
 pub ticks_played : (shown : Shown) (playout : Playout) (played : List PlayedLine) (count : ℕ) (line : ScriptLine) (done : Unit {0}) (old new : Player) (before after : SinkState)
@@ -140,6 +152,7 @@ ticks_played shown playout played count line done old new before after on is rep
             (subst (λ k. AreClients playout k.list.items played) (sym makes.clients) represents.clients);
       };
       replies = refl;
+      memory = λ needs. tt;
       written = writes ∙ ap (after_taking before) ((λ i. shown_ticks (represents.shows i) (represents.on i) (represents.history i) count)
           ∙ sym (ticks_line shown playout played (record { line = script.Ticks count; given_up = false; no_memory = false }) count));
     })
@@ -179,6 +192,7 @@ comment_played shown playout played line player state on is represents =
         clients = clients_other playout player.clients.list.items played (record { line = Comment; given_up = false; no_memory = false }) (λ tag. refl) represents.clients;
       };
       replies = refl;
+      memory = λ needs. tt;
       written = as_said shown playout played (record { line = Comment; given_up = false; no_memory = false }) Comment state state no_ticks-comment (sym (after_taking-nil state));
     })
 
@@ -191,6 +205,10 @@ stop_played shown playout played line old new state on is represents makes =
       marks = no_marks;
       accepted = differ-stop;
       ends = refl;
-      history = history_more playout played (record { line = script.Stop; given_up = false; no_memory = false }) old new (event.Stop server ∷ []) on represents.history makes refl;
+      history = record {
+        on = still_on old new (event.Stop server ∷ []) makes ∙ represents.on;
+        events = history_more playout played (record { line = script.Stop; given_up = false; no_memory = false }) old new (event.Stop server ∷ []) on represents.history makes refl;
+      };
+      memory = λ needs. tt;
       written = as_said shown playout played (record { line = script.Stop; given_up = false; no_memory = false }) script.Stop state state no_ticks-stop (sym (after_taking-nil state));
     })

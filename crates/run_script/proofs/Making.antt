@@ -1,21 +1,19 @@
 -- A run of a made script, line by line.
-use Rattle.std.proofs.Common.{◌≡◌, ◌≢◌, ℕ, ◌+◌, ◌<◌, ◌≤◌, true, false, Bool, List, [], ◌∷◌, ◌++◌, length, map, refl, sym, ap, ap₂, ◌∙◌, subst, arith, length-append}
-use Rattle.std.specs.Prelude.{Option, Some, None, Result, Ok, Err, filter, nat_le, if◌then◌else◌}
-use Rattle.std.proofs.lemmas.Bool.Decides.{nat_tests}
+use Rattle.std.proofs.Common.{◌≡◌, ◌≢◌, ℕ, ◌+◌, true, List, [], ◌∷◌, ◌++◌, length, map, refl, sym, ap, ap₂, ◌∙◌, subst, arith, length-append}
+use Rattle.std.specs.Prelude.{Option, Some, None, Result, Ok, Err, filter}
 use Rattle.std.proofs.lemmas.List.{map-append}
 use Rattle.std.proofs.lemmas.List.Elements.{filter-append}
 use Rattle.sha2.specs.Hashers.{Holds256}
 use Rattle.sha2.specs.declared.Sha256.{Sha256}
 use Rattle.play_types.specs.declared.reply.Reply.{Reply}
-use Rattle.play_types.specs.declared.reply.Reply.TheVariants as reply
 use Rattle.play_outside.specs.SinkState.{SinkState, after_taking, more_taken}
 use Rattle.history_model.specs.sessions.Session.{Step, Local, Ask, AskBatch, KillServer, EndConnection, Skip}
 use Rattle.history_model.specs.scripts.Generator.{generator_playout}
 use Rattle.history_model.specs.scripts.History.{Playout, PlayedLine, Turn, ends_at, is_kill, said_step, script_events, turn_of}
 use Rattle.history_model.specs.scripts.Line.{ScriptLine, Comment, Ticks, Said, Stop, Rejected, meaning}
-use Rattle.history_model.specs.scripts.Memory.{AreLines, HasMemory, IsNoneOrOfMemory, IsOfMemory, lines_played, reply_at, with_memory}
+use Rattle.history_model.specs.scripts.Memory.{AreLines, HasMemory, IsNoneOrOfMemory, lines_played, reply_at, with_memory}
 use Rattle.history_model.specs.scripts.Output.{script_output, step_reply}
-use Rattle.history_model.specs.scripts.Replies.{is_refusal, reply_code, reply_list, script_replies}
+use Rattle.history_model.specs.scripts.Replies.{is_refusal, reply_list, script_replies}
 use Rattle.history_model.proofs.Outputs.{goes_on-none, goes_on-snoc, script_output-ended, script_output-none, script_output-snoc}
 use Rattle.history_model.proofs.Replied.{HasMemory-ended, HasMemory-snoc, script_events-ended, script_replies-ended, script_replies-none, script_replies-snoc}
 use Rattle.history_model.proofs.Runs.{events-equal, output-equal, replies-equal}
@@ -152,7 +150,7 @@ last_made lines line rest old new before after made done hashed counted one =
     ∙ sym (map-append meaning lines (line ∷ rest)))
     (HasMemory-ended generator_playout made.played last later made.runs_on done.ends made.memory quiet.0)
     (record {
-      history = done.history ∙ sym (script_events-ended generator_playout made.played last later made.runs_on done.ends);
+      history = done.history.events ∙ sym (script_events-ended generator_playout made.played last later made.runs_on done.ends);
       hashed = subst (Holds256 new.hasher) (sym (script_output-ended generator_playout made.played last later made.runs_on done.ends)) hashed;
       refused =
           counted ∙ made.refused
@@ -220,34 +218,3 @@ halted lines line old new halt.Stop before after taken made plays none some hash
 halted lines line old new halt.Rejected before after taken made plays none some hashes same accepted = absurd (accepted (plays made).0)
 halted lines line old new halt.Write before after taken made plays none some hashes same accepted = tt
 halted lines line old new halt.Memory before after taken made plays none some hashes same accepted = tt
-
--- a reply is counted by its code
-pub reply_counted : (answer : Reply) (before : ℕ) → (reply_code answer ≡ 500 → ⊥) → (reply_code answer ≡ 501 → ⊥) → IsOfMemory answer
-reply_counted (reply.Done command) before one other = tt
-reply_counted (reply.Value micros) before one other = tt
-reply_counted (reply.Info statuses) before one other = tt
-reply_counted reply.Cls before one other = tt
-reply_counted reply.Version before one other = tt
-reply_counted (reply.Unknown line) before one other = tt
-reply_counted (reply.Refused code command) before one other = other
-reply_counted reply.NoMemory before one other = absurd (one refl)
-
-pub counts_one : (answer : Reply) → 400 ≤ reply_code answer → refusals (answer ∷ []) ≡ 1
-counts_one answer high = by_test (is_refusal answer) yes
-  where
-    yes : nat_le 400 (reply_code answer) ≡ true
-    yes = grind (arith, nat_tests, high)
-
-    by_test : (b : Bool) → b ≡ true → length (if b then answer ∷ [] else []) ≡ 1
-    by_test true is = refl
-    by_test false is = cc
-
-pub counts_none : (answer : Reply) → reply_code answer < 400 → refusals (answer ∷ []) ≡ 0
-counts_none answer low = by_test (is_refusal answer) no
-  where
-    no : nat_le 400 (reply_code answer) ≡ false
-    no = grind (arith, nat_tests, low)
-
-    by_test : (b : Bool) → b ≡ false → length (if b then answer ∷ [] else []) ≡ 0
-    by_test true is = cc
-    by_test false is = refl

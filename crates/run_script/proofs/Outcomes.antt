@@ -9,7 +9,7 @@ use Rattle.server_setup.specs.Setup.{SetsUp}
 use Rattle.run_script.specs.declared.ending.Ending.{Ending}
 use Rattle.run_script.specs.declared.ending.Ending.TheVariants.{Memory}
 use Rattle.run_script.specs.Ending.{exit_status, fault_in, fault_of, last_line}
-use Rattle.run_script.specs.CommandLine.{CommandLine, Plain, Configured, Generated, Converted, Planned}
+use Rattle.run_script.specs.CommandLine.{CommandLine, Plain, Configured, Generated, Converted, Planned, Recorded}
 use Rattle.run_script.specs.Run.{Streams, RunsScript}
 use Rattle.run_script.specs.Shown.{Shown, Frames}
 use Rattle.run_script.specs.Program.{Outside, EndsRun, RunsCommandLine, WritesFaultLine, plain_playout, playout_of, streams_of}
@@ -115,6 +115,30 @@ line_ended (Planned path digests) (Err fault) before between after plays said =
         setup = ran.0;
         set_up = ran.1;
         run = record { fault = Some fault; outcome = refl; between = between.out; plan = ran.2; said = said };
+      })
+    ]
+line_ended (Recorded path name) (Ok done) before between after plays said =
+    elim plays [
+      | inl refused ↦ absurd refused
+      | inr ran ↦ inr (record {
+        setup = ran.0;
+        set_up = ran.1;
+        run = record { fault = None; outcome = refl; between = between.out; recording = ran.2; said = said };
+      })
+    ]
+line_ended (Recorded path name) (Err fault) before between after plays said =
+    elim plays [
+      | inl refused ↦ inl (record {
+        fault = fault;
+        outcome = refl;
+        refused = refused.0;
+        unread = refused.1;
+        said = subst (λ s. WritesFaultLine (last_line (Some fault)) s after) refused.2 said;
+      })
+      | inr ran ↦ inr (record {
+        setup = ran.0;
+        set_up = ran.1;
+        run = record { fault = Some fault; outcome = refl; between = between.out; recording = ran.2; said = said };
       })
     ]
 

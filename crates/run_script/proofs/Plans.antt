@@ -11,7 +11,7 @@ use Rattle.play_schedule.specs.declared.sheet.SheetFault.TheVariants as sheet_fa
 use Rattle.play_schedule.specs.SheetView.{SheetView}
 use Rattle.play_schedule.specs.Sheet.{sheet_of}
 use Rattle.server_setup.specs.declared.fault.RunFault.{RunFault}
-use Rattle.server_setup.specs.declared.fault.RunFault.TheVariants.{Usage, ConfigText, ConfigKey, BadLine, InputTooLong, Plan, PlanEnd, Clip, MediaTwice, MediaTotal, Device, OutOfMemory}
+use Rattle.server_setup.specs.declared.fault.RunFault.TheVariants.{Usage, ConfigText, ConfigKey, BadLine, InputTooLong, Plan, PlanEnd, Record, Clip, MediaTwice, MediaTotal, Device, OutOfMemory}
 use Rattle.run_script.specs.Ending.{exit_status, last_line}
 use Rattle.run_script.specs.Run.{Streams}
 use Rattle.run_script.specs.Planning.{PlanEnds, PlaysSheet}
@@ -25,6 +25,7 @@ module _ (playout : Playout) where
   status_by (Some InputTooLong) bytes before after ends = (omega arith, λ e. omega (arith, e), λ e. omega (arith, e))
   status_by (Some (Plan number)) bytes before after ends = (omega arith, λ e. omega (arith, e), λ e. omega (arith, e))
   status_by (Some PlanEnd) bytes before after ends = (omega arith, λ e. omega (arith, e), λ e. omega (arith, e))
+  status_by (Some (Record name)) bytes before after ends = (omega arith, λ e. omega (arith, e), λ e. omega (arith, e))
   status_by (Some Device) bytes before after ends = (omega arith, λ e. omega (arith, e), λ e. omega (arith, e))
   status_by (Some OutOfMemory) bytes before after ends = (omega arith, λ e. omega (arith, e), λ e. omega (arith, e))
   status_by (Some Usage) bytes before after ends = absurd ends
@@ -42,6 +43,7 @@ module _ (playout : Playout) where
   well_by (Some InputTooLong) bytes before after ends good = absurd (omega (arith, good))
   well_by (Some (Plan number)) bytes before after ends good = absurd (omega (arith, good))
   well_by (Some PlanEnd) bytes before after ends good = absurd (omega (arith, good))
+  well_by (Some (Record name)) bytes before after ends good = absurd (omega (arith, good))
   well_by (Some Device) bytes before after ends good = absurd (omega (arith, good))
   well_by (Some OutOfMemory) bytes before after ends good = absurd (omega (arith, good))
   well_by (Some Usage) bytes before after ends good = absurd ends
@@ -59,6 +61,7 @@ module _ (playout : Playout) where
   device_by (Some InputTooLong) bytes before after ends bad = absurd (omega (arith, bad))
   device_by (Some (Plan number)) bytes before after ends bad = absurd (omega (arith, bad))
   device_by (Some PlanEnd) bytes before after ends bad = absurd (omega (arith, bad))
+  device_by (Some (Record name)) bytes before after ends bad = absurd (omega (arith, bad))
   device_by (Some Device) bytes before after ends bad =
       elim ends.1 [
         | inl failed ↦ inl failed.0
@@ -95,6 +98,7 @@ module _ (playout : Playout) where
       absurd (not_refused input bytes found (sheet_fault.Line number) (all_read input bytes after.input read ends.whole.at_end).0 is ends.refuses)
   complete_by (Some PlanEnd) input bytes found before after read few is ends read_well wrote_well =
       absurd (not_refused input bytes found sheet_fault.NoEnd (all_read input bytes after.input read ends.whole.at_end).0 is ends.refuses)
+  complete_by (Some (Record name)) input bytes found before after read few is ends read_well wrote_well = absurd ends
   complete_by (Some Device) input bytes found before after read few is ends read_well wrote_well =
       elim ends.1 [
         | inl failed ↦ absurd (read_well failed.0)

@@ -11,11 +11,12 @@ use Rattle.history_model.specs.declared.limits.TheConstants.{MAX_INPUT_BYTES}
 use Rattle.history_model.specs.scripts.History.{Playout}
 use Rattle.run_script.specs.declared.ending.Ending.{Ending}
 use Rattle.run_script.specs.declared.ending.Ending.TheVariants.{Finished, Stopped, BadLine, TooLong, ReadFault, WriteFault, Memory}
+use Rattle.run_script.specs.declared.player.Player.{Player}
 use Rattle.run_script.specs.declared.script.Script.{Script}
-use Rattle.run_script.specs.Script.{Run}
+use Rattle.run_script.specs.Script.{Reading, Run}
 use Rattle.run_script.specs.Shown.{Shown}
 use Rattle.run_script.specs.Run.{Streams, EndsAs, FaultsOf, RunsScript}
-use Rattle.run_script.specs.inner.Taken.{HasTaken, ReadsOn}
+use Rattle.run_script.specs.inner.Taken.{EndsWith, HasTaken, ReadsOn, RunsPlayer}
 use Rattle.run_script.proofs.Growth.{reading_of}
 use Rattle.run_script.proofs.Endings.{none_done, taken_done}
 use Rattle.run_script.specs.inner.Player.{IsReady}
@@ -81,7 +82,7 @@ module _ (shown : Shown) (playout : Playout) (script : Script) (left : ℕ) (bef
   -- the run ends in a piece that was read
   pub piece_ends : (script' : Script) (ending : Ending) (piece : List ℕ) (input : SourceState) (out : SinkState) → Consumes piece now.input input
       → ReadsOn (run_from shown playout before.out) (Err ending) script' (so_far.read ++ piece) out
-      → RunsScript shown playout ending before (record { input = input; out = out })
+      → RunsPlayer (run_from shown playout before.out) ending script'.player before.input (record { input = input; out = out })
   piece_ends script' ending piece input out consumed reads =
       let all = Consumes-then so_far.read piece before.input now.input input so_far.consumed consumed in
       record {
@@ -93,29 +94,31 @@ module _ (shown : Shown) (playout : Playout) (script : Script) (left : ℕ) (bef
       }
 
   -- the end of the input is no fault of it
-  faults_at_end : (ending : Ending) (out : SinkState) (faults : ℕ) → EndsAs (run_from shown playout before.out) ending (reading_of so_far.read true) out → FaultsOf ending faults faults
-  faults_at_end Finished out faults ends = refl
-  faults_at_end Stopped out faults ends = refl
-  faults_at_end (BadLine number) out faults ends = refl
-  faults_at_end TooLong out faults ends = refl
-  faults_at_end ReadFault out faults ends = absurd (false≢true (sym ends.0))
-  faults_at_end WriteFault out faults ends = refl
-  faults_at_end Memory out faults ends = refl
+  faults_at_end : (ending : Ending) (player : Player) (out : SinkState) (faults : ℕ) → EndsWith (run_from shown playout before.out) ending player (reading_of so_far.read true) out → FaultsOf ending faults faults
+  faults_at_end Finished player out faults ends = refl
+  faults_at_end Stopped player out faults ends = refl
+  faults_at_end (BadLine number) player out faults ends = refl
+  faults_at_end TooLong player out faults ends = refl
+  faults_at_end ReadFault player out faults ends = absurd (false≢true (sym ends.0))
+  faults_at_end WriteFault player out faults ends = refl
+  faults_at_end Memory player out faults ends = refl
 
   -- the input ended
-  pub input_ended : (ending : Ending) (input : SourceState) (out : SinkState) → IsAtEnd now.input → input ≡ now.input → EndsAs (run_from shown playout before.out) ending (reading_of so_far.read true) out
-      → RunsScript shown playout ending before (record { input = input; out = out })
-  input_ended ending input out at_end same ends = record {
+  pub input_ended : (ending : Ending) (player : Player) (input : SourceState) (out : SinkState) → IsAtEnd now.input → input ≡ now.input
+      → EndsWith (run_from shown playout before.out) ending player (reading_of so_far.read true) out
+      → RunsPlayer (run_from shown playout before.out) ending player before.input (record { input = input; out = out })
+  input_ended ending player input out at_end same ends = record {
     reading = reading_of so_far.read true;
     gives = subst (λ (s : SourceState). Gives so_far.read before.input.left s.left) (sym same) so_far.consumed.gives;
     faults = subst (λ n. FaultsOf ending before.input.faults n) (sym (ap (λ (s : SourceState). s.faults) same ∙ so_far.consumed.faults))
-        (faults_at_end ending out before.input.faults ends);
+        (faults_at_end ending player out before.input.faults ends);
     at_end = λ e. subst IsAtEnd (sym same) at_end;
     ends = ends;
   }
 
   -- a read of the input failed
-  pub read_failed : (input : SourceState) → input.left ≡ now.input.left → Rose now.input.faults input.faults → RunsScript shown playout ReadFault before (record { input = input; out = now.out })
+  pub read_failed : (input : SourceState) → input.left ≡ now.input.left → Rose now.input.faults input.faults
+      → RunsPlayer (run_from shown playout before.out) ReadFault script.player before.input (record { input = input; out = now.out })
   read_failed input same rose =
       let allowed = so_far.allowed in
       record {
@@ -125,3 +128,23 @@ module _ (shown : Shown) (playout : Playout) (script : Script) (left : ℕ) (bef
         at_end = λ e. absurd (false≢true e);
         ends = (refl, omega (arith, allowed), taken_done (run_from shown playout before.out) script so_far.read now.out so_far.taken);
       }
+
+-- how a run ended, whatever player it leaves
+ends_as : (run : Run) (ending : Ending) (player : Player) (reading : Reading) (state : SinkState) → EndsWith run ending player reading state → EndsAs run ending reading state
+ends_as run Finished player reading state ends = ends.ends
+ends_as run Stopped player reading state ends = (ends.0, ends.1, ends.2.stops)
+ends_as run (BadLine number) player reading state ends = ends
+ends_as run TooLong player reading state ends = ends
+ends_as run ReadFault player reading state ends = ends
+ends_as run WriteFault player reading state ends = ends
+ends_as run Memory player reading state ends = ends
+
+pub runs_script : (shown : Shown) (playout : Playout) (ending : Ending) (player : Player) (before after : Streams)
+    → RunsPlayer (run_from shown playout before.out) ending player before.input after → RunsScript shown playout ending before after
+runs_script shown playout ending player before after runs = record {
+  reading = runs.reading;
+  gives = runs.gives;
+  faults = runs.faults;
+  at_end = runs.at_end;
+  ends = ends_as (run_from shown playout before.out) ending player runs.reading after.out runs.ends;
+}

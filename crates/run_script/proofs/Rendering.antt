@@ -73,6 +73,7 @@ module _ (player : Player) (stage : StageView) (scenes : List (List Drawn)) (rea
   for_each : (shows : Display) → ShowsLast shows (setup_in player) (events_in player) player.setup.media → HasSceneForEach shows scenes
   for_each (display.Frames renderer) last = scene_count ∙ sym (frame_count player renderer last.pictures.sizes)
   for_each display.Status last = tt
+  for_each display.Replies last = tt
 
   -- and as many frames, if there are any
   pub can_draw : CanDraw (record player { stage = stage; scenes = scenes })
@@ -136,8 +137,13 @@ module _ (player : Player) (stage : StageView) (scenes : List (List Drawn)) (rea
         → ShowsChannels is (record player { stage = stage; scenes = scenes; display = is })
     showing (display.Frames old) (display.Frames renderer) last from = record { scenes = scene_count; frames = last.pictures.sizes ∙ sym from.same_sizes }
     showing (display.Frames old) display.Status last from = absurd from
+    showing (display.Frames old) display.Replies last from = absurd from
     showing display.Status (display.Frames renderer) last from = absurd from
     showing display.Status display.Status last from = scene_count
+    showing display.Status display.Replies last from = absurd from
+    showing display.Replies (display.Frames renderer) last from = absurd from
+    showing display.Replies display.Status last from = absurd from
+    showing display.Replies display.Replies last from = tt
 
     pub can_show : CanShow after_tick
     can_show = showing player.display new ready.frames rendered
@@ -145,8 +151,13 @@ module _ (player : Player) (stage : StageView) (scenes : List (List Drawn)) (rea
     shown_still : (was is : Display) → IsRenderedFrom was player.setup.media scenes is → shown_by is ≡ shown_by was
     shown_still (display.Frames old) (display.Frames renderer) from = refl
     shown_still (display.Frames old) display.Status from = absurd from
+    shown_still (display.Frames old) display.Replies from = absurd from
     shown_still display.Status (display.Frames renderer) from = absurd from
     shown_still display.Status display.Status from = refl
+    shown_still display.Status display.Replies from = absurd from
+    shown_still display.Replies (display.Frames renderer) from = absurd from
+    shown_still display.Replies display.Status from = absurd from
+    shown_still display.Replies display.Replies from = refl
 
     -- ticks are told as before
     pub shown_kept : shown_by new ≡ shown_in player
@@ -157,8 +168,13 @@ module _ (player : Player) (stage : StageView) (scenes : List (List Drawn)) (rea
     showing_last (display.Frames old) (display.Frames renderer) last from =
         represents-tick (setup_in player) (events_in player) player.setup.media old renderer last (of_history old renderer last from)
     showing_last (display.Frames old) display.Status last from = absurd from
+    showing_last (display.Frames old) display.Replies last from = absurd from
     showing_last display.Status (display.Frames renderer) last from = absurd from
     showing_last display.Status display.Status last from = last
+    showing_last display.Status display.Replies last from = absurd from
+    showing_last display.Replies (display.Frames renderer) last from = absurd from
+    showing_last display.Replies display.Status last from = absurd from
+    showing_last display.Replies display.Replies last from = last
 
     -- the player goes on after the tick
     pub ready_after_tick : IsReady after_tick
@@ -178,8 +194,13 @@ module _ (player : Player) (stage : StageView) (scenes : List (List Drawn)) (rea
         → text_by is (record player { stage = stage; scenes = scenes; display = is }) tick ≡ shown_tick (shown_by was) (playout_in player) (events_in player)
     text_shown (display.Frames old) (display.Frames renderer) tick at last from = frames_of_tick old renderer last from tick at
     text_shown (display.Frames old) display.Status tick at last from = absurd from
+    text_shown (display.Frames old) display.Replies tick at last from = absurd from
     text_shown display.Status (display.Frames renderer) tick at last from = absurd from
     text_shown display.Status display.Status tick at last from = status_of_tick tick at
+    text_shown display.Status display.Replies tick at last from = absurd from
+    text_shown display.Replies (display.Frames renderer) tick at last from = absurd from
+    text_shown display.Replies display.Status tick at last from = absurd from
+    text_shown display.Replies display.Replies tick at last from = refl
 
     -- what is written for what is shown is what is written for the tick
     pub text_of_tick : (tick : ℕ) → tick ≡ ticks (events_in player) + 1 → display_text after_tick tick ≡ shown_tick (shown_in player) (playout_in player) (events_in player)

@@ -6,7 +6,7 @@ use Rattle.history_model.specs.scripts.Line.{ScriptLine, Comment, Ticks, Said, S
 use Rattle.history_model.specs.scripts.History.{Playout, PlayedLine, ends_at, goes_on, goes_on_after, script_events}
 use Rattle.history_model.specs.scripts.Output.{output_after, output_at, script_output, tick_output, ticks_output}
 use Rattle.history_model.proofs.Outputs.{first_goes_on, script_output-ended, script_output-none, script_output-snoc, ticks_output-none, ticks_output-snoc}
-use Rattle.run_script.specs.Shown.{Shown, Frames, Status, line_by, output_after_by, output_by, shown_line, shown_output, shown_tick, shown_ticks, tick_status, ticks_by}
+use Rattle.run_script.specs.Shown.{Shown, Frames, Status, Replies, line_by, no_text, output_after_by, output_by, shown_line, shown_output, shown_tick, shown_ticks, tick_status, ticks_by}
 
 last_text : (b : Bool) (text : List ℕ) → (text ++ cond b [] []) ≡ text
 last_text true text = append-nil text
@@ -51,11 +51,13 @@ pub shown_output-snoc : (shown : Shown) (playout : Playout) (lines : List Played
 unfolding output_by goes_on
 shown_output-snoc Frames playout lines line on = script_output-snoc playout lines line on
 shown_output-snoc Status playout lines line on = output_after_by-snoc (tick_status playout) playout [] lines line on
+shown_output-snoc Replies playout lines line on = output_after_by-snoc no_text playout [] lines line on
 
 pub shown_output-none : (shown : Shown) (playout : Playout) → shown_output shown playout [] ≡ []
 unfolding output_by output_after_by
 shown_output-none Frames playout = script_output-none playout
 shown_output-none Status playout = refl
+shown_output-none Replies playout = refl
 
 pub shown_output-ended : (shown : Shown) (playout : Playout) (lines : List PlayedLine) (line : PlayedLine) (rest : List PlayedLine) → goes_on playout lines ≡ true
     → ends_at playout lines line line.line ≡ true
@@ -64,12 +66,15 @@ unfolding output_by goes_on
 shown_output-ended Frames playout lines line rest on ends = script_output-ended playout lines line rest on ends
 shown_output-ended Status playout lines line rest on ends =
     output_after_by-ended (tick_status playout) playout [] lines line rest on ends ∙ output_after_by-snoc (tick_status playout) playout [] lines line on
+shown_output-ended Replies playout lines line rest on ends =
+    output_after_by-ended no_text playout [] lines line rest on ends ∙ output_after_by-snoc no_text playout [] lines line on
 
 -- a line of ticks
 pub ticks_line : (shown : Shown) (playout : Playout) (before : List PlayedLine) (line : PlayedLine) (count : ℕ)
     → shown_line shown playout before line (Ticks count) ≡ shown_ticks shown playout (script_events playout before) count
 ticks_line Frames playout before line count = refl
 ticks_line Status playout before line count = refl
+ticks_line Replies playout before line count = refl
 
 -- what is written for another line is the same however ticks are told
 pub said_line : (shown : Shown) (playout : Playout) (before : List PlayedLine) (line : PlayedLine) (said : ScriptLine) → ((count : ℕ) → said ≡ Ticks count → ⊥)
@@ -80,6 +85,11 @@ said_line Status playout before line (Ticks count) other = absurd (other count r
 said_line Status playout before line (Said tag text) other = refl
 said_line Status playout before line Stop other = refl
 said_line Status playout before line Rejected other = refl
+said_line Replies playout before line Comment other = refl
+said_line Replies playout before line (Ticks count) other = absurd (other count refl)
+said_line Replies playout before line (Said tag text) other = refl
+said_line Replies playout before line Stop other = refl
+said_line Replies playout before line Rejected other = refl
 
 ticks_by-snoc : (tick : List Event → List ℕ) (events : List Event) (count : ℕ) → ticks_by tick events (suc count) ≡ ticks_by tick events count ++ tick (events ++ replicate count event.Tick)
 unfolding ticks_by
@@ -95,11 +105,13 @@ pub shown_ticks-snoc : (shown : Shown) (playout : Playout) (events : List Event)
     → shown_ticks shown playout events (suc count) ≡ shown_ticks shown playout events count ++ shown_tick shown playout (events ++ replicate count event.Tick)
 shown_ticks-snoc Frames playout events count = ticks_output-snoc playout events count
 shown_ticks-snoc Status playout events count = ticks_by-snoc (tick_status playout) events count
+shown_ticks-snoc Replies playout events count = ticks_by-snoc no_text events count
 
 pub shown_ticks-none : (shown : Shown) (playout : Playout) (events : List Event) → shown_ticks shown playout events 0 ≡ []
 unfolding ticks_by
 shown_ticks-none Frames playout events = ticks_output-none playout events
 shown_ticks-none Status playout events = refl
+shown_ticks-none Replies playout events = refl
 
 frames_ticks : (playout : Playout) (events : List Event) (count : ℕ) → ticks_by (tick_output playout) events count ≡ ticks_output playout events count
 unfolding ticks_by ticks_output

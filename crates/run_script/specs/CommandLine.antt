@@ -1,10 +1,11 @@
 -- The words of the command line.
 use Rattle.std.specs.Prelude.{ℕ, ◌≤◌, unwrap_or, Bool, true, false, if◌then◌else◌, Option, Some, None, option_map, option_and_then, List, [], ◌∷◌, codes}
-use Rattle.std.specs.Str.{bytes_eq}
+use Rattle.std.specs.Str.{bytes_eq, chars}
 use Rattle.amcp_text.specs.Numbers.{number_within}
 use Rattle.play_types.specs.declared.geometry.Geometry.{Geometry}
 use Rattle.play_types.specs.declared.geometry.TheConstants.{MAX_SIDE}
 use Rattle.play_types.specs.Geometry.{IsSize}
+use Rattle.play_types.specs.RecNames.{rec_name_of}
 use Rattle.run_script.specs.declared.command_line.CommandLine as declared
 use Rattle.run_script.specs.declared.command_line.CommandLine.TheVariants as line
 use Rattle.run_script.specs.declared.command_line.TheConstants.{MAX_SEED, MAX_STEPS, MAX_WORKERS}
@@ -22,6 +23,8 @@ pub data CommandLine : Type 0 where
   Converted : CommandLine
   -- a cue sheet on the configuration at a path, given by its bytes, and whether frames are written as digests
   Planned : List ℕ → Bool → CommandLine
+  -- the film of a script on the configuration at a path, given by its bytes, that was recorded under a name in capitals
+  Recorded : List ℕ → List ℕ → CommandLine
 
 -- a width or a height
 abbrev pub side : List ℕ → Option ℕ
@@ -90,6 +93,20 @@ abbrev pub reported_of : List (List ℕ) → Option CommandLine
 reported_of (word ∷ path ∷ []) = if bytes_eq word (codes "--config") then Some (Configured Status path false) else None
 reported_of other = None
 
+-- the number of workers that the last words name, one if there are none
+abbrev pub last_workers : List (List ℕ) → Option ℕ
+last_workers [] = Some 1
+last_workers (option ∷ number ∷ []) = if bytes_eq option (codes "--workers") then workers number else None
+last_workers other = None
+
+-- the film that the words after `record` name: `--config`, a path and the name of a recording, after which `--workers N` may stand
+abbrev pub recorded_of : List (List ℕ) → Option CommandLine
+recorded_of (word ∷ path ∷ name ∷ rest) =
+    if bytes_eq word (codes "--config")
+    then option_and_then (λ (kept : List ℕ). option_map (λ (n : ℕ). Recorded path kept) (last_workers rest)) (rec_name_of (chars name))
+    else None
+recorded_of other = None
+
 -- what words name, by the first of them
 abbrev pub command_line_of : List (List ℕ) → Option CommandLine
 command_line_of [] = None
@@ -99,6 +116,7 @@ command_line_of (word ∷ rest) =
     else if bytes_eq word (codes "convert") then converted_of rest
     else if bytes_eq word (codes "plan") then planned_of rest
     else if bytes_eq word (codes "osc") then reported_of rest
+    else if bytes_eq word (codes "record") then recorded_of rest
     else None
 
 -- the command line that the code has, its path by its bytes
@@ -109,6 +127,7 @@ command_line_view (line.Generated seed steps) = Generated seed steps
 command_line_view line.Converted = Converted
 command_line_view (line.Planned path digests workers) = Planned path.now digests
 command_line_view (line.Reported path) = Configured Status path.now false
+command_line_view (line.Recorded path name workers) = Recorded path.now name
 
 -- a size in range, without sound, or a number of workers or of steps in range
 abbrev pub IsInRange : declared.CommandLine → Type 0
@@ -118,3 +137,4 @@ IsInRange (line.Generated seed steps) = steps ≤ MAX_STEPS
 IsInRange line.Converted = Unit {0}
 IsInRange (line.Planned path digests workers) = (1 ≤ workers) × (workers ≤ MAX_WORKERS)
 IsInRange (line.Reported path) = Unit {0}
+IsInRange (line.Recorded path name workers) = (1 ≤ workers) × (workers ≤ MAX_WORKERS)

@@ -6,5 +6,6 @@ pub mod Run
 pub mod Generating
 pub mod Converting
 pub mod Planning
+pub mod Recording
 pub mod Program
 pub mod inner

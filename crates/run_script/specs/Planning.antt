@@ -90,6 +90,7 @@ PlanEnds playout (Some faults.OutOfMemory) bytes before after =
     × ((after.out ≡ before.out)
     ⊎ ((sheet : SheetView) × IsSheetOf playout.config.rate bytes sheet before after
     × PlaysPart playout (script_of sheet) before.out after.out))
+PlanEnds playout (Some (faults.Record name)) bytes before after = ⊥
 PlanEnds playout (Some faults.Usage) bytes before after = ⊥
 PlanEnds playout (Some faults.ConfigText) bytes before after = ⊥
 PlanEnds playout (Some (faults.ConfigKey key)) bytes before after = ⊥

@@ -9,8 +9,10 @@ use Rattle.play_outside.specs.SinkState.{SinkState, after_taking}
 use Rattle.play_outside.specs.Sink.{Fails}
 use Rattle.history_model.specs.declared.limits.TheConstants.{MAX_INPUT_BYTES}
 use Rattle.history_model.specs.scripts.Line.{ScriptLine, Comment, Ticks, Said, Stop, Rejected, until_stop}
-use Rattle.history_model.specs.scripts.History.{Playout, PlayedLine, ends_at, goes_on}
+use Rattle.history_model.specs.recordings.Film.{film, film_span}
+use Rattle.history_model.specs.scripts.History.{Playout, PlayedLine, ends_at, goes_on, script_events, setup_of}
 use Rattle.history_model.specs.scripts.Input.{ended_lines}
+use Rattle.history_model.specs.scripts.Memory.{HasMemory}
 use Rattle.history_model.specs.scripts.Output.{plain_config}
 use Rattle.history_model.specs.scripts.Generator.{generator_output}
 use Rattle.play_types.specs.declared.geometry.Geometry.{Geometry}
@@ -20,7 +22,7 @@ use Rattle.run_script.specs.Ending.{exit_status, last_line, status_of, fault_lin
 use Rattle.server_setup.specs.declared.setup.ServerSetup.{ServerSetup}
 use Rattle.server_setup.specs.declared.fault.RunFault.{RunFault}
 use Rattle.server_setup.specs.declared.fault.RunFault.TheVariants.{Usage}
-use Rattle.run_script.specs.CommandLine.{CommandLine, Plain, Configured, Generated, Converted, Planned, command_line_of}
+use Rattle.run_script.specs.CommandLine.{CommandLine, Plain, Configured, Generated, Converted, Planned, Recorded, command_line_of}
 use Rattle.play_types.specs.ClipFile.{ClipView, clip_bytes}
 use Rattle.clip_format.specs.Decoding.{clip_of}
 use Rattle.clip_format.specs.Preparing.{straight_clip}
@@ -28,6 +30,7 @@ use Rattle.run_script.specs.declared.converting.TheConstants.{MAX_CLIP_BYTES}
 use Rattle.run_script.specs.Generating.{Generates}
 use Rattle.run_script.specs.Converting.{Converts}
 use Rattle.run_script.specs.Planning.{PlaysPlan, PlaysSheet}
+use Rattle.run_script.specs.Recording.{FilmRequest, RecordsFilm}
 use Rattle.play_schedule.specs.declared.limits.TheConstants.{MAX_SHEET_BYTES}
 use Rattle.play_schedule.specs.SheetView.{SheetView}
 use Rattle.play_schedule.specs.Sheet.{sheet_of}
@@ -125,6 +128,25 @@ pub record IsPlanned (path : List ℕ) (digests : Bool) (status : ℕ) (before a
   pub set_up : SetsUp path (Ok setup) before.media after.media
   pub run : EndsPlan (playout_of setup digests) status (streams_of before) (streams_of after)
 
+-- the film of the script of the input was written, or the output says why not
+pub record EndsRecord (request : FilmRequest) (status : ℕ) (before after : Streams) : Type 0 where
+  pub fault : Option RunFault
+  pub outcome : status ≡ exit_status fault
+  -- the output before the line of the fault
+  pub between : SinkState
+  pub recording : RecordsFilm request fault before (record { input = after.input; out = between })
+  pub said : WritesFaultLine (last_line fault) between after.out
+
+-- the film of a name in the history of a script on what was set up
+abbrev pub film_of : ServerSetup → List ℕ → FilmRequest
+film_of setup name = record { playout = playout_of setup false; name = name }
+
+-- a script was played for a film on the configuration of this path and the clips of its folder
+pub record IsRecorded (path name : List ℕ) (status : ℕ) (before after : Outside) : Type 0 where
+  pub setup : ServerSetup
+  pub set_up : SetsUp path (Ok setup) before.media after.media
+  pub run : EndsRecord (film_of setup name) status (streams_of before) (streams_of after)
+
 -- what a command line does
 abbrev pub RunsCommandLine : CommandLine → ℕ → Outside → Outside → Type 0
 RunsCommandLine (Plain size) status before after =
@@ -135,6 +157,8 @@ RunsCommandLine (Generated seed steps) status before after = EndsGenerated seed 
 RunsCommandLine Converted status before after = EndsConverted status before after
 RunsCommandLine (Planned path digests) status before after =
     IsRefused path status before after ⊎ IsPlanned path digests status before after
+RunsCommandLine (Recorded path name) status before after =
+    IsRefused path status before after ⊎ IsRecorded path name status before after
 
 -- the run ended at a line, which is the server's own stop or a kill, and the input was read at least to that line's end
 pub record EndsAtLine (playout : Playout) (played : List PlayedLine) (read rest : List ℕ) : Type 0 where
@@ -197,8 +221,29 @@ IsSheetPlayed playout before after =
     IfSome before.input.left (λ input. PlaysSheetInput playout input before after)
     × (after.input.faults ≡ before.input.faults) × (after.out.faults ≡ before.out.faults)
 
+-- the film of a script was written, and nothing else; the script was played with memory for each of its lines, and the input was read
+-- to its end, or to a line at which the run ends
+pub record WritesFilmOf (request : FilmRequest) (input : List ℕ) (before after : Streams) : Type 0 where
+  pub read : List ℕ
+  pub rest : List ℕ
+  pub parts : input ≡ read ++ rest
+  pub left : after.input.left ≡ Some rest
+  pub played : List PlayedLine
+  pub said : played_meanings played ≡ meanings (lines input)
+  pub ended : ((goes_on request.playout played ≡ true) × (rest ≡ [])) ⊎ EndsAtLine request.playout played read rest
+  pub memory : HasMemory request.playout played
+  pub clip : ClipView
+  pub found : film (setup_of request.playout) (script_events request.playout played) request.name ≡ Some clip
+  pub written : after.out ≡ after_taking before.out (clip_bytes clip)
+
+-- the film of the input was written, if its bytes are known, and no read or write failed
+abbrev pub IsFilmWritten : FilmRequest → Streams → Streams → Type 0
+IsFilmWritten request before after =
+    IfSome before.input.left (λ input. WritesFilmOf request input before after)
+    × (after.input.faults ≡ before.input.faults) × (after.out.faults ≡ before.out.faults)
+
 -- the input was played on what the command line names, or the script that it names was made and played, or the clip of the
--- input was converted, or its cue sheet was played
+-- input was converted, or its cue sheet was played, or its film was written
 abbrev pub PlaysToEnd : CommandLine → Outside → Outside → Type 0
 PlaysToEnd (Plain size) before after =
     (after.media ≡ before.media) × IsPlayed Frames (plain_playout size) (streams_of before) (streams_of after)
@@ -210,6 +255,9 @@ PlaysToEnd Converted before after = IsConverted before after
 PlaysToEnd (Planned path digests) before after =
     (setup : ServerSetup) × SetsUp path (Ok setup) before.media after.media
     × IsSheetPlayed (playout_of setup digests) (streams_of before) (streams_of after)
+PlaysToEnd (Recorded path name) before after =
+    (setup : ServerSetup) × SetsUp path (Ok setup) before.media after.media
+    × IsFilmWritten (film_of setup name) (streams_of before) (streams_of after)
 
 -- a read or a write of the input or of the output failed
 abbrev pub StreamsFail : Outside → Outside → Type 0
@@ -236,6 +284,8 @@ MeetsFirstFault (Generated seed steps) status before after = status ≢ 3
 MeetsFirstFault Converted status before after = status ≢ 3
 MeetsFirstFault (Planned path digests) status before after =
     IfSome before.media.files (λ files. MeetsFault (fault_of_files path files) status before after)
+MeetsFirstFault (Recorded path name) status before after =
+    IfSome before.media.files (λ files. MeetsFault (fault_of_files path files) status before after)
 
 -- what the command line names can be set up: with a configuration, if the files are known and have no fault, and no read of
 -- the folder fails
@@ -247,6 +297,9 @@ CanBeSetUp (Configured shown path digests) before after =
 CanBeSetUp (Generated seed steps) before after = Unit {0}
 CanBeSetUp Converted before after = Unit {0}
 CanBeSetUp (Planned path digests) before after =
+    (files : Files) × (before.media.files ≡ Some files) × (fault_of_files path files ≡ None)
+    × (Rose before.media.faults after.media.faults → ⊥)
+CanBeSetUp (Recorded path name) before after =
     (files : Files) × (before.media.files ≡ Some files) × (fault_of_files path files ≡ None)
     × (Rose before.media.faults after.media.faults → ⊥)
 
@@ -277,6 +330,18 @@ IsSheetInput path before after =
     × ((setup : ServerSetup) → SetsUp path (Ok setup) before.media after.media
     → (sheet : SheetView) × (sheet_of setup.config.rate bytes ≡ Ok sheet))
 
+-- however these bytes are played as a script, with memory for each of its lines, its history has a film of the name
+abbrev pub AlwaysHasFilm : FilmRequest → List ℕ → Type 0
+AlwaysHasFilm request bytes =
+    (played : List PlayedLine) → played_meanings played ≡ meanings (lines bytes) → HasMemory request.playout played
+    → film_span (script_events request.playout played) request.name ≢ None
+
+-- the input is valid, and its history on the configuration of this path has a film of the name
+abbrev pub IsFilmInput : List ℕ → List ℕ → Outside → Outside → Type 0
+IsFilmInput path name before after =
+    (valid : IsValid before.input)
+    × ((setup : ServerSetup) → SetsUp path (Ok setup) before.media after.media → AlwaysHasFilm (film_of setup name) valid.0)
+
 -- the input is what the command line takes: a made script takes none
 abbrev pub TakesInput : CommandLine → Outside → Outside → Type 0
 TakesInput (Plain size) before after = IsValid before.input
@@ -284,6 +349,7 @@ TakesInput (Configured shown path digests) before after = IsValid before.input
 TakesInput (Generated seed steps) before after = Unit {0}
 TakesInput Converted before after = IsClipInput before.input
 TakesInput (Planned path digests) before after = IsSheetInput path before after
+TakesInput (Recorded path name) before after = IsFilmInput path name before after
 
 -- what the input and the words ask for was done, with no fault of a device: only memory could run out
 abbrev pub SucceedsIfValid : CommandLine → ℕ → Outside → Outside → Type 0

@@ -5,7 +5,8 @@ use Rattle.play_outside.specs.Sink.{Fails}
 use Rattle.history_model.specs.scripts.Line.{ScriptLine, Rejected, meaning}
 use Rattle.history_model.specs.scripts.History.{Playout, PlayedLine, ends_at, goes_on}
 use Rattle.history_model.specs.scripts.Input.{received}
-use Rattle.run_script.specs.Shown.{Shown, shown_output}
+use Rattle.history_model.specs.scripts.Memory.{HasMemory}
+use Rattle.run_script.specs.Shown.{NeedsMemory, Shown, shown_output}
 
 -- a run: what its script is played on, how ticks are told, and the output before its first line
 pub record Run : Type 0 where
@@ -30,10 +31,12 @@ meanings lines = map meaning lines
 abbrev pub played_meanings : List PlayedLine → List ScriptLine
 played_meanings played = map (λ (one : PlayedLine). one.line) played
 
--- these lines were played, the run goes on after them, and their output was written
+-- these lines were played, the run goes on after them, and their output was written. If the run needs memory for its replies, none
+-- of them says that memory ran out
 pub record IsDone (run : Run) (lines : List (List ℕ)) (state : SinkState) : Type 0 where
   pub played : List PlayedLine
   pub said : played_meanings played ≡ meanings lines
+  pub memory : NeedsMemory run.shown → HasMemory run.playout played
   pub runs_on : goes_on run.playout played ≡ true
   pub written : state ≡ after_taking run.first (shown_output run.shown run.playout played)
 
@@ -49,13 +52,16 @@ pub record StopsAt (run : Run) (reading : Reading) (state : SinkState) : Type 0 
   pub at : IsAtLast run.playout reading
   pub accepted : at.last.line ≢ Rejected
   pub ends : ends_at run.playout at.before at.last at.last.line ≡ true
+  pub memory : NeedsMemory run.shown → HasMemory run.playout (at.before ++ at.last ∷ [])
   pub written : state ≡ after_taking run.first (shown_output run.shown run.playout (at.before ++ at.last ∷ []))
 
--- the last line, which has this number, is rejected, and the output of the lines before it was written
+-- the last line, which has this number, is rejected, and the output of the lines before it was written. If the run needs memory for
+-- its replies, none of those says that memory ran out
 pub record RejectsAt (run : Run) (reading : Reading) (number : ℕ) (state : SinkState) : Type 0 where
   pub at : IsAtLast run.playout reading
   pub rejected : at.last.line ≡ Rejected
   pub place : number ≡ length at.before + 1
+  pub memory : NeedsMemory run.shown → HasMemory run.playout at.before
   pub written : state ≡ after_taking run.first (shown_output run.shown run.playout at.before)
 
 -- a write of the output of the lines failed, at the last of them, and nothing was written after it

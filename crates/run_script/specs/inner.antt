@@ -9,3 +9,4 @@ pub mod Generator
 pub mod Made
 pub mod Reading
 pub mod Planned
+pub mod Recorded

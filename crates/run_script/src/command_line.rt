@@ -2,11 +2,11 @@
 ghost use Rattle.std.specs.Prelude.{◌≡◌, ◌≤◌, map, option_map, string_bytes, IfSome};
 ghost use Rattle.play_types.specs.Geometry.{IsSize};
 ghost use Rattle.amcp_text.specs.Numbers.{number_within};
-ghost use Rattle.run_script.specs.CommandLine.{IsInRange, command_line_of, command_line_view, converted_of, digests_of, generated_of, options_of, planned_of, run_of, size_of, workers_of, reported_of};
+ghost use Rattle.run_script.specs.CommandLine.{IsInRange, command_line_of, command_line_view, converted_of, digests_of, generated_of, last_workers, options_of, planned_of, recorded_of, run_of, size_of, workers_of, reported_of};
 ghost use Rattle.run_script.specs.declared.command_line.TheConstants.{MAX_SEED, MAX_WORKERS};
 
 use amcp_text::number_within;
-use play_types::{Geometry, MAX_SIDE};
+use play_types::{Geometry, MAX_SIDE, RecName};
 
 /// The most workers that the words may name.
 const MAX_WORKERS: u32 = 64;
@@ -54,13 +54,22 @@ pub enum CommandLine<'a> {
         /// The path of the configuration.
         path: &'a str,
     },
+    /// The film of a script on the channels and the clips of a configuration.
+    Recorded {
+        /// The path of the configuration.
+        path: &'a str,
+        /// The name of the recording.
+        name: RecName,
+        /// The number of threads that make the frames, 1 to 64.
+        workers: u32,
+    },
 }
 
 impl CommandLine<'_> {
     /// Returns what the words name: `run W H`, each number from 1 to 4,096; or `run --config PATH`, after which
     /// `--workers N`, a whole number from 1 to 64, and then `--digest` may follow; or `gen SEED N`, a whole number of 64
     /// bits and one from 1 to 100,000; or `convert`; or `plan --config PATH`, followed by what may follow `run --config PATH`;
-    /// or `osc --config PATH`.
+    /// or `osc --config PATH`; or `record --config PATH NAME`, the name of a recording, after which `--workers N` may follow.
     ///
     /// `None` comes exactly if the words are no command line. Without `--workers` there is one worker.
     pub fn read(words: &[String]) -> Option<CommandLine<'_>>
@@ -74,6 +83,7 @@ impl CommandLine<'_> {
             "convert" => converted_of(rest),
             "plan" => planned_of(rest),
             "osc" => reported_of(rest),
+            "record" => recorded_of(rest),
             _ => None,
         }
     }
@@ -223,6 +233,41 @@ fn reported_of(words: &[String]) -> Option<CommandLine<'_>>
         [config, path] if config.as_str() == "--config" => Some(CommandLine::Reported {
             path: path.as_str(),
         }),
+        _ => None,
+    }
+}
+
+/// Returns the film that the words after `record` name: `--config`, a path and the name of a recording, after which `--workers N` may
+/// follow.
+fn recorded_of(words: &[String]) -> Option<CommandLine<'_>>
+    ensures value { option_map command_line_view result ≡ recorded_of (map string_bytes words.now) }
+    ensures range { IfSome result IsInRange }
+{
+    match words {
+        [config, path, name, rest @ ..] if config.as_str() == "--config" => {
+            let name = RecName::read(name.as_str())?;
+            let workers = last_workers(rest)?;
+            Some(CommandLine::Recorded {
+                path: path.as_str(),
+                name,
+                workers,
+            })
+        }
+        _ => None,
+    }
+}
+
+/// Returns the number of workers that the last words name, and 1 if there are none.
+fn last_workers(words: &[String]) -> Option<u32>
+    ensures value { result ≡ last_workers (map string_bytes words.now) }
+    ensures some { IfSome result (λ count. 1 ≤ count) }
+    ensures few { IfSome result (λ count. count ≤ MAX_WORKERS) }
+{
+    match words {
+        [] => Some(1),
+        [option, number] if option.as_str() == "--workers" => {
+            number_within(1, MAX_WORKERS, number.as_bytes())
+        }
         _ => None,
     }
 }

@@ -9,4 +9,6 @@ pub enum Display {
     Frames(Renderer),
     /// The status of all channels. No frame is made.
     Status,
+    /// Nothing: replies alone are written. No frame is made.
+    Replies,
 }

@@ -1,4 +1,5 @@
-//! The ticks of a player: what each channel shows and sounds is made and written, or the status of each channel is written.
+//! The ticks of a player: what each channel shows and sounds is made and written, or the status of each channel is written, or
+//! nothing.
 ghost use Rattle.std.specs.Prelude.{◌≡◌, ◌+◌, ◌≤◌, ◌<◌, ◌∷◌, [], OnOk, replicate};
 ghost use Rattle.play_types.specs.History.{ticks};
 ghost use Rattle.play_types.specs.Scene.{IsConfigured};
@@ -17,7 +18,7 @@ use play_outside::{Sent, Sink};
 use std::thread::Threads;
 
 impl Player {
-    /// Makes the next `count` ticks, and writes their frames or the status after each.
+    /// Makes the next `count` ticks, and writes their frames or the status after each, or nothing.
     pub fn tick<R: Threads + Sync, K: Sink>(
         &mut self,
         rt: &R,
@@ -36,7 +37,7 @@ impl Player {
         Ok(())
     }
 
-    /// Makes the next tick, and writes the frames of all channels or the status after it.
+    /// Makes the next tick, and writes the frames of all channels or the status after it, or nothing.
     fn write_tick<R: Threads + Sync, K: Sink>(&mut self, rt: &R, out: &mut K) -> Result<(), Halt>
         requires ready { IsReady self.old }
         requires time { ticks (events_in self.old) < MAX_TICKS }
@@ -59,11 +60,11 @@ impl Player {
             Display::Frames(renderer) => {
                 renderer.render(rt, &self.scenes, &self.setup.media, &OpenGate);
             }
-            Display::Status => {}
+            Display::Status | Display::Replies => {}
         }
     }
 
-    /// Writes what is shown of the tick of this number: the frames of all channels, or the status after it.
+    /// Writes what is shown of the tick of this number: the frames of all channels, the status after it, or nothing.
     fn write_shown<K: Sink>(&self, tick: u64, out: &mut K) -> Result<(), Halt>
         requires { CanShow self.now }
         ensures { WritesText result (display_text self.now tick) (K.state out.old) (K.state out.new) }
@@ -71,6 +72,7 @@ impl Player {
         match &self.display {
             Display::Frames(renderer) => self.write_frames(renderer, tick, out),
             Display::Status => self.write_statuses(tick, out),
+            Display::Replies => Ok(()),
         }
     }
 

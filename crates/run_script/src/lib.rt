@@ -1,5 +1,5 @@
-//! Plays a script: lines of connections and of ticks in, replies and frames out. Plays cue sheets, makes scripts, and
-//! converts clips.
+//! Plays a script: lines of connections and of ticks in, replies and frames out. Plays cue sheets, makes scripts,
+//! converts clips, and writes the films that were recorded.
 //!
 //! [`run_main`] is the whole of the program `playrun` but for its devices, which it is given. It reads the words of the
 //! command line, sets up the channels and the clips, plays the script line by line, and returns the exit status. Its
@@ -24,6 +24,7 @@ mod planning;
 mod player;
 mod program;
 mod reading;
+mod recording;
 mod reply;
 mod reporting;
 mod run;

@@ -14,6 +14,7 @@ ghost use Rattle.run_script.specs.inner.Ticks.{ticks_per_byte};
 use crate::ending::Halt;
 use crate::plain::generator_setup;
 use crate::player::Player;
+use crate::reply::is_of_memory;
 use crate::vec_sink::VecSink;
 use play_types::Reply;
 use sha2::{Digest, Sha256};
@@ -79,11 +80,10 @@ impl MadeRun {
         ensures hasher { self.new.hasher ≡ self.old.hasher }
         ensures counts { CountsReply reply.now result self.old.refused self.new.refused }
     {
-        let code = code_of(reply);
-        if code == 500 || code == 501 {
+        if !is_of_memory(reply) {
             return Err(Halt::Memory);
         }
-        if code >= 400 {
+        if code_of(reply) >= 400 {
             self.refused += 1;
         }
         Ok(())

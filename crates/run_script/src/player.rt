@@ -1,5 +1,5 @@
 //! The player: the stage with the history so far, the frames, and the connections that ask for it.
-ghost use Rattle.std.specs.Prelude.{◌≡◌, ◌≢◌, ℕ, ◌+◌, ◌*◌, ◌≤◌, ◌∷◌, List, [], IfOk, OnOk, Option, false, true, length};
+ghost use Rattle.std.specs.Prelude.{◌≡◌, ◌≢◌, ℕ, ◌+◌, ◌*◌, ◌≤◌, ◌∷◌, List, [], IfOk, IsTrue, OnOk, Option, ◌↔◌, false, true, length};
 ghost use Rattle.std.specs.List.{list_any};
 ghost use Rattle.amcp_text.specs.Lines.{is_line_end};
 ghost use Rattle.play_types.specs.History.{ticks};
@@ -15,15 +15,15 @@ ghost use Rattle.play_session.specs.Step.{gives_up, viewed};
 ghost use Rattle.play_session.specs.Session.{Fits};
 ghost use Rattle.run_script.specs.Program.{playout_of};
 ghost use Rattle.run_script.specs.inner.Clients.{batch_of};
-ghost use Rattle.run_script.specs.inner.Player.{DoesRequest, FollowsStep, IsGoingOn, IsReady, MakesEvents, PlaysLine, RepliesTo, Represents, WritesReply, batch_request, command_request, events_in, IsNew, shown_by};
+ghost use Rattle.run_script.specs.inner.Player.{DoesRequest, FollowsStep, IsGoingOn, IsReady, MakesEvents, PlaysLine, RepliesTo, Represents, WritesReply, answering, batch_request, command_request, events_in, IsNew, shown_by, shown_in};
 ghost use Rattle.run_script.specs.inner.Ticks.{ticks_per_byte};
-ghost use Rattle.run_script.specs.Shown.{Shown, Frames, Status};
+ghost use Rattle.run_script.specs.Shown.{Shown, Frames, Status, Replies, NeedsMemory};
 
 use crate::clients::Clients;
 use crate::display::Display;
 use crate::ending::{Halt, written};
 use crate::line::{Line, meaning};
-use crate::reply::send_tagged_reply;
+use crate::reply::{is_of_memory, send_tagged_reply};
 use crate::teller::Teller;
 use amcp_text::ReqToken;
 use band_render::Renderer;
@@ -80,6 +80,16 @@ impl Player {
         ensures represents { IfOk result (λ player. Represents Status (playout_of setup false) player []) }
     {
         Player::with_display(alloc, setup, false, Display::Status)
+    }
+
+    /// Returns a player that writes replies alone, and has no connection. It takes the room for the live places and the scenes of
+    /// all channels. A run of it stops at a reply that says that memory ran out, which is not written.
+    pub fn replying(alloc: Global, setup: ServerSetup) -> Result<Player, AllocError>
+        ensures ready { IfOk result IsReady }
+        ensures empty { IfOk result (λ player. events_in player ≡ []) }
+        ensures represents { IfOk result (λ player. Represents Replies (playout_of setup false) player []) }
+    {
+        Player::with_display(alloc, setup, false, Display::Replies)
     }
 
     /// Returns a player that has no connection and has shown nothing yet.
@@ -260,7 +270,18 @@ impl Player {
         self.stage.stop(tag).unwrap();
     }
 
-    /// Writes the reply to a connection's line with this token, or without one, and hands it back.
+    /// Returns whether the run stops at a reply that says that memory ran out.
+    fn needs_memory(&self) -> bool
+        ensures { IsTrue result ↔ NeedsMemory (shown_in self.now) }
+    {
+        match &self.display {
+            Display::Frames(_) | Display::Status => false,
+            Display::Replies => true,
+        }
+    }
+
+    /// Writes the reply to a connection's line with this token, or without one, and hands it back. If ticks are not told, a reply
+    /// that says that memory ran out is not written, and the run stops.
     fn write_reply<K: Sink>(
         &self,
         tag: Tag,
@@ -269,10 +290,13 @@ impl Player {
         out: &mut K,
     ) -> Result<Option<Reply>, Halt>
         requires { IsReplyTo self.now.setup.config reply }
-        ensures { WritesReply reply result
+        ensures { WritesReply (answering self.now reply) result
             (tagged_lines tag (answer_lines self.now.setup.config self.now.setup.names token reply))
             (K.state out.old) (K.state out.new) }
     {
+        if self.needs_memory() && !is_of_memory(&reply) {
+            return Err(Halt::Memory);
+        }
         let setup = &self.setup;
         written(send_tagged_reply(
             tag,

@@ -11,6 +11,7 @@ use crate::frame_options::FrameOptions;
 use crate::generating::generate;
 use crate::plain::plain_setup;
 use crate::planning::plan;
+use crate::recording::{FilmOptions, record};
 use crate::reporting::report;
 use crate::run::run;
 use crate::teller::{Silent, Teller};
@@ -26,7 +27,7 @@ const ONE_WORKER: FrameOptions = FrameOptions {
 };
 
 /// Plays a script: reads it from the input, and writes the replies and the frames. Or makes a script, plays it and writes
-/// its summary; or converts a clip; or plays a cue sheet.
+/// its summary; or converts a clip; or plays a cue sheet; or plays a script and writes a film that was recorded in it.
 ///
 /// The words are `run W H`, a width and a height from 1 to 4,096: one channel of that size, without sound and without
 /// clips. Or they are `run --config FILE`, after which `--workers N`, a number from 1 to 64, and then `--digest` may
@@ -47,6 +48,12 @@ const ONE_WORKER: FrameOptions = FrameOptions {
 /// place of its frames, which are not made: a line `O t` with the bytes of an OSC message in hexadecimal for the ticks of each
 /// channel, and three for each layer that has a foreground.
 ///
+/// The words `record --config FILE NAME`, a name of a recording as `ADD c FILE NAME` takes it, after which `--workers N` may follow,
+/// play a script on the configuration in that file, with nothing written, and then write the clip file of the film that was recorded
+/// under the name: the ticks of a channel behind the first such `ADD` that is accepted, up to the next accepted mark of the channel
+/// or to the end of the history. A line that would be answered with 500 or 501 ends the run with status 5. The number of threads
+/// changes nothing that is written.
+///
 /// The words are tested first, then the configuration is read and tested, then the clips are read, and then the script is
 /// played. The first cause that is met gives the exit status, which is returned.
 ///
@@ -58,6 +65,7 @@ const ONE_WORKER: FrameOptions = FrameOptions {
 /// | 2 | a line was received that says nothing that a script may say, or more than 4,294,967,296 bytes were read | `E line n`, `E input too long` |
 /// | 2 | more than 1,073,741,824 bytes were read to convert them, or `decode` refuses them | `E input too long`, `E clip magic`, `E clip version`, `E clip field n`, `E clip short n m`, `E clip long n` |
 /// | 2 | more than 268,435,456 bytes were read of a cue sheet, or `read_sheet` refuses them | `E input too long`, `E plan n`, `E plan end` |
+/// | 2 | the history of the script has no film of the name, which is written in capitals | `E record NAME` |
 /// | 3 | two clip files have one name, or the clip files are too large | `E media twice NAME`, `E media total n` |
 /// | 4 | a read or a write failed | `E device` |
 /// | 5 | memory ran out, also for a line of a script that is made | `E memory` |
@@ -84,8 +92,8 @@ pub fn run_main<R: Threads + Sync, I: Source, M: MediaDir, O: Sink>(
     run_and_tell(rt, alloc, words, input, media, out, &mut Silent)
 }
 
-/// Does what [`run_main`] does, and tells for which words the lines of a script are refused, and what is
-/// wrong with a cue sheet that is refused. What is told changes nothing that is read
+/// Does what [`run_main`] does, and tells for which words the lines of a script are refused, what is wrong with a cue sheet that is
+/// refused, and how far the writing of a film is. What is told changes nothing that is read
 /// or written, and not the status.
 pub fn run_and_tell<R: Threads + Sync, I: Source, M: MediaDir, O: Sink, T: Teller>(
     rt: &R,
@@ -152,6 +160,15 @@ fn play<R: Threads + Sync, I: Source, M: MediaDir, O: Sink, T: Teller>(
             let setup = set_up(rt, alloc, path, media)?;
             let options = FrameOptions { digests, workers };
             plan(rt, alloc, setup, options, input, out, teller)
+        }
+        CommandLine::Recorded {
+            path,
+            name,
+            workers,
+        } => {
+            let setup = set_up(rt, alloc, path, media)?;
+            let options = FilmOptions { name, workers };
+            record(rt, alloc, setup, options, input, out, teller)
         }
     }
 }

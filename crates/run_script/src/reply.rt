@@ -1,5 +1,6 @@
 //! Replies to the connections of a script.
-ghost use Rattle.std.specs.Prelude.{option_map};
+ghost use Rattle.std.specs.Prelude.{◌↔◌, IsTrue, option_map};
+ghost use Rattle.history_model.specs.scripts.Memory.{IsOfMemory};
 ghost use Rattle.history_model.specs.text.Replies.{IsReplyTo, answer_lines};
 ghost use Rattle.history_model.specs.scripts.Output.{tagged_lines};
 ghost use Rattle.play_outside.specs.Sink.{Sends};
@@ -39,4 +40,20 @@ pub fn send_tagged_reply<K: Sink>(
         b"\n",
         out,
     )
+}
+
+/// Returns whether a reply does not say that memory ran out, as those of 500 and 501 do.
+pub fn is_of_memory(reply: &Reply) -> bool
+    ensures { IsTrue result ↔ IsOfMemory reply.now }
+{
+    match reply {
+        Reply::Done(_)
+        | Reply::Value(_)
+        | Reply::Info(_)
+        | Reply::Cls
+        | Reply::Version
+        | Reply::Unknown(_) => true,
+        Reply::Refused(code, _) => *code != 501,
+        Reply::NoMemory => false,
+    }
 }

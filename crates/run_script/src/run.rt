@@ -4,7 +4,7 @@ ghost use Rattle.run_script.specs.Script.{Run};
 ghost use Rattle.run_script.specs.Run.{RunsScript};
 ghost use Rattle.run_script.specs.Program.{playout_of};
 ghost use Rattle.run_script.specs.inner.Player.{IsReady, Represents, events_in, playout_in, shown_in};
-ghost use Rattle.run_script.specs.inner.Taken.{HasTaken, ReadsOn};
+ghost use Rattle.run_script.specs.inner.Taken.{HasTaken, ReadsOn, RunsPlayer, run_by};
 ghost use Rattle.run_script.specs.inner.Ticks.{ticks_due, ticks_per_byte};
 ghost use Rattle.run_script.specs.Shown.{Frames};
 
@@ -89,12 +89,31 @@ pub fn play_input<R: Threads + Sync, I: Source, K: Sink, T: Teller>(
         (record { input = I.state input.new; out = K.state out.new }) }
 {
     let mut script = Script::new(alloc, player);
+    play_script(rt, alloc, &mut script, input, out, teller)
+}
+
+/// Reads a script to its end, and does what its lines say. Nothing of it was taken before. If the run ends well, the player of the
+/// script has the history of the lines that were played.
+pub fn play_script<R: Threads + Sync, I: Source, K: Sink, T: Teller>(
+    rt: &R,
+    alloc: Global,
+    script: &mut Script,
+    input: &mut I,
+    out: &mut K,
+    teller: &mut T,
+) -> Ending
+    requires ready { IsReady script.old.player }
+    requires small { (ticks_due script.old ≡ 0) × (script.old.lines ≡ 0) }
+    requires new { HasTaken (run_by script.old.player (K.state out.old)) script.old [] (K.state out.old) }
+    ensures { RunsPlayer (run_by script.old.player (K.state out.old)) result script.new.player (I.state input.old)
+        (record { input = I.state input.new; out = K.state out.new }) }
+{
     let mut left = MAX_INPUT_BYTES;
     let mut buffer = [0u8; PIECE_BYTES];
     'pieces: loop {
         match input.read(&mut buffer) {
             ReadStep::Got(count) => {
-                match take_piece(rt, &mut script, alloc, left, &buffer[..count], out, teller) {
+                match take_piece(rt, script, alloc, left, &buffer[..count], out, teller) {
                     Ok(rest) => left = rest,
                     Err(ending) => return ending,
                 }

@@ -4,10 +4,9 @@ ghost use Rattle.play_types.specs.History.{ticks};
 ghost use Rattle.play_types.specs.declared.event.TheConstants.{MAX_TICKS};
 ghost use Rattle.play_outside.specs.SinkState.{SinkState};
 ghost use Rattle.history_model.specs.declared.limits.TheConstants.{MAX_INPUT_BYTES, MAX_TICKS_PER_LINE};
-ghost use Rattle.run_script.specs.Run.{EndsAs};
 ghost use Rattle.run_script.specs.Script.{Run};
 ghost use Rattle.run_script.specs.inner.Player.{IsReady, events_in, Represents};
-ghost use Rattle.run_script.specs.inner.Taken.{HasTaken, TakesBytes, TakesPiece};
+ghost use Rattle.run_script.specs.inner.Taken.{EndsWith, HasTaken, TakesBytes, TakesPiece};
 ghost use Rattle.run_script.specs.inner.Ticks.{ticks_due, ticks_per_byte};
 
 use crate::ending::{Ending, Halt};
@@ -86,7 +85,7 @@ impl Script {
         requires time { ticks (events_in self.old.player) + MAX_TICKS_PER_LINE ≤ MAX_TICKS }
         requires lines { self.old.lines < 2 ^ 63 }
         ensures { (run : Run) (bytes : List ℕ) → HasTaken run self.old bytes (K.state out.old) → length bytes ≤ MAX_INPUT_BYTES
-            → EndsAs run result (record { bytes = bytes; ended = true }) (K.state out.new) }
+            → EndsWith run result self.new.player (record { bytes = bytes; ended = true }) (K.state out.new) }
     {
         if self.waiting.is_empty() {
             return Ending::Finished;

@@ -1,5 +1,6 @@
 //! What is told of a run beside its output.
 
+use play_recorder::Watcher;
 use play_schedule::LineFault;
 
 /// What tells a person of a run beside its output. It is told things, and changes nothing that is read or written.
@@ -16,6 +17,22 @@ pub trait Teller {
 
     /// Takes that a cue sheet has no END, for which the run ends.
     fn tell_no_end(&mut self);
+
+    /// Takes how far the writing of a film is: `ticks` ticks of the history were made again, of `all` up to the last recorded one, and
+    /// `frames` frames of the film were written.
+    fn tell_film(&mut self, _ticks: u64, _all: u64, _frames: u32) {}
+}
+
+/// A teller that watches how a film is written.
+#[derive(Drop)]
+pub struct FilmWatcher<'a, T> {
+    pub teller: &'a mut T,
+}
+
+impl<T: Teller> Watcher for FilmWatcher<'_, T> {
+    fn watch(&mut self, ticks: u64, all: u64, frames: u32) {
+        self.teller.tell_film(ticks, all, frames);
+    }
 }
 
 /// A teller that tells nothing.

@@ -6,12 +6,13 @@ use Rattle.server_setup.specs.declared.fault.RunFault.{RunFault}
 use Rattle.server_setup.specs.Setup.{SetsUp}
 use Rattle.run_script.specs.declared.ending.Ending.{Ending}
 use Rattle.run_script.specs.Ending.{fault_in, fault_of}
-use Rattle.run_script.specs.CommandLine.{CommandLine, Plain, Configured, Generated, Converted, Planned}
+use Rattle.run_script.specs.CommandLine.{CommandLine, Plain, Configured, Generated, Converted, Planned, Recorded}
 use Rattle.run_script.specs.Generating.{Generates}
 use Rattle.run_script.specs.Converting.{Converts}
 use Rattle.run_script.specs.Planning.{PlaysPlan}
+use Rattle.run_script.specs.Recording.{RecordsFilm}
 use Rattle.run_script.specs.Run.{Streams, RunsScript}
-use Rattle.run_script.specs.Program.{Outside, streams_of, plain_playout, playout_of}
+use Rattle.run_script.specs.Program.{Outside, film_of, streams_of, plain_playout, playout_of}
 use Rattle.run_script.specs.Shown.{Shown, Frames}
 
 -- a script was run, with this outcome
@@ -42,3 +43,7 @@ PlaysCommandLine (Planned path digests) outcome before after =
     RefusesPath path outcome before after
     ⊎ ((setup : ServerSetup) × SetsUp path (Ok setup) before.media after.media
     × PlaysPlan (playout_of setup digests) (fault_in outcome) (streams_of before) (streams_of after))
+PlaysCommandLine (Recorded path name) outcome before after =
+    RefusesPath path outcome before after
+    ⊎ ((setup : ServerSetup) × SetsUp path (Ok setup) before.media after.media
+    × RecordsFilm (film_of setup name) (fault_in outcome) (streams_of before) (streams_of after))

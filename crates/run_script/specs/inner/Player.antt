@@ -17,7 +17,7 @@ use Rattle.play_outside.specs.Sink.{Fails}
 use Rattle.history_model.specs.pictures.Media.{Setup}
 use Rattle.history_model.specs.scripts.Line.{ScriptLine, Rejected}
 use Rattle.history_model.specs.scripts.History.{Playout, PlayedLine, Turn, ends_at, is_kill, script_events, setup_of, step_events, verdict, verdict_events}
-use Rattle.history_model.specs.scripts.Memory.{reply_at}
+use Rattle.history_model.specs.scripts.Memory.{IsNoneOrOfMemory, IsOfMemory, reply_at}
 use Rattle.history_model.specs.scripts.Output.{answer_output, channel_output, step_reply, verdict_reply}
 use Rattle.history_model.specs.sessions.Session.{Step}
 use Rattle.history_model.specs.stage.Acts.{is_refused}
@@ -32,7 +32,7 @@ use Rattle.run_script.specs.declared.ending.Halt.{Halt}
 use Rattle.run_script.specs.declared.ending.Halt.TheVariants as halt
 use Rattle.run_script.specs.declared.player.Player.{Player}
 use Rattle.run_script.specs.inner.Clients.{AreClients, HaveAimedBatches}
-use Rattle.run_script.specs.Shown.{Shown, Frames, Status, shown_line}
+use Rattle.run_script.specs.Shown.{Shown, Frames, Status, Replies, NeedsMemory, shown_line}
 use Rattle.run_script.specs.declared.display.Display.{Display}
 use Rattle.run_script.specs.declared.display.Display.TheVariants as display
 use Rattle.clip_format.specs.Table.{Entry}
@@ -54,6 +54,7 @@ setup_in player = setup_of (playout_in player)
 abbrev pub shown_by : Display → Shown
 shown_by (display.Frames renderer) = Frames
 shown_by display.Status = Status
+shown_by display.Replies = Replies
 
 -- how the player tells ticks
 abbrev pub shown_in : Player → Shown
@@ -63,11 +64,13 @@ shown_in player = shown_by player.display
 abbrev pub ShowsLast : Display → Setup → List Event → List Entry → Type 0
 ShowsLast (display.Frames renderer) setup events media = frames.Represents setup events media renderer
 ShowsLast display.Status setup events media = Unit {0}
+ShowsLast display.Replies setup events media = Unit {0}
 
 -- what shows nothing yet: zero frames, if there are any
 abbrev pub IsNew : Display → ConfigView → Type 0
 IsNew (display.Frames renderer) config = renderer ≡ map zero_frame config.channels
 IsNew display.Status config = Unit {0}
+IsNew display.Replies config = Unit {0}
 
 -- the history so far: the journal of the stage
 abbrev pub events_in : Player → List Event
@@ -95,6 +98,11 @@ pub record MakesEvents (events : List Event) (old new : Player) : Type 0 where
   pub clients : new.clients ≡ old.clients
   pub history : events_in new ≡ events_in old ++ events
 
+-- the player has the history of the lines, on what they were played
+pub record HasHistory (playout : Playout) (played : List PlayedLine) (player : Player) : Type 0 where
+  pub on : playout_in player ≡ playout
+  pub events : events_in player ≡ script_events playout played
+
 -- the player is if the lines put it: it has their history, and serves their connections
 pub record Represents (shown : Shown) (playout : Playout) (player : Player) (played : List PlayedLine) : Type 0 where
   pub shows : shown_in player ≡ shown
@@ -110,13 +118,25 @@ WritesText (Err halt.Memory) text before after = ⊥
 WritesText (Err halt.Stop) text before after = ⊥
 WritesText (Err halt.Rejected) text before after = ⊥
 
--- the text of a reply was written, and the reply is handed back; or a write of it failed
-abbrev pub WritesReply : Reply → Result (Option Reply) Halt → List ℕ → SinkState → SinkState → Type 0
-WritesReply answer (Ok replied) text before after = (replied ≡ Some answer) × (after ≡ after_taking before text)
-WritesReply answer (Err halt.Write) text before after = Fails text before after
-WritesReply answer (Err halt.Memory) text before after = ⊥
-WritesReply answer (Err halt.Stop) text before after = ⊥
-WritesReply answer (Err halt.Rejected) text before after = ⊥
+-- a reply, and how the player that gives it tells ticks
+pub record Answering : Type 0 where
+  pub answer : Reply
+  pub shown : Shown
+
+-- a reply of a player
+abbrev pub answering : Player → Reply → Answering
+answering player answer = record { answer = answer; shown = shown_in player }
+
+-- the text of a reply was written, and the reply is handed back; or a write of it failed; or it is one that says that memory ran
+-- out, at which the run stops, and nothing was written
+abbrev pub WritesReply : Answering → Result (Option Reply) Halt → List ℕ → SinkState → SinkState → Type 0
+WritesReply one (Ok replied) text before after =
+    (replied ≡ Some one.answer) × (after ≡ after_taking before text) × (NeedsMemory one.shown → IsOfMemory one.answer)
+WritesReply one (Err halt.Write) text before after = Fails text before after
+WritesReply one (Err halt.Memory) text before after =
+    NeedsMemory one.shown × (IsOfMemory one.answer → ⊥) × (after ≡ before)
+WritesReply one (Err halt.Stop) text before after = ⊥
+WritesReply one (Err halt.Rejected) text before after = ⊥
 
 -- the scenes and the frames are those of the channels that are configured
 pub record FitsChannels (player : Player) (renderer : List FrameView) : Type 0 where
@@ -136,6 +156,7 @@ frame_texts player renderer tick = flat_map (frame_text player renderer tick) (r
 abbrev pub HasSceneForEach : Display → List (List Drawn) → Type 0
 HasSceneForEach (display.Frames renderer) scenes = length scenes ≡ length renderer
 HasSceneForEach display.Status scenes = Unit {0}
+HasSceneForEach display.Replies scenes = Unit {0}
 
 abbrev pub CanDraw : Player → Type 0
 CanDraw player = HasSceneForEach player.display player.scenes
@@ -144,8 +165,13 @@ CanDraw player = HasSceneForEach player.display player.scenes
 abbrev pub IsRenderedFrom : Display → List Entry → List (List Drawn) → Display → Type 0
 IsRenderedFrom (display.Frames old) media scenes (display.Frames new) = AreRendered old media scenes new
 IsRenderedFrom (display.Frames old) media scenes display.Status = ⊥
+IsRenderedFrom (display.Frames old) media scenes display.Replies = ⊥
 IsRenderedFrom display.Status media scenes (display.Frames new) = ⊥
 IsRenderedFrom display.Status media scenes display.Status = Unit {0}
+IsRenderedFrom display.Status media scenes display.Replies = ⊥
+IsRenderedFrom display.Replies media scenes (display.Frames new) = ⊥
+IsRenderedFrom display.Replies media scenes display.Status = ⊥
+IsRenderedFrom display.Replies media scenes display.Replies = Unit {0}
 
 abbrev pub IsDrawn : Player → Display → Type 0
 IsDrawn player new = IsRenderedFrom player.display player.setup.media player.scenes new
@@ -154,6 +180,7 @@ IsDrawn player new = IsRenderedFrom player.display player.setup.media player.sce
 abbrev pub ShowsChannels : Display → Player → Type 0
 ShowsChannels (display.Frames renderer) player = FitsChannels player renderer
 ShowsChannels display.Status player = length player.scenes ≡ channels_in player
+ShowsChannels display.Replies player = Unit {0}
 
 abbrev pub CanShow : Player → Type 0
 CanShow player = ShowsChannels player.display player
@@ -182,6 +209,7 @@ statuses_text player count = flat_map (channel_status player count) (range_with_
 abbrev pub text_by : Display → Player → ℕ → List ℕ
 text_by (display.Frames renderer) player tick = frame_texts player renderer tick
 text_by display.Status player tick = statuses_text player tick
+text_by display.Replies player tick = []
 
 abbrev pub display_text : Player → ℕ → List ℕ
 display_text player tick = text_by player.display player tick
@@ -241,8 +269,9 @@ pub record DoesRequest (tag : Tag) (request : Request) (found : Reply) (old new 
   pub replies : found ≡ verdict_reply request.name request.answer (verdict (turn_in old tag no_memory) request.commands)
   pub makes : MakesEvents (verdict_events request.event (verdict (turn_in old tag no_memory) request.commands)) old new
 
--- a step of a connection, none if that has ended before, when the stage is asked, and the token of its line
+-- a step of a connection, none if that has ended before, when the stage is asked, and the token of its line; and how ticks are told
 pub record NextStep : Type 0 where
+  pub shown : Shown
   pub turn : Turn
   pub step : Option Step
   pub token : Option (List ℕ)
@@ -251,15 +280,21 @@ pub record NextStep : Type 0 where
 abbrev pub step_text : NextStep → List ℕ
 step_text next = answer_output next.turn.playout next.turn.tag next.token (step_reply next.turn next.step)
 
--- the step was followed with this reply, if there is one, and the run goes on; or it ends at a kill, or a write of the reply failed
+-- the reply to the step, if there is one, may be written
+abbrev pub MayReply : NextStep → Type 0
+MayReply next = NeedsMemory next.shown → IsNoneOrOfMemory (step_reply next.turn next.step)
+
+-- the step was followed with this reply, if there is one, and the run goes on; or it ends at a kill; or a write of the reply failed;
+-- or the run stops at the reply, which was not written
 abbrev pub IsFollowed : NextStep → Result (Option Reply) Halt → List Event → SinkState → SinkState → Type 0
 IsFollowed next (Ok replied) made before after =
     (is_kill next.step ≡ false) × (made ≡ step_events next.turn next.step) × (after ≡ after_taking before (step_text next))
-    × (replied ≡ step_reply next.turn next.step)
+    × (replied ≡ step_reply next.turn next.step) × MayReply next
 IsFollowed next (Err halt.Stop) made before after =
     (is_kill next.step ≡ true) × (made ≡ step_events next.turn next.step) × (after ≡ after_taking before (step_text next))
+    × MayReply next
 IsFollowed next (Err halt.Write) made before after = Fails (step_text next) before after
-IsFollowed next (Err halt.Memory) made before after = ⊥
+IsFollowed next (Err halt.Memory) made before after = NeedsMemory next.shown × (after ≡ before)
 IsFollowed next (Err halt.Rejected) made before after = ⊥
 
 -- a step that a connection of the player gave, none if that has ended before, and the token of its line
@@ -269,12 +304,21 @@ pub record Given : Type 0 where
   pub step : Option Step
   pub token : Option (List ℕ)
 
+-- the step when the stage is asked, which has memory for what it asks or not
+abbrev pub step_in_turn : Given → Bool → NextStep
+step_in_turn given no_memory = record {
+  shown = shown_in given.player;
+  turn = turn_in given.player given.tag no_memory;
+  step = given.step;
+  token = given.token;
+}
+
 -- the step was followed: it made these events, and the stage had memory for what it asks or not
 pub record FollowsStep (given : Given) (result : Result (Option Reply) Halt) (new : Player) (before after : SinkState) : Type 0 where
   pub no_memory : Bool
   pub made : List Event
   pub makes : MakesEvents made given.player new
-  pub follows : IsFollowed (record { turn = turn_in given.player given.tag no_memory; step = given.step; token = given.token }) result made before after
+  pub follows : IsFollowed (step_in_turn given no_memory) result made before after
 
 -- a line of a script after those that were played before it
 pub record NextLine : Type 0 where
@@ -315,6 +359,7 @@ pub record IsLineDone (next : NextLine) (replied : Option Reply) (player : Playe
   pub goes_on : ends_run next marks ≡ false
   pub represents : Represents next.shown next.playout player (next.before ++ played_line next marks ∷ [])
   pub replies : replied ≡ line_reply next marks
+  pub memory : NeedsMemory next.shown → IsNoneOrOfMemory (line_reply next marks)
   pub written : after ≡ after_taking before (line_text next marks)
 
 -- all that the line says was done, the run ends, and the history ends with a stop
@@ -322,7 +367,8 @@ pub record IsLastLine (next : NextLine) (player : Player) (before after : SinkSt
   pub marks : Marks
   pub accepted : next.line ≢ Rejected
   pub ends : ends_run next marks ≡ true
-  pub history : events_in player ≡ script_events next.playout (next.before ++ played_line next marks ∷ [])
+  pub history : HasHistory next.playout (next.before ++ played_line next marks ∷ []) player
+  pub memory : NeedsMemory next.shown → IsNoneOrOfMemory (line_reply next marks)
   pub written : after ≡ after_taking before (line_text next marks)
 
 -- a write of what the line says failed

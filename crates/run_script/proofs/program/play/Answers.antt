@@ -44,3 +44,15 @@ returns-in_ok-setup-in-Reported g c = rw c.in-Reported.is (inr (
   c.in_ok-setup-in-Reported.ensures.exact,
   ran_on _ _ _ c.outcome-in-Reported.result c.report.result _ _ refl c.outcome-in-Reported.ensures c.report.ensures,
 ))
+
+pub returns-in_err-setup-in-Recorded : goal.returns-in_err-setup-in-Recorded
+returns-in_err-setup-in-Recorded g c =
+    let handed = c.from_residual-in_err-setup-in-Recorded in
+    rw c.in-Recorded.is (inl (path_refused _ c.in_err-setup-in-Recorded.field-0.0 handed.result _ _ c.in_err-setup-in-Recorded.ensures.exact refl refl handed.ensures.1))
+
+pub returns-in_ok-setup-in-Recorded : goal.returns-in_ok-setup-in-Recorded
+returns-in_ok-setup-in-Recorded g c = rw c.in-Recorded.is (inr (
+  c.in_ok-setup-in-Recorded.setup,
+  c.in_ok-setup-in-Recorded.ensures.exact,
+  c.record.ensures,
+))

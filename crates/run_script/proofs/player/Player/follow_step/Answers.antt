@@ -10,7 +10,7 @@ use Rattle.history_model.specs.text.Replies.{answer_lines}
 use Rattle.play_session.specs.Step.{gives_up, viewed}
 use Rattle.run_script.specs.declared.ending.Halt.TheVariants as halt
 use Rattle.run_script.specs.inner.Clients.{batch_of}
-use Rattle.run_script.specs.inner.Player.{FollowsStep, Given, WritesReply}
+use Rattle.run_script.specs.inner.Player.{FollowsStep, Given, WritesReply, answering}
 use Rattle.run_script.proofs.Counting.{ticks_made}
 use Rattle.run_script.proofs.Following.{follows_batch, follows_command, follows_kill, follows_local, kill_failed}
 use Rattle.run_script.proofs.player.Player.follow_step.Goals as goal
@@ -41,7 +41,7 @@ returns-in-Ask-clause-follows g c = λ told kept.
     let after = g.K.Sink.state c.write_reply-in-Ask.new.out in
     let given : Given = record { player = old; tag = c.args.tag; step = Some (model.Ask c.in-Ask.cmd); token = told } in
     let same : c.args.token ≡ told = subst (λ s. gives_up s ≡ false → c.args.token ≡ told) c.in-Ask.is kept refl in
-    let writes = subst (λ (t : Option (List ℕ)). WritesReply c.do_command-reply.result c.write_reply-in-Ask.result (tagged_lines c.args.tag (answer_lines new.setup.config new.setup.names t c.do_command-reply.result)) before after) same c.write_reply-in-Ask.ensures in
+    let writes = subst (λ (t : Option (List ℕ)). WritesReply (answering new c.do_command-reply.result) c.write_reply-in-Ask.result (tagged_lines c.args.tag (answer_lines new.setup.config new.setup.names t c.do_command-reply.result)) before after) same c.write_reply-in-Ask.ensures in
     subst (λ s. FollowsStep (record { player = old; tag = c.args.tag; step = viewed s batch; token = told }) c.write_reply-in-Ask.result new before after) (sym c.in-Ask.is)
     (follows_command given c.in-Ask.cmd c.do_command-reply.result c.write_reply-in-Ask.result new before after refl c.do_command-reply.ensures.does writes)
 
@@ -54,7 +54,7 @@ returns-in-AskBatch-clause-follows g c = λ told kept.
     let after = g.K.Sink.state c.write_reply-in-AskBatch.new.out in
     let given : Given = record { player = old; tag = c.args.tag; step = Some (model.AskBatch batch); token = told } in
     let same : c.args.token ≡ told = subst (λ s. gives_up s ≡ false → c.args.token ≡ told) c.in-AskBatch.is kept refl in
-    let writes = subst (λ (t : Option (List ℕ)). WritesReply c.do_batch-reply.result c.write_reply-in-AskBatch.result (tagged_lines c.args.tag (answer_lines new.setup.config new.setup.names t c.do_batch-reply.result)) before after) same c.write_reply-in-AskBatch.ensures in
+    let writes = subst (λ (t : Option (List ℕ)). WritesReply (answering new c.do_batch-reply.result) c.write_reply-in-AskBatch.result (tagged_lines c.args.tag (answer_lines new.setup.config new.setup.names t c.do_batch-reply.result)) before after) same c.write_reply-in-AskBatch.ensures in
     subst (λ s. FollowsStep (record { player = old; tag = c.args.tag; step = viewed s batch; token = told }) c.write_reply-in-AskBatch.result new before after) (sym c.in-AskBatch.is)
     (follows_batch given batch c.do_batch-reply.result c.write_reply-in-AskBatch.result new before after refl c.do_batch-reply.ensures.does writes)
 
@@ -67,7 +67,7 @@ returns-in_ok-write_reply-in-Kill-clause-follows g c = λ told kept.
     let after = g.K.Sink.state c.write_reply-in-Kill.new.out in
     let given : Given = record { player = old; tag = c.args.tag; step = Some model.KillServer; token = told } in
     let same : c.args.token ≡ told = subst (λ s. gives_up s ≡ false → c.args.token ≡ told) c.in-Kill.is kept refl in
-    let writes = subst (λ (t : Option (List ℕ)). WritesReply (reply.Done name.Kill) c.write_reply-in-Kill.result (tagged_lines c.args.tag (answer_lines new.setup.config new.setup.names t (reply.Done name.Kill))) before after) same c.write_reply-in-Kill.ensures in
+    let writes = subst (λ (t : Option (List ℕ)). WritesReply (answering new (reply.Done name.Kill)) c.write_reply-in-Kill.result (tagged_lines c.args.tag (answer_lines new.setup.config new.setup.names t (reply.Done name.Kill))) before after) same c.write_reply-in-Kill.ensures in
     let written = rw c.in_ok-write_reply-in-Kill.was at writes in
     subst (λ s. FollowsStep (record { player = old; tag = c.args.tag; step = viewed s batch; token = told }) (Err halt.Stop) new before after) (sym c.in-Kill.is)
     (follows_kill given new before after refl c.stop.ensures written.1)
@@ -81,7 +81,7 @@ returns-in_err-write_reply-in-Kill-clause-follows g c = λ told kept.
     let after = g.K.Sink.state c.write_reply-in-Kill.new.out in
     let given : Given = record { player = old; tag = c.args.tag; step = Some model.KillServer; token = told } in
     let same : c.args.token ≡ told = subst (λ s. gives_up s ≡ false → c.args.token ≡ told) c.in-Kill.is kept refl in
-    let writes = subst (λ (t : Option (List ℕ)). WritesReply (reply.Done name.Kill) c.write_reply-in-Kill.result (tagged_lines c.args.tag (answer_lines new.setup.config new.setup.names t (reply.Done name.Kill))) before after) same c.write_reply-in-Kill.ensures in
+    let writes = subst (λ (t : Option (List ℕ)). WritesReply (answering new (reply.Done name.Kill)) c.write_reply-in-Kill.result (tagged_lines c.args.tag (answer_lines new.setup.config new.setup.names t (reply.Done name.Kill))) before after) same c.write_reply-in-Kill.ensures in
     let p = err_from_is_err_and c.from_residual.result c.from_residual.ensures.1 in
     rw (p.1, p.2)
     (subst (λ s. FollowsStep (record { player = old; tag = c.args.tag; step = viewed s batch; token = told }) (Err c.in_err-write_reply-in-Kill.field-0.0) new before after) (sym c.in-Kill.is)

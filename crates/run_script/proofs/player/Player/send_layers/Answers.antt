@@ -1,6 +1,5 @@
-use Rattle.std.proofs.Common.{◌≡◌, ◌+◌, ◌<◌, length, sym, ap, ◌∙◌, arith}
+use Rattle.std.proofs.Common.{sym, ◌∙◌, arith}
 use Rattle.std.proofs.lemmas.Option.{slice_get_within}
-use Rattle.play_outside.specs.SinkState.{SinkState, after_taking}
 use Rattle.play_outside.proofs.Taking.{after_taking-nil}
 use Rattle.stage_core.specs.Seen.{seen_layers}
 use Rattle.run_script.specs.inner.Player.{events_in}

@@ -1,4 +1,4 @@
-use Rattle.std.proofs.Common.{◌≡◌, length, ◌-◌, ◌≤◌}
+use Rattle.std.proofs.Common.{◌≡◌, length, ◌-◌}
 use Rattle.play_outside.specs.SinkState.{after_taking}
 use Rattle.stage_core.specs.Seen.{seen_layers}
 use Rattle.run_script.specs.inner.Player.{events_in}

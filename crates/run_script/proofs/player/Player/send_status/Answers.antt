@@ -1,4 +1,3 @@
-use Rattle.std.proofs.Common.{◌++◌}
 use Rattle.std.specs.Prelude.{flat_map}
 use Rattle.play_outside.proofs.Sending.{Fails-before, Sends-then}
 use Rattle.osc_status.specs.Status.{layer_lines, layer_statuses, status_line, ticks_message}

@@ -1,4 +1,4 @@
-use Rattle.std.proofs.Common.{◌≡◌, ◌+◌, refl, sym, ap, ◌∙◌, subst}
+use Rattle.std.proofs.Common.{◌≡◌, ◌+◌, sym, ap, ◌∙◌, subst}
 use Rattle.play_types.specs.History.{ticks}
 use Rattle.stage_core.specs.Stage.{StageView}
 use Rattle.run_script.specs.declared.player.Player.{Player}

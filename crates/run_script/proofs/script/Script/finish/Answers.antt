@@ -4,8 +4,8 @@ use Rattle.std.specs.List.{list_any}
 use Rattle.std.proofs.lemmas.Bool.Decides.{nat_tests}
 use Rattle.amcp_text.specs.Lines.{is_line_end}
 use Rattle.history_model.specs.scripts.Line.{meaning}
-use Rattle.run_script.specs.Run.{EndsAs}
 use Rattle.run_script.specs.inner.Player.{PlaysLine}
+use Rattle.run_script.specs.inner.Taken.{EndsWith}
 use Rattle.run_script.proofs.Growth.{reading_of}
 use Rattle.run_script.proofs.Endings.{ended_empty, ended_done, ended_stops}
 use Rattle.run_script.proofs.script.Script.finish.Goals as goal
@@ -33,7 +33,7 @@ returns-in-Err g c = λ run bytes taken short.
     let some : 0 < vec_len waiting = grind (arith, nat_tests) in
     let there : 0 < length waiting.items = omega (arith, waiting.ok.0) in
     let line_is = c.as_slice-line.ensures.value ∙ taken.waiting in
-    subst (λ e. EndsAs run e (reading_of bytes true) (g.K.Sink.state c.take_line.new.out)) (sym c.ending.ensures)
+    subst (λ e. EndsWith run e c.take_line.new.self (reading_of bytes true) (g.K.Sink.state c.take_line.new.out)) (sym c.ending.ensures)
     (ended_stops run c.args.self.now bytes _ _ taken short (subst (λ l. 0 < length l) taken.waiting there) c.take_line.new.self c.in-Err.halt
     (subst
     (λ l. PlaysLine (record { playout = run.playout; shown = run.shown; before = taken.done.played; line = meaning l }) (Err c.in-Err.halt) c.take_line.new.self (g.K.Sink.state c.args.out.now) (g.K.Sink.state c.take_line.new.out))

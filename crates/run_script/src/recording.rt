@@ -1,0 +1,121 @@
+//! Scripts that are played for the film of a recording.
+ghost use Rattle.std.specs.Prelude.{◌≡◌, ◌≤◌, IfOk, false};
+ghost use Rattle.play_types.specs.History.{held};
+ghost use Rattle.play_recorder.specs.Recording.{AreServedEvents};
+ghost use Rattle.run_script.specs.Ending.{fault_in};
+ghost use Rattle.run_script.specs.Program.{film_of, playout_of};
+ghost use Rattle.run_script.specs.Recording.{RecordsFilm};
+ghost use Rattle.run_script.specs.inner.Player.{channels_in, events_in};
+ghost use Rattle.run_script.specs.inner.Recorded.{ReplaysScript, WritesFilm, fault_of_film};
+
+use crate::player::Player;
+use crate::run::play_script;
+use crate::script::Script;
+use crate::teller::{FilmWatcher, Teller};
+use play_outside::{PlainSink, Sink, Source};
+use play_recorder::{FilmSource, Recorded, find_film};
+use play_types::{RecName, Text};
+use server_setup::{RunFault, ServerSetup};
+use std::alloc::{AllocError, Global};
+use std::thread::Threads;
+
+/// Which film is written, and how many threads make its frames, 1 to 64.
+#[derive(Clone, Copy, Debug)]
+pub struct FilmOptions {
+    pub name: RecName,
+    pub workers: u32,
+}
+
+/// Reads a script to its end and does what its lines say, with nothing written, and then writes the clip file of the film that was
+/// recorded under a name. The teller is told for which words lines are refused, and how far the writing of the film is.
+///
+/// A line that would be answered with 500 or 501 ends the run for want of memory.
+pub fn record<R: Threads + Sync, I: Source, K: Sink, T: Teller>(
+    rt: &R,
+    alloc: Global,
+    setup: ServerSetup,
+    options: FilmOptions,
+    input: &mut I,
+    out: &mut K,
+    teller: &mut T,
+) -> Result<(), RunFault>
+    requires some_workers { 1 ≤ options.workers }
+    requires few_workers { options.workers ≤ 64 }
+    ensures { RecordsFilm (film_of setup options.name) (fault_in result)
+        (record { input = I.state input.old; out = K.state out.old })
+        (record { input = I.state input.new; out = K.state out.new }) }
+{
+    let player = replayed(rt, alloc, setup, input, teller)?;
+    write_recording(rt, alloc, &player, options, out, teller)
+}
+
+/// Reads a script to its end and does what its lines say, with nothing written. Returns its player, which has the history.
+fn replayed<R: Threads + Sync, I: Source, T: Teller>(
+    rt: &R,
+    alloc: Global,
+    setup: ServerSetup,
+    input: &mut I,
+    teller: &mut T,
+) -> Result<Player, RunFault>
+    ensures { ReplaysScript (playout_of setup false) result (I.state input.old) (I.state input.new) }
+{
+    let player = Player::replying(alloc, setup)?;
+    let mut script = Script::new(alloc, player);
+    let mut nowhere = PlainSink::new(0);
+    play_script(rt, alloc, &mut script, input, &mut nowhere, teller).outcome()?;
+    Ok(script.player)
+}
+
+/// Writes the clip file of the film that was recorded under a name, if the history of a player has one. The teller is told how far
+/// the writing is.
+fn write_recording<R: Threads + Sync, K: Sink, T: Teller>(
+    rt: &R,
+    alloc: Global,
+    player: &Player,
+    options: FilmOptions,
+    out: &mut K,
+    teller: &mut T,
+) -> Result<(), RunFault>
+    requires some_workers { 1 ≤ options.workers }
+    requires few_workers { options.workers ≤ 64 }
+    requires served { AreServedEvents (channels_in player.now) (events_in player.now) }
+    requires room { held (events_in player.now) ≤ player.now.setup.config.journal_limit }
+    ensures { WritesFilm player.now options.name (fault_in result) (K.state out.old) (K.state out.new) }
+{
+    let setup = &player.setup;
+    let journal = player.stage.journal();
+    match find_film(alloc, &setup.config, journal, options.name)? {
+        Some(film) => {
+            let source = FilmSource {
+                config: &setup.config,
+                media: &setup.media,
+                journal,
+                film: &film,
+                workers: options.workers,
+            };
+            outcome(source.write_watched(rt, alloc, out, &mut FilmWatcher { teller }))
+        }
+        None => Err(RunFault::Record(text_of(alloc, &options.name)?)),
+    }
+}
+
+/// Returns the fault with which the writing of a film ended as an error.
+fn outcome(recorded: Recorded) -> Result<(), RunFault>
+    ensures { fault_in result ≡ fault_of_film recorded }
+{
+    match recorded {
+        Recorded::All => Ok(()),
+        Recorded::Failed => Err(RunFault::Device),
+        Recorded::OutOfMemory => Err(RunFault::OutOfMemory),
+    }
+}
+
+/// Returns the name of a recording as a text.
+fn text_of(alloc: Global, name: &RecName) -> Result<Text, AllocError>
+    ensures { IfOk result (λ text. text ≡ name.now) }
+{
+    match str::from_utf8(name.as_bytes()) {
+        Ok(name) => Text::copy(alloc, name),
+        Err(_) => unreachable!(),
+    }
+}

@@ -8,7 +8,7 @@ FIRST, COUNT = 7, 5
 
 with open("input", "rb") as file:
     script = file.read()
-said = subprocess.run([sys.argv[1], "run", "--config", "studio.toml"], input=script, check=True, stdout=subprocess.PIPE, text=True).stdout
+said = subprocess.run([sys.argv[1], "run", "--config", "studio.toml"], input=script, check=True, stdout=subprocess.PIPE).stdout.decode()
 assert said.count("2.1 403 COMMIT ERROR") == 1 and said.count("2.1 202 COMMIT OK") == 1, said[:2000]
 frames, frame = {}, None
 for line in said.split("\n")[:-1]:

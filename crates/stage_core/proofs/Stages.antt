@@ -74,7 +74,7 @@ channels-shown n channels f count shows =
     ap (λ (j : ℕ). get_or channels j []) (sym here) ∙ shows (i + 1) (omega arith, omega (arith, low))
     ∙ sym (get_or-map-range_with_len f 1 n i (i + 1) [] low (omega arith)))
 
--- and none has too many places where the stage is within its limits
+-- and none has too many places if the stage is within its limits
 pub none_over : (n : ℕ) (channels : Channels) (f : ℕ → Places) → length channels ≡ n →
     ((k : ℕ) → IsConfigured n k → places_of k channels ≡ f k) → ((k : ℕ) → length (f k) ≤ MAX_LIVE_LAYERS) → is_some_over channels ≡ false
 none_over n channels f count shows few =

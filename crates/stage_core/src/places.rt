@@ -106,10 +106,7 @@ impl PlaceList {
         ensures { self.new ≡ other.now }
     {
         self.places.clear();
-        match self.places.extend_from_slice(&other.places) {
-            Ok(()) => {}
-            Err(_) => unreachable!(),
-        }
+        self.places.extend_from_slice(&other.places).unwrap();
     }
 
     /// Returns the layer of a number: an empty one if the list lacks it.
@@ -141,10 +138,7 @@ impl PlaceList {
                 if !is_live(&layer) {
                     return;
                 }
-                match self.places.insert(at, (number, layer)) {
-                    Ok(()) => {}
-                    Err(_) => unreachable!(),
-                }
+                self.places.insert(at, (number, layer)).unwrap();
             }
         }
     }

@@ -182,10 +182,7 @@ impl Stage {
             return Err(Ended { at });
         }
         self.journal.push_stop(tag);
-        match self.journal.stopped() {
-            Some(at) => Ok(at),
-            None => unreachable!(),
-        }
+        Ok(self.journal.stopped().unwrap())
     }
 
     /// Returns what a status display shows of a layer: of the one at position `at`, counted from 0, among the layers of a

@@ -52,25 +52,25 @@ returns-then-not-is_live c =
     ∙ ap (λ (xs : Places). with_place xs c.args.number c.args.layer) c.self.view_is
 
 -- and a live one is put in
-pub invariant_of-self-in-Ok-insert : goal.invariant_of-self-in-Ok-insert
-invariant_of-self-in-Ok-insert c =
+pub invariant_of-self-in-Err : goal.invariant_of-self-in-Err
+invariant_of-self-in-Err c =
     let items : Places = c.self.inside.places.items in
     let live : is_live c.args.layer ≡ true = sym c.is_live-in-Err.ensures ∙ c.if-not-is_live.false in
     let gap : IsGapFor items c.args.number c.in-Err.at = rw c.self.view_is c.in-Err.ensures.absent in
     let old : length items ≡ length c.args.self.now = ap (λ (xs : Places). length xs) c.self.view_is in
     let free : c.self.inside.places.len ≤ MAX_LIVE_LAYERS + 2 = omega (arith, old, c.requires.room, c.self.invariant.counted) in
-    let added : is_ok c.insert.result ≡ true = ap is_ok c.in-Ok-insert.is in
+    let added : is_ok c.insert.result ≡ true = ap is_ok c.unwrap.ensures in
     let put : c.insert.new.self.items ≡ insert items c.in-Err.at (c.args.number, c.args.layer) = c.insert.ensures.items ∙ cond-true (is_ok c.insert.result) _ _ added in
     let count : vec_len c.insert.new.self ≡ c.self.inside.places.len + 1 = c.insert.ensures.len ∙ cond-true (is_ok c.insert.result) _ _ added in
     kept-insert items c.args.number c.in-Err.at c.args.layer c.requires.number c.self.inside.places.len c.self.inside.places.cap
     (vec_len c.insert.new.self) (vec_capacity c.insert.new.self) c.insert.new.self.items c.self.invariant live gap put count free c.insert.ensures.capacity
 
-pub returns-in-Ok-insert : goal.returns-in-Ok-insert
-returns-in-Ok-insert c =
+pub returns-else-not-is_live : goal.returns-else-not-is_live
+returns-else-not-is_live c =
     let items : Places = c.self.inside.places.items in
     let live : is_live c.args.layer ≡ true = sym c.is_live-in-Err.ensures ∙ c.if-not-is_live.false in
     let gap : IsGapFor items c.args.number c.in-Err.at = rw c.self.view_is c.in-Err.ensures.absent in
-    let added : is_ok c.insert.result ≡ true = ap is_ok c.in-Ok-insert.is in
+    let added : is_ok c.insert.result ≡ true = ap is_ok c.unwrap.ensures in
     let put : c.insert.new.self.items ≡ insert items c.in-Err.at (c.args.number, c.args.layer) = c.insert.ensures.items ∙ cond-true (is_ok c.insert.result) _ _ added in
     put ∙ sym (with_place-insert items c.args.number c.in-Err.at c.args.layer live gap)
     ∙ ap (λ (xs : Places). with_place xs c.args.number c.args.layer) c.self.view_is

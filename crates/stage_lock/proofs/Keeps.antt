@@ -19,7 +19,7 @@ use Rattle.stage_lock.proofs.Positions.{made_by-other, not_own, own_owner, has_f
 use Rattle.stage_lock.proofs.Views.{WasPass, apart_still, at_one, each_set, ended_still, off, one_home, set_at, set_same, still_set, was_set}
 
 module _ (sizes : Sizes) where
-  -- the rule after views, words and slots have changed, where each pass was one before
+  -- the rule after views, words and slots have changed, if each pass was one before
   pub retold : (s : Table) (r : Ruled sizes s) (views : List SeatView) → WasPass views s.views
       → (ws : List ℕ) (hs : List (mathlib.Core.Option.Option (Option StageView))) (log : List Event) (by : ℕ)
       → length ws ≡ 2 → get_or ws 0 0 ≡ length log

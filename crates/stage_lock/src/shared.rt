@@ -83,12 +83,7 @@ impl SharedStage {
                 enroll_all(&table.shared, seat, &mut list, passes);
                 Ok((SharedStage { table }, list))
             }
-            Err(Refused { mut slots }) => {
-                let Some(Some(stage)) = slots.pop() else {
-                    unreachable!()
-                };
-                Err(stage)
-            }
+            Err(Refused { mut slots }) => Err(slots.pop().unwrap().unwrap()),
         }
     }
 
@@ -122,7 +117,7 @@ impl SharedStage {
 
     /// Adds a batch to the history as one event, with the pass's number and the session as its tag, and returns its answer
     /// there. The batch is not empty, and its commands are such as [`SharedStage::ask`] takes. Its faults are those of that
-    /// call too, if the journal is full if it may not hold all commands of the batch.
+    /// call too, and the journal is full if it may not hold all commands of the batch.
     pub fn ask_batch<R: Wait>(
         &self,
         rt: &R,
@@ -256,9 +251,7 @@ impl SharedStage {
         ensures closes { Closes passes.items result.journal.events }
     {
         let SharedStage { table } = self;
-        let Some(last) = passes.pop() else {
-            unreachable!()
-        };
+        let last = passes.pop().unwrap();
         let Pass {
             mut seat,
             number: _,
@@ -303,9 +296,7 @@ fn enroll_all(board: &Board, mut first: Seat, list: &mut Vec<Pass>, passes: u32)
         seat: first,
         number: 0,
     };
-    if list.insert(0, first).is_err() {
-        unreachable!();
-    }
+    list.insert(0, first).unwrap();
 }
 
 /// Takes all these passes in.

@@ -150,7 +150,7 @@ piece_within piece at taken held within is =
     let left : length (take (length piece - at) (drop at piece)) ≡ length piece - at = ap length (rest_of piece at within) ∙ length-drop at piece in
     omega (arith, within, is, most, left)
 
--- what holds where the connection goes on
+-- what holds if the connection goes on
 pub goes_number : (service : Service) (told : Option (List ℕ)) (step : Option model.Step) (done : Unit {0}) (before after : Standing) → FollowsStep service told step (Ok done) before after → after.pass.number ≡ before.pass.number
 goes_number service told None done before after same = ap (λ (s : Standing). s.pass.number) same
 goes_number service told (Some step) done before after goes = goes.goes.follows.makes.number

@@ -157,8 +157,8 @@ pub record IsExplained (service : Service) (end : LinkEnd) (before after : Stand
   -- before each look all steps of the bytes read until then were followed, none of them was an end, and no look had found the end of
   -- the link or a stop: no look comes after an end
   pub looks : (k : ℕ) → k < length rounds → IsCaughtUp service (take k rounds)
-  -- the link was called just so: look by look, and after each look the replies to the steps were written, in order; a failure
-  -- comes after that
+  -- the link was called just so: after each look the replies to the steps were written, in order, before the next look; a failure comes
+  -- after that
   pub link : IsAfterFailure service failure (after_rounds service rounds before.link) after.link
   -- the pass won the turn once for each ask and each kill, once for each look that found nothing yet, and once if the stage refused a
   -- step

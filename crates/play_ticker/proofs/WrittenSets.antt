@@ -226,7 +226,7 @@ module _ {O : Type 0} where
             };
       }
 
-  -- no end mark was taken where an output failed
+  -- no end mark was taken if an output failed
   pub failed_open : (state : O → SinkState) (setup : Setup) (entries : List Entry) (failed : ℕ) (base old mid : Writing O)
       → WritesSet entries (λ frames channel before after. FailsAt failed (bytes_in frames) channel (state before) (state after)) (λ scenes. Broken failed scenes) old mid
       → IsWriting state setup entries base old → is_open mid.pipe.taken ≡ true

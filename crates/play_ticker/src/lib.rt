@@ -15,4 +15,4 @@ mod ticks;
 mod writing;
 
 pub use ending::TickEnd;
-pub use ticks::{Ticker, tick_all};
+pub use ticks::{PipeEnds, Ticker, tick_all};

@@ -28,6 +28,15 @@ pub struct Ticker<'a> {
     pub media: &'a MediaTable,
 }
 
+/// The two ends of a pipe, for one thread each.
+#[derive(Drop)]
+pub struct PipeEnds {
+    /// The end of the thread that makes ticks.
+    pub stage_end: StageEnd,
+    /// The end of the thread that renders and writes.
+    pub write_end: WriteEnd,
+}
+
 /// Makes a tick of the stage for each pulse of the clock, and writes the frame and the sound of each channel at that tick to the
 /// output of the channel, channel 1 first, until the clock is closed or fails, a tick is refused, or an output fails.
 ///
@@ -61,16 +70,12 @@ pub fn tick_all<R: Threads + Wait + Sync, C: Clock, O: Sink + Send>(
     ensures ended { HasEnded result (record { pass = pass.old; clock = C.state clock.old }) (record { pass = pass.new; clock = C.state clock.new }) }
 {
     let ticker = Ticker { stage, media };
-    let (mut stage_end, mut write_end) = pipe.split();
-    ticker.run(
-        rt,
-        pass,
-        renderer,
-        &mut stage_end,
-        &mut write_end,
-        clock,
-        outs,
-    )
+    let (stage_end, write_end) = pipe.split();
+    let mut ends = PipeEnds {
+        stage_end,
+        write_end,
+    };
+    ticker.run(rt, pass, renderer, &mut ends, clock, outs)
 }
 
 impl Ticker<'_> {
@@ -82,15 +87,14 @@ impl Ticker<'_> {
         rt: &R,
         pass: &mut Pass,
         renderer: &mut Renderer,
-        stage_end: &mut StageEnd,
-        write_end: &mut WriteEnd,
+        ends: &mut PipeEnds,
         clock: &mut C,
         outs: &mut Vec<O>,
     ) -> TickEnd
         requires of { pass.old.stage ≡ self.now.stage.now }
         requires first { pass.old.number ≡ 0 }
         requires made { pass.old.made ≡ [] }
-        requires pipe { AreNewEnds self.now.stage.now.sizes.channels stage_end.old write_end.old }
+        requires pipe { AreNewEnds self.now.stage.now.sizes.channels ends.old.stage_end ends.old.write_end }
         requires renderer { length renderer.old ≡ self.now.stage.now.sizes.channels }
         requires blank { AreBlank renderer.old }
         requires outs { vec_len outs.old ≡ self.now.stage.now.sizes.channels }
@@ -102,16 +106,8 @@ impl Ticker<'_> {
         ensures ended { HasEnded result (record { pass = pass.old; clock = C.state clock.old }) (record { pass = pass.new; clock = C.state clock.new }) }
     {
         laws::free_scenes_before_the_news();
-        let (failed, met) = self.run_sides(
-            rt,
-            pass,
-            renderer,
-            stage_end,
-            write_end,
-            clock,
-            outs.as_mut_slice(),
-        );
-        settle(stage_end, write_end);
+        let (failed, met) = self.run_sides(rt, pass, renderer, ends, clock, outs.as_mut_slice());
+        settle(&mut ends.stage_end, &mut ends.write_end);
         match failed {
             Some(channel) => TickEnd::OutFault { channel },
             None => met,
@@ -125,24 +121,27 @@ impl Ticker<'_> {
         rt: &R,
         pass: &mut Pass,
         renderer: &mut Renderer,
-        stage_end: &mut StageEnd,
-        write_end: &mut WriteEnd,
+        ends: &mut PipeEnds,
         clock: &mut C,
         outs: &mut [O],
     ) -> (Option<u8>, TickEnd)
         requires of { pass.old.stage ≡ self.now.stage.now }
         requires first { pass.old.number ≡ 0 }
         requires made { pass.old.made ≡ [] }
-        requires pipe { AreNewEnds self.now.stage.now.sizes.channels stage_end.old write_end.old }
+        requires pipe { AreNewEnds self.now.stage.now.sizes.channels ends.old.stage_end ends.old.write_end }
         requires renderer { length renderer.old ≡ self.now.stage.now.sizes.channels }
         requires blank { AreBlank renderer.old }
         requires outs { length outs.old ≡ self.now.stage.now.sizes.channels }
         ensures of { pass.new.stage ≡ self.now.stage.now }
         ensures written { HasWritten O.state (setup_for renderer.old self.now.media.now) result.0
-            (record { pipe = write_end.old; frames = renderer.old; outs = outs.old }) (record { pipe = write_end.new; frames = renderer.new; outs = outs.new }) }
-        ensures staged { HasStaged result.1 (record { pass = pass.old; clock = C.state clock.old; pipe = stage_end.old }) (record { pass = pass.new; clock = C.state clock.new; pipe = stage_end.new }) }
+            (record { pipe = ends.old.write_end; frames = renderer.old; outs = outs.old }) (record { pipe = ends.new.write_end; frames = renderer.new; outs = outs.new }) }
+        ensures staged { HasStaged result.1 (record { pass = pass.old; clock = C.state clock.old; pipe = ends.old.stage_end }) (record { pass = pass.new; clock = C.state clock.new; pipe = ends.new.stage_end }) }
     {
         let ticker = *self;
+        let PipeEnds {
+            stage_end,
+            write_end,
+        } = ends;
         join_mut(
             rt,
             &mut || -> Option<u8>

@@ -14,17 +14,17 @@ use Rattle.play_ticker.proofs.ticks.Ticker.run.Goals as goal
 pub settle-requires-clause-finished : goal.settle-requires-clause-finished
 settle-requires-clause-finished g c =
     sent_closed c.run_sides-failed.result.1
-    (record { pass = c.args.pass.now; clock = g.C.Clock.state c.args.clock.now; pipe = c.args.stage_end.now })
-    (record { pass = c.run_sides-failed.new.pass; clock = g.C.Clock.state c.run_sides-failed.new.clock; pipe = c.run_sides-failed.new.stage_end })
+    (record { pass = c.args.pass.now; clock = g.C.Clock.state c.args.clock.now; pipe = c.args.ends.now.stage_end })
+    (record { pass = c.run_sides-failed.new.pass; clock = g.C.Clock.state c.run_sides-failed.new.clock; pipe = c.run_sides-failed.new.ends.stage_end })
     c.run_sides-failed.ensures.staged
 
 pub returns-in-Some-clause-outs : goal.returns-in-Some-clause-outs
 returns-in-Some-clause-outs g c =
     let channels : ℕ = c.args.self.now.stage.now.sizes.channels in
-    let base : Writing g.row.O.Denot = record { pipe = c.args.write_end.now; frames = c.args.renderer.now; outs = c.as_mut_slice.result.now } in
-    let now : Writing g.row.O.Denot = record { pipe = c.run_sides-failed.new.write_end; frames = c.run_sides-failed.new.renderer; outs = c.run_sides-failed.new.outs } in
-    let first : Staging = record { pass = c.args.pass.now; clock = g.C.Clock.state c.args.clock.now; pipe = c.args.stage_end.now } in
-    let last : Staging = record { pass = c.run_sides-failed.new.pass; clock = g.C.Clock.state c.run_sides-failed.new.clock; pipe = c.run_sides-failed.new.stage_end } in
+    let base : Writing g.row.O.Denot = record { pipe = c.args.ends.now.write_end; frames = c.args.renderer.now; outs = c.as_mut_slice.result.now } in
+    let now : Writing g.row.O.Denot = record { pipe = c.run_sides-failed.new.ends.write_end; frames = c.run_sides-failed.new.renderer; outs = c.run_sides-failed.new.outs } in
+    let first : Staging = record { pass = c.args.pass.now; clock = g.C.Clock.state c.args.clock.now; pipe = c.args.ends.now.stage_end } in
+    let last : Staging = record { pass = c.run_sides-failed.new.pass; clock = g.C.Clock.state c.run_sides-failed.new.clock; pipe = c.run_sides-failed.new.ends.stage_end } in
     let shown : Shown = record { setup = setup_for c.args.renderer.now c.args.self.now.media.now; history = last.pass.seen } in
     let same : AreSettled channels now.pipe last.pipe =
     settled channels now.pipe c.settle.new.write last.pipe c.settle.new.stage c.settle.ensures.write c.settle.ensures.stage c.settle.ensures.taken c.settle.ensures.returned c.settle.ensures.none_passed
@@ -42,10 +42,10 @@ returns-in-Some-clause-outs g c =
 pub returns-in-None-clause-outs : goal.returns-in-None-clause-outs
 returns-in-None-clause-outs g c =
     let channels : ℕ = c.args.self.now.stage.now.sizes.channels in
-    let base : Writing g.row.O.Denot = record { pipe = c.args.write_end.now; frames = c.args.renderer.now; outs = c.as_mut_slice.result.now } in
-    let now : Writing g.row.O.Denot = record { pipe = c.run_sides-failed.new.write_end; frames = c.run_sides-failed.new.renderer; outs = c.run_sides-failed.new.outs } in
-    let first : Staging = record { pass = c.args.pass.now; clock = g.C.Clock.state c.args.clock.now; pipe = c.args.stage_end.now } in
-    let last : Staging = record { pass = c.run_sides-failed.new.pass; clock = g.C.Clock.state c.run_sides-failed.new.clock; pipe = c.run_sides-failed.new.stage_end } in
+    let base : Writing g.row.O.Denot = record { pipe = c.args.ends.now.write_end; frames = c.args.renderer.now; outs = c.as_mut_slice.result.now } in
+    let now : Writing g.row.O.Denot = record { pipe = c.run_sides-failed.new.ends.write_end; frames = c.run_sides-failed.new.renderer; outs = c.run_sides-failed.new.outs } in
+    let first : Staging = record { pass = c.args.pass.now; clock = g.C.Clock.state c.args.clock.now; pipe = c.args.ends.now.stage_end } in
+    let last : Staging = record { pass = c.run_sides-failed.new.pass; clock = g.C.Clock.state c.run_sides-failed.new.clock; pipe = c.run_sides-failed.new.ends.stage_end } in
     let shown : Shown = record { setup = setup_for c.args.renderer.now c.args.self.now.media.now; history = last.pass.seen } in
     let same : AreSettled channels now.pipe last.pipe =
     settled channels now.pipe c.settle.new.write last.pipe c.settle.new.stage c.settle.ensures.write c.settle.ensures.stage c.settle.ensures.taken c.settle.ensures.returned c.settle.ensures.none_passed
@@ -63,10 +63,10 @@ returns-in-None-clause-outs g c =
 pub returns-in-Some-clause-ended : goal.returns-in-Some-clause-ended
 returns-in-Some-clause-ended g c =
     let channels : ℕ = c.args.self.now.stage.now.sizes.channels in
-    let base : Writing g.row.O.Denot = record { pipe = c.args.write_end.now; frames = c.args.renderer.now; outs = c.as_mut_slice.result.now } in
-    let now : Writing g.row.O.Denot = record { pipe = c.run_sides-failed.new.write_end; frames = c.run_sides-failed.new.renderer; outs = c.run_sides-failed.new.outs } in
-    let first : Staging = record { pass = c.args.pass.now; clock = g.C.Clock.state c.args.clock.now; pipe = c.args.stage_end.now } in
-    let last : Staging = record { pass = c.run_sides-failed.new.pass; clock = g.C.Clock.state c.run_sides-failed.new.clock; pipe = c.run_sides-failed.new.stage_end } in
+    let base : Writing g.row.O.Denot = record { pipe = c.args.ends.now.write_end; frames = c.args.renderer.now; outs = c.as_mut_slice.result.now } in
+    let now : Writing g.row.O.Denot = record { pipe = c.run_sides-failed.new.ends.write_end; frames = c.run_sides-failed.new.renderer; outs = c.run_sides-failed.new.outs } in
+    let first : Staging = record { pass = c.args.pass.now; clock = g.C.Clock.state c.args.clock.now; pipe = c.args.ends.now.stage_end } in
+    let last : Staging = record { pass = c.run_sides-failed.new.pass; clock = g.C.Clock.state c.run_sides-failed.new.clock; pipe = c.run_sides-failed.new.ends.stage_end } in
     let same : AreSettled channels now.pipe last.pipe =
     settled channels now.pipe c.settle.new.write last.pipe c.settle.new.stage c.settle.ensures.write c.settle.ensures.stage c.settle.ensures.taken c.settle.ensures.returned c.settle.ensures.none_passed
     (c.run_sides-failed.ensures.written.same.channels ∙ c.requires.pipe.write_channels) (c.run_sides-failed.ensures.staged.same.channels ∙ c.requires.pipe.stage_channels) in
@@ -80,10 +80,10 @@ returns-in-Some-clause-ended g c =
 pub returns-in-None-clause-ended : goal.returns-in-None-clause-ended
 returns-in-None-clause-ended g c =
     let channels : ℕ = c.args.self.now.stage.now.sizes.channels in
-    let base : Writing g.row.O.Denot = record { pipe = c.args.write_end.now; frames = c.args.renderer.now; outs = c.as_mut_slice.result.now } in
-    let now : Writing g.row.O.Denot = record { pipe = c.run_sides-failed.new.write_end; frames = c.run_sides-failed.new.renderer; outs = c.run_sides-failed.new.outs } in
-    let first : Staging = record { pass = c.args.pass.now; clock = g.C.Clock.state c.args.clock.now; pipe = c.args.stage_end.now } in
-    let last : Staging = record { pass = c.run_sides-failed.new.pass; clock = g.C.Clock.state c.run_sides-failed.new.clock; pipe = c.run_sides-failed.new.stage_end } in
+    let base : Writing g.row.O.Denot = record { pipe = c.args.ends.now.write_end; frames = c.args.renderer.now; outs = c.as_mut_slice.result.now } in
+    let now : Writing g.row.O.Denot = record { pipe = c.run_sides-failed.new.ends.write_end; frames = c.run_sides-failed.new.renderer; outs = c.run_sides-failed.new.outs } in
+    let first : Staging = record { pass = c.args.pass.now; clock = g.C.Clock.state c.args.clock.now; pipe = c.args.ends.now.stage_end } in
+    let last : Staging = record { pass = c.run_sides-failed.new.pass; clock = g.C.Clock.state c.run_sides-failed.new.clock; pipe = c.run_sides-failed.new.ends.stage_end } in
     let same : AreSettled channels now.pipe last.pipe =
     settled channels now.pipe c.settle.new.write last.pipe c.settle.new.stage c.settle.ensures.write c.settle.ensures.stage c.settle.ensures.taken c.settle.ensures.returned c.settle.ensures.none_passed
     (c.run_sides-failed.ensures.written.same.channels ∙ c.requires.pipe.write_channels) (c.run_sides-failed.ensures.staged.same.channels ∙ c.requires.pipe.stage_channels) in

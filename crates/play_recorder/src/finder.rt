@@ -80,10 +80,7 @@ impl FilmFinder {
     pub fn film(&self) -> Option<Film>
         ensures { (events : List Event) → Represents self.now events → result ≡ film_span events self.now.name }
     {
-        match self.begun {
-            Some(begun) => begun.film(self.ticks),
-            None => None,
-        }
+        self.begun?.film(self.ticks)
     }
 
     /// Takes a command that is not refused.

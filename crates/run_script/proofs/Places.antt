@@ -14,7 +14,7 @@ use Rattle.run_script.specs.declared.clients.Client.{Client}
 abbrev pub is_of : Tag → Client → Bool
 is_of tag client = same_tag tag client.tag
 
--- the first one that passes a test stays where one is replaced by one that passes or fails alike
+-- the first one that passes a test stays if one is replaced by one that passes or fails alike
 first_replaced : (p : Client → Bool) (clients : List Client) (at : ℕ) (new : Client) → p (get_or clients at new) ≡ p new → position_or_len p (set clients at new) ≡ position_or_len p clients
 first_replaced p [] at new same = refl
 first_replaced p (client ∷ clients) zero new same = ap (λ (b : Bool). cond (not b) (1 + position_or_len p clients) 0) (sym same)

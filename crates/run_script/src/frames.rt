@@ -15,6 +15,7 @@ use crate::player::Player;
 use band_render::{OpenGate, Renderer};
 use frame_writer::{write_digest, write_hex};
 use play_outside::{Sent, Sink};
+use play_types::channel_index;
 use std::thread::Threads;
 
 impl Player {
@@ -99,7 +100,7 @@ impl Player {
             return write_digest(channel, tick, picture, sound, out);
         }
         let channels = self.setup.config.channels();
-        let size = channels.get(usize::from(channel) - 1).unwrap().geometry();
+        let size = channels.get(channel_index(channel)).unwrap().geometry();
         write_hex(channel, tick, size, picture, sound, out)
     }
 }

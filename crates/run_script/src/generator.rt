@@ -1,8 +1,8 @@
 //! The lines of a made script.
-ghost use Rattle.std.specs.Prelude.{◌≡◌, ◌<◌, ◌∷◌, []};
+ghost use Rattle.std.specs.Prelude.{◌≡◌, ◌<◌, ◌++◌, ◌∷◌, [], codes, decimal, flat_map};
 ghost use Rattle.hex.specs.Hex.{encode_upper};
 ghost use Rattle.play_outside.specs.Sink.{Sends};
-ghost use Rattle.history_model.specs.scripts.Generator.{made_commit, made_fill, made_for, made_in, made_load, made_opacity, made_play, made_query, made_swap, next_state, number_of, step_drawn};
+ghost use Rattle.history_model.specs.scripts.Generator.{made_commit, made_fill, made_for, made_in, made_load, made_opacity, made_play, made_query, made_swap, next_state, number_of, on_place, said_by, step_drawn};
 ghost use Rattle.run_script.specs.inner.Generator.{step_in};
 
 use itoa::Buffer;
@@ -95,13 +95,10 @@ impl Generator {
         let green = self.draw(256);
         let blue = self.draw(256);
         let duration = self.draw(6);
-        send_parts(
+        send_at(
+            step,
+            b"PLAY",
             &[
-                Buffer::new().format(step.worker).as_bytes(),
-                b".1 PLAY ",
-                Buffer::new().format(step.channel).as_bytes(),
-                b"-",
-                Buffer::new().format(step.layer).as_bytes(),
                 b" #",
                 &two_digits(alpha),
                 &two_digits(red),
@@ -121,13 +118,10 @@ impl Generator {
     {
         let tenths = self.draw(10);
         let duration = self.draw(10);
-        send_parts(
+        send_at(
+            step,
+            b"MIXER",
             &[
-                Buffer::new().format(step.worker).as_bytes(),
-                b".1 MIXER ",
-                Buffer::new().format(step.channel).as_bytes(),
-                b"-",
-                Buffer::new().format(step.layer).as_bytes(),
                 b" OPACITY 0.",
                 Buffer::new().format(tenths).as_bytes(),
                 b" ",
@@ -144,13 +138,10 @@ impl Generator {
     {
         let left = self.draw(10);
         let width = self.draw(10);
-        send_parts(
+        send_at(
+            step,
+            b"MIXER",
             &[
-                Buffer::new().format(step.worker).as_bytes(),
-                b".1 MIXER ",
-                Buffer::new().format(step.channel).as_bytes(),
-                b"-",
-                Buffer::new().format(step.layer).as_bytes(),
                 b" FILL 0.",
                 Buffer::new().format(left).as_bytes(),
                 b" 0 0.",
@@ -167,13 +158,10 @@ impl Generator {
         ensures state { self.new.state ≡ (made_swap (step_in step self.old.state)).state }
     {
         let other = self.draw(4);
-        send_parts(
+        send_at(
+            step,
+            b"SWAP",
             &[
-                Buffer::new().format(step.worker).as_bytes(),
-                b".1 SWAP ",
-                Buffer::new().format(step.channel).as_bytes(),
-                b"-",
-                Buffer::new().format(step.layer).as_bytes(),
                 b" ",
                 Buffer::new().format(step.channel).as_bytes(),
                 b"-",
@@ -191,13 +179,10 @@ impl Generator {
     {
         let source = 1 + self.draw(2);
         let duration = self.draw(6);
-        send_parts(
+        send_at(
+            step,
+            b"LOADBG",
             &[
-                Buffer::new().format(step.worker).as_bytes(),
-                b".1 LOADBG ",
-                Buffer::new().format(step.channel).as_bytes(),
-                b"-",
-                Buffer::new().format(step.layer).as_bytes(),
                 b" route://",
                 Buffer::new().format(source).as_bytes(),
                 b" WIPE ",
@@ -228,17 +213,26 @@ fn send_commit<K: Sink>(step: Step, to: &mut K) -> Sent
 fn send_query<K: Sink>(step: Step, to: &mut K) -> Sent
     ensures { Sends result (made_query (step_in step 0)).text (K.state to.old) (K.state to.new) }
 {
+    send_at(step, b"MIXER", &[b" OPACITY"], to)
+}
+
+/// Writes `w.1 VERB c-l`, and then the parts that follow the place.
+fn send_at<K: Sink>(step: Step, verb: &[u8], rest: &[&[u8]], to: &mut K) -> Sent
+    ensures { Sends result (said_by (step_in step 0) (verb.now ++ codes " " ++ on_place (step_in step 0) (flat_map (λ part. part.now) rest.now))) (K.state to.old) (K.state to.new) }
+{
     send_parts(
         &[
             Buffer::new().format(step.worker).as_bytes(),
-            b".1 MIXER ",
+            b".1 ",
+            verb,
+            b" ",
             Buffer::new().format(step.channel).as_bytes(),
             b"-",
             Buffer::new().format(step.layer).as_bytes(),
-            b" OPACITY",
         ],
         to,
-    )
+    )?;
+    send_parts(rest, to)
 }
 
 /// Returns the two digits of a byte, in capitals.

@@ -12,6 +12,15 @@ use play_types::{Channel, ChannelList, Config, Geometry, MediaNames, Text};
 use server_setup::ServerSetup;
 use std::alloc::{AllocError, Global};
 
+/// The ticks in a second of a run that names no file.
+const RATE: u32 = 25;
+
+/// The connection workers that its configuration has.
+const CONNECTIONS: u32 = 4;
+
+/// The most commands of its history.
+const JOURNAL_LIMIT: u32 = 4_194_304;
+
 /// Returns what is played if the words name a width and a height alone: one channel of this size, without clips.
 pub fn plain_setup(alloc: Global, size: Geometry) -> Result<ServerSetup, AllocError>
     requires { IsSize size.width size.height 0 }
@@ -52,7 +61,7 @@ fn setup_of(alloc: Global, channels: ChannelList) -> Result<ServerSetup, AllocEr
     let listen = none(alloc)?;
     let media = none(alloc)?;
     Ok(ServerSetup {
-        config: Config::new(listen, media, 25, 4, 4_194_304, channels).unwrap(),
+        config: Config::new(listen, media, RATE, CONNECTIONS, JOURNAL_LIMIT, channels).unwrap(),
         media: MediaTable::empty(alloc)?,
         names: MediaNames::new(alloc),
     })

@@ -114,8 +114,5 @@ fn outcome(recorded: Recorded) -> Result<(), RunFault>
 fn text_of(alloc: Global, name: &RecName) -> Result<Text, AllocError>
     ensures { IfOk result (λ text. text ≡ name.now) }
 {
-    match str::from_utf8(name.as_bytes()) {
-        Ok(name) => Text::copy(alloc, name),
-        Err(_) => unreachable!(),
-    }
+    Text::copy(alloc, str::from_utf8(name.as_bytes()).unwrap())
 }

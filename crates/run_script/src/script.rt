@@ -73,7 +73,7 @@ impl Script {
         Ok(())
     }
 
-    /// Does what the last line says where the input ends without a line feed.
+    /// Does what the last line says if the input ends without a line feed.
     pub fn finish<R: Threads + Sync, K: Sink, T: Teller>(
         &mut self,
         rt: &R,
@@ -101,7 +101,7 @@ impl Script {
         }
     }
 
-    /// Takes the next byte, and does what its line says where the byte ends one.
+    /// Takes the next byte, and does what its line says if the byte ends one.
     fn take_byte<R: Threads + Sync, K: Sink, T: Teller>(
         &mut self,
         rt: &R,

@@ -15,7 +15,7 @@ write_hex-requires-clause-frame_size g c =
     let old = c.args.self.now in
     let channel = c.args.channel in
     let there : slice_get old.setup.config.channels (channel - 1) ≡ Some c.unwrap.result.now =
-    ap₂ (λ l n. slice_get l (n - 1)) (sym c.channels-channels.ensures.value) (sym c.from.ensures) ∙ sym c.get.ensures ∙ ap option_copied c.unwrap.ensures in
+    ap₂ slice_get (sym c.channels-channels.ensures.value) (sym c.channel_index.ensures) ∙ sym c.get.ensures ∙ ap option_copied c.unwrap.ensures in
     ap length c.frame-picture.ensures.value ∙ c.frame-picture.ensures.range.bytes
     ∙ ap (λ (s : Geometry). 4 * s.width * s.height) (size_of_frame old c.args.renderer.now channel c.unwrap.result.now c.requires.fits c.requires.channel.0 there ∙ sym c.geometry-size.ensures.value)
 
@@ -24,7 +24,7 @@ write_hex-requires-clause-sound_size g c =
     let old = c.args.self.now in
     let channel = c.args.channel in
     let there : slice_get old.setup.config.channels (channel - 1) ≡ Some c.unwrap.result.now =
-    ap₂ (λ l n. slice_get l (n - 1)) (sym c.channels-channels.ensures.value) (sym c.from.ensures) ∙ sym c.get.ensures ∙ ap option_copied c.unwrap.ensures in
+    ap₂ slice_get (sym c.channels-channels.ensures.value) (sym c.channel_index.ensures) ∙ sym c.get.ensures ∙ ap option_copied c.unwrap.ensures in
     ap length c.sound-sound.ensures.value ∙ c.sound-sound.ensures.range.sound
     ∙ ap (λ (s : Geometry). 4 * s.pairs) (size_of_frame old c.args.renderer.now channel c.unwrap.result.now c.requires.fits c.requires.channel.0 there ∙ sym c.geometry-size.ensures.value)
 
@@ -33,7 +33,7 @@ returns g c =
     let old = c.args.self.now in
     let channel = c.args.channel in
     let there : slice_get old.setup.config.channels (channel - 1) ≡ Some c.unwrap.result.now =
-    ap₂ (λ l n. slice_get l (n - 1)) (sym c.channels-channels.ensures.value) (sym c.from.ensures) ∙ sym c.get.ensures ∙ ap option_copied c.unwrap.ensures in
+    ap₂ slice_get (sym c.channels-channels.ensures.value) (sym c.channel_index.ensures) ∙ sym c.get.ensures ∙ ap option_copied c.unwrap.ensures in
     let size_is = c.geometry-size.ensures.value ∙ sym (size_there old channel c.unwrap.result.now c.requires.channel.0 there) in
     let picture_is = c.frame-picture.ensures.value in
     let sound_is = c.sound-sound.ensures.value in

@@ -1,6 +1,6 @@
 -- What the exit status of the program tells.
 use Rattle.std.proofs.Common.{◌≡◌, ◌≢◌, ◌⊎◌, ℕ, ◌≤◌, List, [], refl, sym, ap, ◌∙◌, subst, arith, inl, inr}
-use Rattle.std.specs.Prelude.{Option, Some, None, Result, Ok, Err, option_map, string_bytes}
+use Rattle.std.specs.Prelude.{Option, Some, None, Result, Ok, Err, string_bytes}
 use Rattle.std.proofs.lemmas.Option.{none-some}
 use Rattle.clap.specs.Words.{fault_of}
 use Rattle.play_outside.specs.Faults.{Rose}
@@ -15,17 +15,16 @@ use Rattle.play_types.specs.declared.clip_fault.ClipFault.TheVariants as clip
 use Rattle.server_setup.specs.declared.fault.RunFault.{RunFault}
 use Rattle.server_setup.specs.declared.fault.RunFault.TheVariants.{Usage, ConfigText, ConfigKey, BadLine, InputTooLong, Plan, PlanEnd, Record, Clip, MediaTwice, MediaTotal, Device, OutOfMemory}
 use Rattle.server_setup.specs.declared.setup.ServerSetup.{ServerSetup}
-use Rattle.play_server.specs.Program.{AtSite, RunsLine, RunsOn, RunsServer, RunsSetUp, RunsWords, SaysEnd, SaysLine, asked_in, asked_of, program_of, status_in}
-use Rattle.play_server.specs.ServerWords.{Accepts, ReadsWords, playd_app}
+use Rattle.play_server.specs.Program.{AtSite, RunsServer, SaysEnd, SaysLine, program_of, status_in}
+use Rattle.play_server.specs.ServerWords.{Accepts, playd_app}
 use Rattle.play_server.specs.Site.{DeviceStates, Says}
-use Rattle.play_server.specs.SiteState.{SiteState, after_call_without_memory}
-use Rattle.play_server.specs.Statuses.{EndsUncalled, EndsWell, HasFirstFault, HasServedClients, IsRefused, RefusesClips, RefusesConfig, SomethingFails}
+use Rattle.play_server.specs.SiteState.{SiteState}
+use Rattle.play_server.specs.Statuses.{EndsUncalled, EndsWell, HasFirstFault, HasItsCause, IsRefused, RefusesClips, RefusesConfig, SomethingFails}
 use Rattle.play_server.specs.declared.served.ServeEnd.TheVariants as serve
 use Rattle.play_server.specs.declared.words.ServerWords.{ServerWords}
-use Rattle.play_server.specs.declared.words.ServerWordsFault.{ServerWordsFault}
-use Rattle.play_server.specs.declared.words.ServerWordsFault.TheVariants as words
 use Rattle.play_server.proofs.SaysLine.{moved_clips, moved_config, moved_failure, moved_run}
-use Rattle.play_server.proofs.DeviceFaults.{device_rose, devices_stay, rises, stopped_by}
+use Rattle.play_server.proofs.ADeviceFails.{device_rose, devices_stay, stopped_by}
+use Rattle.play_server.proofs.RunsLine.{Came, came_of_line}
 
 -- the law on what setting up gives, by the first fault of the files
 abbrev pub FirstFaultDecides : Type 0
@@ -44,107 +43,8 @@ module _ {C D O : Type 0} where
   end_more (Err fault) before after says = said_more says.step says.line before after says.said
 
 module _ {C D O L : Type 0} (device : DeviceStates C D O L) (tells : L → SinkState) (line : List (List ℕ)) where
-  -- a server was set up as the words say
-  record IsSetUp (moments : AtSite C D O × AtSite C D O) : Type 0 where
-    named : ServerWords
-    accepted : Accepts line named
-    setup : ServerSetup
-    set_up : SetsUp (string_bytes named.config) (Ok setup) moments.0.folder moments.1.folder
-
-  -- what came of a call, by its result, before anything was said
-  abbrev Came : Result (Unit {0}) RunFault → AtSite C D O × AtSite C D O → Type 0
-  Came (Ok done) moments = (run : HasServedClients device tells line serve.Ended moments) × (run.site ≡ moments.1.site)
-  Came (Err Usage) moments = fault_of playd_app line ≢ []
-  Came (Err ConfigText) moments = IsRefused line ConfigText moments
-  Came (Err (ConfigKey key)) moments = IsRefused line (ConfigKey key) moments
-  Came (Err (BadLine number)) moments = ⊥
-  Came (Err InputTooLong) moments = ⊥
-  Came (Err (Plan number)) moments = ⊥
-  Came (Err PlanEnd) moments = ⊥
-  Came (Err (Record name)) moments = ⊥
-  Came (Err (Clip fault)) moments = ⊥
-  Came (Err (MediaTwice name)) moments = IsRefused line (MediaTwice name) moments
-  Came (Err (MediaTotal total)) moments = IsRefused line (MediaTotal total) moments
-  Came (Err Device) moments =
-      (fault_of playd_app line ≡ [])
-      × (Rose moments.0.folder.faults moments.1.folder.faults
-      ⊎ (IsSetUp moments × (Rose moments.0.site.faults moments.1.site.faults ⊎ HasServedClients device tells line serve.DeviceFault moments)))
-  Came (Err OutOfMemory) moments =
-      (moments.1.site ≡ moments.0.site)
-      ⊎ ((moments.1.site ≡ after_call_without_memory moments.0.site)
-      ⊎ ((run : HasServedClients device tells line serve.OutOfMemory moments) × (run.site ≡ moments.1.site)))
-
-  -- what came of setting up that met a fault
-  came_of_fault : (named : ServerWords) (fault : RunFault) (moments : AtSite C D O × AtSite C D O) → Accepts line named
-      → SetsUp (string_bytes named.config) (Err fault) moments.0.folder moments.1.folder → moments.1.site ≡ moments.0.site → Came (Err fault) moments
-  came_of_fault named Usage moments accepted sets same = absurd sets
-  came_of_fault named ConfigText moments accepted sets same = record { named = named; accepted = accepted; refused = sets }
-  came_of_fault named (ConfigKey key) moments accepted sets same = record { named = named; accepted = accepted; refused = sets }
-  came_of_fault named (BadLine number) moments accepted sets same = absurd sets
-  came_of_fault named InputTooLong moments accepted sets same = absurd sets
-  came_of_fault named (Plan number) moments accepted sets same = absurd sets
-  came_of_fault named PlanEnd moments accepted sets same = absurd sets
-  came_of_fault named (Record name) moments accepted sets same = absurd sets
-  came_of_fault named (Clip fault) moments accepted sets same = absurd sets
-  came_of_fault named (MediaTwice name) moments accepted sets same = record { named = named; accepted = accepted; refused = sets }
-  came_of_fault named (MediaTotal total) moments accepted sets same = record { named = named; accepted = accepted; refused = sets }
-  came_of_fault named Device moments accepted sets same = (accepted.accepted, inl sets.1)
-  came_of_fault named OutOfMemory moments accepted sets same = inl same
-
-  -- what came of a run on what was set up
-  came_of_run : (named : ServerWords) (setup : ServerSetup) (result : Result (Unit {0}) RunFault) (moments : AtSite C D O × AtSite C D O) → Accepts line named
-      → SetsUp (string_bytes named.config) (Ok setup) moments.0.folder moments.1.folder
-      → RunsOn device tells (asked_of setup (option_map string_bytes named.journal)) result (moments.0.site, moments.1.site) → Came result moments
-  came_of_run named setup (Ok done) moments accepted sets runs =
-      (record { named = named; accepted = accepted; setup = setup; set_up = sets; site = moments.1.site; served = runs }, refl)
-  came_of_run named setup (Err Device) moments accepted sets runs =
-      let set_up : IsSetUp moments = record { named = named; accepted = accepted; setup = setup; set_up = sets } in
-      elim runs [
-        | inl served ↦
-            (accepted.accepted, inr (set_up, inr (record { named = named; accepted = accepted; setup = setup; set_up = sets; site = moments.1.site; served = served })))
-        | inr unready ↦
-            (accepted.accepted, inr (set_up, inl (rises moments.0.site.faults moments.1.site.faults (ap (λ (s : SiteState C D O). s.faults) unready))))
-      ]
-  came_of_run named setup (Err OutOfMemory) moments accepted sets runs =
-      elim runs [
-        | inl served ↦
-            inr (inr (record { named = named; accepted = accepted; setup = setup; set_up = sets; site = moments.1.site; served = served }, refl))
-        | inr unready ↦ inr (inl unready)
-      ]
-  came_of_run named setup (Err Usage) moments accepted sets runs = absurd runs
-  came_of_run named setup (Err ConfigText) moments accepted sets runs = absurd runs
-  came_of_run named setup (Err (ConfigKey key)) moments accepted sets runs = absurd runs
-  came_of_run named setup (Err (BadLine number)) moments accepted sets runs = absurd runs
-  came_of_run named setup (Err InputTooLong) moments accepted sets runs = absurd runs
-  came_of_run named setup (Err (Plan number)) moments accepted sets runs = absurd runs
-  came_of_run named setup (Err PlanEnd) moments accepted sets runs = absurd runs
-  came_of_run named setup (Err (Record name)) moments accepted sets runs = absurd runs
-  came_of_run named setup (Err (Clip fault)) moments accepted sets runs = absurd runs
-  came_of_run named setup (Err (MediaTwice name)) moments accepted sets runs = absurd runs
-  came_of_run named setup (Err (MediaTotal total)) moments accepted sets runs = absurd runs
-
-  came_of_setup : (named : ServerWords) (setup : Result ServerSetup RunFault) (result : Result (Unit {0}) RunFault) (moments : AtSite C D O × AtSite C D O) → Accepts line named
-      → SetsUp (string_bytes named.config) setup moments.0.folder moments.1.folder
-      → RunsSetUp device tells (asked_in setup (option_map string_bytes named.journal)) result (moments.0.site, moments.1.site) → Came result moments
-  came_of_setup named (Ok setup) result moments accepted sets runs = came_of_run named setup result moments accepted sets runs
-  came_of_setup named (Err fault) result moments accepted sets runs =
-      subst (λ (r : Result (Unit {0}) RunFault). Came r moments) (sym runs.2)
-      (elim runs.1 [
-        | inl same ↦ subst (λ (f : RunFault). Came (Err f) moments) (sym same) (came_of_fault named fault moments accepted sets runs.3)
-        | inr late ↦ subst (λ (f : RunFault). Came (Err f) moments) (sym late.1) (inl runs.3)
-      ])
-
-  came_of_words : (read : Result ServerWords ServerWordsFault) (result : Result (Unit {0}) RunFault) (moments : AtSite C D O × AtSite C D O) → ReadsWords line read
-      → RunsWords device tells read result moments → Came result moments
-  came_of_words (Ok named) result moments reads runs = came_of_setup named runs.setup result moments reads runs.sets_up runs.runs
-  came_of_words (Err words.Usage) result moments reads runs = subst (λ (r : Result (Unit {0}) RunFault). Came r moments) (sym runs.0) reads
-  came_of_words (Err words.OutOfMemory) result moments reads runs = subst (λ (r : Result (Unit {0}) RunFault). Came r moments) (sym runs.0) (inl (ap (λ (at : AtSite C D O). at.site) runs.1))
-
-  came_of_line : (result : Result (Unit {0}) RunFault) (moments : AtSite C D O × AtSite C D O) → RunsLine device tells line result moments → Came result moments
-  came_of_line result moments runs = came_of_words runs.read result moments runs.reads runs.runs
-
   -- status 1 comes only if the words are refused
-  only_usage : (result : Result (Unit {0}) RunFault) (moments : AtSite C D O × AtSite C D O) → Came result moments → status_in result ≡ 1
+  only_usage : (result : Result (Unit {0}) RunFault) (moments : AtSite C D O × AtSite C D O) → Came device tells line result moments → status_in result ≡ 1
       → fault_of playd_app line ≢ []
   only_usage (Ok done) moments came is = absurd (omega (arith, is))
   only_usage (Err Usage) moments came is = came
@@ -162,7 +62,7 @@ module _ {C D O L : Type 0} (device : DeviceStates C D O L) (tells : L → SinkS
   only_usage (Err OutOfMemory) moments came is = absurd (omega (arith, is))
 
   -- words that are refused give status 1, or 5
-  refused_words : (result : Result (Unit {0}) RunFault) (moments : AtSite C D O × AtSite C D O) → Came result moments → fault_of playd_app line ≢ []
+  refused_words : (result : Result (Unit {0}) RunFault) (moments : AtSite C D O × AtSite C D O) → Came device tells line result moments → fault_of playd_app line ≢ []
       → (status_in result ≡ 1) ⊎ (status_in result ≡ 5)
   refused_words (Ok done) moments came refused = absurd (refused came.0.accepted.accepted)
   refused_words (Err Usage) moments came refused = inl refl
@@ -180,7 +80,7 @@ module _ {C D O L : Type 0} (device : DeviceStates C D O L) (tells : L → SinkS
   refused_words (Err OutOfMemory) moments came refused = inr refl
 
   -- status 2 comes only if the configuration is refused
-  only_config : (result : Result (Unit {0}) RunFault) (moments : AtSite C D O × AtSite C D O) → Came result moments → status_in result ≡ 2 → RefusesConfig line moments
+  only_config : (result : Result (Unit {0}) RunFault) (moments : AtSite C D O × AtSite C D O) → Came device tells line result moments → status_in result ≡ 2 → RefusesConfig line moments
   only_config (Ok done) moments came is = absurd (omega (arith, is))
   only_config (Err Usage) moments came is = absurd (omega (arith, is))
   only_config (Err ConfigText) moments came is = inl came
@@ -197,7 +97,7 @@ module _ {C D O L : Type 0} (device : DeviceStates C D O L) (tells : L → SinkS
   only_config (Err OutOfMemory) moments came is = absurd (omega (arith, is))
 
   -- status 3 comes only if the clips are refused
-  only_clips : (result : Result (Unit {0}) RunFault) (moments : AtSite C D O × AtSite C D O) → Came result moments → status_in result ≡ 3 → RefusesClips line moments
+  only_clips : (result : Result (Unit {0}) RunFault) (moments : AtSite C D O × AtSite C D O) → Came device tells line result moments → status_in result ≡ 3 → RefusesClips line moments
   only_clips (Ok done) moments came is = absurd (omega (arith, is))
   only_clips (Err Usage) moments came is = absurd (omega (arith, is))
   only_clips (Err ConfigText) moments came is = absurd (omega (arith, is))
@@ -214,7 +114,7 @@ module _ {C D O L : Type 0} (device : DeviceStates C D O L) (tells : L → SinkS
   only_clips (Err OutOfMemory) moments came is = absurd (omega (arith, is))
 
   -- something failed if the result is that of a device
-  failed : (moments : AtSite C D O × AtSite C D O) → Came (Err Device) moments → SomethingFails device tells line moments
+  failed : (moments : AtSite C D O × AtSite C D O) → Came device tells line (Err Device) moments → SomethingFails device tells line moments
   failed moments came =
       elim came.1 [
         | inl folder ↦ inl folder
@@ -224,7 +124,7 @@ module _ {C D O L : Type 0} (device : DeviceStates C D O L) (tells : L → SinkS
         ]
       ]
 
-  only_device : (result : Result (Unit {0}) RunFault) (moments : AtSite C D O × AtSite C D O) → Came result moments → status_in result ≡ 4 → SomethingFails device tells line moments
+  only_device : (result : Result (Unit {0}) RunFault) (moments : AtSite C D O × AtSite C D O) → Came device tells line result moments → status_in result ≡ 4 → SomethingFails device tells line moments
   only_device (Ok done) moments came is = absurd (omega (arith, is))
   only_device (Err Usage) moments came is = absurd (omega (arith, is))
   only_device (Err ConfigText) moments came is = absurd (omega (arith, is))
@@ -280,7 +180,7 @@ module _ {C D O L : Type 0} (device : DeviceStates C D O L) (tells : L → SinkS
   first_of_refused decides fault first moments has refused = first_of_setting_up decides refused.named (Err fault) first moments has refused.accepted refused.refused
 
   -- files without a fault give status 0, or 5, or something failed
-  completes : FirstFaultDecides → (result : Result (Unit {0}) RunFault) (moments : AtSite C D O × AtSite C D O) → HasFirstFault line None moments.0.folder → Came result moments
+  completes : FirstFaultDecides → (result : Result (Unit {0}) RunFault) (moments : AtSite C D O × AtSite C D O) → HasFirstFault line None moments.0.folder → Came device tells line result moments
       → (status_in result ≡ 0) ⊎ ((status_in result ≡ 5) ⊎ ((status_in result ≡ 4) × SomethingFails device tells line moments))
   completes decides (Ok done) moments has came = inl refl
   completes decides (Err Usage) moments has came = absurd (came has.accepted)
@@ -309,7 +209,7 @@ module _ {C D O L : Type 0} (device : DeviceStates C D O L) (tells : L → SinkS
 
   -- the first fault gives its status
   meets : FirstFaultDecides → (fault : RunFault) (result : Result (Unit {0}) RunFault) (moments : AtSite C D O × AtSite C D O)
-      → HasFirstFault line (Some fault) moments.0.folder → Came result moments → Meets fault (status_in result) moments.0.folder moments.1.folder
+      → HasFirstFault line (Some fault) moments.0.folder → Came device tells line result moments → Meets fault (status_in result) moments.0.folder moments.1.folder
   meets decides fault (Ok done) moments has came =
       absurd (none-some _ (sym (first_of_setting_up decides came.0.named (Ok came.0.setup) (Some fault) moments has came.0.accepted came.0.set_up)))
   meets decides fault (Err Usage) moments has came = absurd (came has.accepted)
@@ -331,7 +231,7 @@ module _ {C D O L : Type 0} (device : DeviceStates C D O L) (tells : L → SinkS
   meets decides fault (Err OutOfMemory) moments has came = inr (inl refl)
 
   -- nothing failed if the result is Ok
-  ended_well : (first between last : AtSite C D O) → last.folder ≡ between.folder → last.site ≡ between.site → Came (Ok tt) (first, between) → EndsWell device tells line (first, last)
+  ended_well : (first between last : AtSite C D O) → last.folder ≡ between.folder → last.site ≡ between.site → Came device tells line (Ok tt) (first, between) → EndsWell device tells line (first, last)
   ended_well first between last folder silent came =
       let run = came.0 in
       record {
@@ -343,7 +243,7 @@ module _ {C D O L : Type 0} (device : DeviceStates C D O L) (tells : L → SinkS
       }
 
   only_success : (result : Result (Unit {0}) RunFault) (first between last : AtSite C D O) → last.folder ≡ between.folder → SaysEnd result between.site last.site
-      → Came result (first, between) → status_in result ≡ 0 → EndsWell device tells line (first, last)
+      → Came device tells line result (first, between) → status_in result ≡ 0 → EndsWell device tells line (first, last)
   only_success (Ok done) first between last folder says came is = ended_well first between last folder says came
   only_success (Err Usage) first between last folder says came is = absurd (omega (arith, is))
   only_success (Err ConfigText) first between last folder says came is = absurd (omega (arith, is))
@@ -361,7 +261,7 @@ module _ {C D O L : Type 0} (device : DeviceStates C D O L) (tells : L → SinkS
 
   -- no device was called if memory ran out
   uncalled : (first between last : AtSite C D O) → last.folder ≡ between.folder → SaysLine OutOfMemory between.site last.site
-      → Came (Err OutOfMemory) (first, between) → EndsUncalled device tells line (first, last)
+      → Came device tells line (Err OutOfMemory) (first, between) → EndsUncalled device tells line (first, last)
   uncalled first between last folder says came =
       elim came [
         | inl same ↦ inl (subst (λ (s : SiteState C D O). SaysLine OutOfMemory s last.site) same says)
@@ -377,7 +277,7 @@ module _ {C D O L : Type 0} (device : DeviceStates C D O L) (tells : L → SinkS
       ]
 
   only_memory : (result : Result (Unit {0}) RunFault) (first between last : AtSite C D O) → last.folder ≡ between.folder → SaysEnd result between.site last.site
-      → Came result (first, between) → status_in result ≡ 5 → EndsUncalled device tells line (first, last)
+      → Came device tells line result (first, between) → status_in result ≡ 5 → EndsUncalled device tells line (first, last)
   only_memory (Ok done) first between last folder says came is = absurd (omega (arith, is))
   only_memory (Err Usage) first between last folder says came is = absurd (omega (arith, is))
   only_memory (Err ConfigText) first between last folder says came is = absurd (omega (arith, is))
@@ -394,39 +294,39 @@ module _ {C D O L : Type 0} (device : DeviceStates C D O L) (tells : L → SinkS
   only_memory (Err OutOfMemory) first between last folder says came is = uncalled first between last folder says came
 
   module _ (status : ℕ) (moments : AtSite C D O × AtSite C D O) (ran : RunsServer device tells line status moments) where
-    came_here : Came ran.result (moments.0, ran.between)
-    came_here = came_of_line ran.result (moments.0, ran.between) ran.runs
+    came_here : Came device tells line ran.result (moments.0, ran.between)
+    came_here = came_of_line device tells line ran.result (moments.0, ran.between) ran.runs
 
-    pub most_status : status ≤ 5
+    most_status : status ≤ 5
     most_status = rw ran.status_is (at_most ran.result)
 
-    pub usage_status : status ≡ 1 → fault_of playd_app line ≢ []
+    usage_status : status ≡ 1 → fault_of playd_app line ≢ []
     usage_status is = only_usage ran.result (moments.0, ran.between) came_here (sym ran.status_is ∙ is)
 
-    pub refused_status : fault_of playd_app line ≢ [] → (status ≡ 1) ⊎ (status ≡ 5)
+    refused_status : fault_of playd_app line ≢ [] → (status ≡ 1) ⊎ (status ≡ 5)
     refused_status refused = rw ran.status_is (refused_words ran.result (moments.0, ran.between) came_here refused)
 
-    pub config_status : status ≡ 2 → RefusesConfig line moments
+    config_status : status ≡ 2 → RefusesConfig line moments
     config_status is =
         moved_config line moments.0 ran.between moments.1 ran.folder (only_config ran.result (moments.0, ran.between) came_here (sym ran.status_is ∙ is))
 
-    pub clips_status : status ≡ 3 → RefusesClips line moments
+    clips_status : status ≡ 3 → RefusesClips line moments
     clips_status is =
         moved_clips line moments.0 ran.between moments.1 ran.folder (only_clips ran.result (moments.0, ran.between) came_here (sym ran.status_is ∙ is))
 
     fails_here : SomethingFails device tells line (moments.0, ran.between) → SomethingFails device tells line moments
     fails_here = moved_failure device tells line moments.0 ran.between moments.1 ran.folder (end_more ran.result ran.between.site moments.1.site ran.says)
 
-    pub device_status : status ≡ 4 → SomethingFails device tells line moments
+    device_status : status ≡ 4 → SomethingFails device tells line moments
     device_status is = fails_here (only_device ran.result (moments.0, ran.between) came_here (sym ran.status_is ∙ is))
 
-    pub success_status : status ≡ 0 → EndsWell device tells line moments
+    success_status : status ≡ 0 → EndsWell device tells line moments
     success_status is = only_success ran.result moments.0 ran.between moments.1 ran.folder ran.says came_here (sym ran.status_is ∙ is)
 
-    pub memory_status : status ≡ 5 → EndsUncalled device tells line moments
+    memory_status : status ≡ 5 → EndsUncalled device tells line moments
     memory_status is = only_memory ran.result moments.0 ran.between moments.1 ran.folder ran.says came_here (sym ran.status_is ∙ is)
 
-    pub faultless_status : FirstFaultDecides → HasFirstFault line None moments.0.folder
+    faultless_status : FirstFaultDecides → HasFirstFault line None moments.0.folder
         → (status ≡ 0) ⊎ ((status ≡ 5) ⊎ ((status ≡ 4) × SomethingFails device tells line moments))
     faultless_status decides has =
         elim (completes decides ran.result (moments.0, ran.between) has came_here) [
@@ -437,9 +337,24 @@ module _ {C D O L : Type 0} (device : DeviceStates C D O L) (tells : L → SinkS
           ]
         ]
 
-    pub faulty_status : FirstFaultDecides → (fault : RunFault) → HasFirstFault line (Some fault) moments.0.folder
+    faulty_status : FirstFaultDecides → (fault : RunFault) → HasFirstFault line (Some fault) moments.0.folder
         → (status ≡ status_of fault) ⊎ ((status ≡ 5) ⊎ ((status ≡ 4) × Rose moments.0.folder.faults moments.1.folder.faults))
     faulty_status decides fault has =
         subst (λ (n : ℕ). Meets fault n moments.0.folder moments.1.folder) (sym ran.status_is)
         (subst (λ (f : FolderState). Meets fault (status_in ran.result) moments.0.folder f) (sym ran.folder)
         (meets decides fault ran.result (moments.0, ran.between) has came_here))
+
+  -- the exit status of the whole program has its cause
+  pub has_its_cause : (status : ℕ) (moments : AtSite C D O × AtSite C D O) → RunsServer device tells line status moments → FirstFaultDecides → HasItsCause device tells line status moments
+  has_its_cause status moments ran decides = record {
+    most = most_status status moments ran;
+    usage = usage_status status moments ran;
+    refused = refused_status status moments ran;
+    config = config_status status moments ran;
+    clips = clips_status status moments ran;
+    device = device_status status moments ran;
+    memory = memory_status status moments ran;
+    success = success_status status moments ran;
+    valid = faultless_status status moments ran decides;
+    invalid = faulty_status status moments ran decides;
+  }

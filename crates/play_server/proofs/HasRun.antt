@@ -44,9 +44,9 @@ use Rattle.play_server.specs.inner.Threads.{Moment, RanBeside, ticker_pass, tick
 use Rattle.play_server.specs.inner.Workers.{HasWorkedAt, door_states}
 use Rattle.play_server.specs.declared.connection_workers.ConnectionWorker.{ConnectionWorker}
 use Rattle.play_server.specs.declared.served.ServeEnd.{ServeEnd}
-use Rattle.play_server.proofs.RunPasses.{HasNewPasses}
-use Rattle.play_server.proofs.DoorOrder.{EachPlace, doors_of, each_place, ends_of, passes_of}
-use Rattle.play_server.proofs.Reversed.{all_zip_reverse, any_reversed}
+use Rattle.play_server.proofs.WorkerPasses.{HasNewPasses}
+use Rattle.play_server.proofs.HasWorkedAt.{EachPlace, doors_of, each_place, ends_of, passes_of}
+use Rattle.play_server.proofs.Reverse.{all_zip_reverse, any_reversed}
 use Rattle.play_server.proofs.EndsWithStop.{ends_with_stop, has_final_last, same_server, seen_stop, ticks_end, written_later}
 use Rattle.play_server.proofs.IsExplainedLink.{IsNewPass, stop_stays}
 use Rattle.play_server.proofs.HasServed.{DoorsServed, IsOfLinks, doors_served, is_faulty}
@@ -284,18 +284,18 @@ blank frames channels same = record { channels = channels; blank = same }
 -- what is known of the stage that was closed and of the text that was written
 pub record Ending {C D O L : Type 0} (states : DeviceStates C D O L) (program : Program) (server : Server) (new : Moment C D O) (end : TickEnd × Sent × ServeEnd × Devices C D O × Devices C D O) : Type 0 where
   pub after : List PassView
-  pub passes : after ≡ new.ticker.pass ∷ passes_of (reverse new.workers)
+  pub passes : after ≡ new.ticker.pass ∷ passes_of (reverse new.connection_workers)
   pub journal : JournalView
   pub closes : Closes after journal.events
   pub is_journal : IsJournal journal
   pub limit : journal.limit ≡ program.config.journal_limit
   pub text : Sends end.1 (history_text server.media.now journal.events) (states.out end.3.history) (states.out end.4.history)
-  pub end_is : end.2 ≡ ends_so (is_tick_fault end.0 || (list_any (λ (worker : ConnectionWorker D). is_door_fault worker.end) new.workers || is_cut end.1))
+  pub end_is : end.2 ≡ ends_so (is_tick_fault end.0 || (list_any (λ (worker : ConnectionWorker D). is_door_fault worker.end) new.connection_workers || is_cut end.1))
 
 -- the devices of a run at a moment are these
 pub record HoldsDevices {C D O : Type 0} (moment : Moment C D O) (devices : Devices C D O) : Type 0 where
   pub clock : moment.ticker.clock ≡ devices.clock
-  pub doors : doors_of (reverse moment.workers) ≡ devices.doors.items
+  pub doors : doors_of (reverse moment.connection_workers) ≡ devices.doors.items
   pub outs : moment.ticker.outs.items ≡ devices.outs.items
 
 -- what a run is played on is what its threads share
@@ -312,16 +312,16 @@ module _ {C D O L : Type 0} (states : DeviceStates C D O L) (tells : L → SinkS
     (ran : RanBeside (ticker_states states.clock states.out) (door_states states.door tells) setup server (ticker, old, new)) where
   -- the work at each door, from the door that was given
   pub worked_at : EachPlace (door_states states.door tells) server (worker_passes server.stage.now (length given.doors.items)) given.doors.items
-      (passes_of (reverse new.workers)) (ends_of (reverse new.workers)) finished.doors.items
+      (passes_of (reverse new.connection_workers)) (ends_of (reverse new.connection_workers)) finished.doors.items
   worked_at =
-      let all = all_zip_reverse (HasWorkedAt (door_states states.door tells) server) old.workers new.workers ran.worked in
-      let each = each_place (door_states states.door tells) server (reverse old.workers) (reverse new.workers) all in
+      let all = all_zip_reverse (HasWorkedAt (door_states states.door tells) server) old.connection_workers new.connection_workers ran.worked in
+      let each = each_place (door_states states.door tells) server (reverse old.connection_workers) (reverse new.connection_workers) all in
       subst (λ (ds : List D). EachPlace (door_states states.door tells) server (worker_passes server.stage.now (length given.doors.items)) given.doors.items
-      (passes_of (reverse new.workers)) (ends_of (reverse new.workers)) ds) held.doors
+      (passes_of (reverse new.connection_workers)) (ends_of (reverse new.connection_workers)) ds) held.doors
       (subst (λ (ds : List D). EachPlace (door_states states.door tells) server (worker_passes server.stage.now (length given.doors.items)) ds
-      (passes_of (reverse new.workers)) (ends_of (reverse new.workers)) (doors_of (reverse new.workers))) holds.doors
-      (subst (λ (ps : List PassView). EachPlace (door_states states.door tells) server ps (doors_of (reverse old.workers))
-      (passes_of (reverse new.workers)) (ends_of (reverse new.workers)) (doors_of (reverse new.workers))) passes.workers each))
+      (passes_of (reverse new.connection_workers)) (ends_of (reverse new.connection_workers)) (doors_of (reverse new.connection_workers))) holds.doors
+      (subst (λ (ps : List PassView). EachPlace (door_states states.door tells) server ps (doors_of (reverse old.connection_workers))
+      (passes_of (reverse new.connection_workers)) (ends_of (reverse new.connection_workers)) (doors_of (reverse new.connection_workers))) passes.connection_workers each))
 
   outs_at : AreWritten states.out ticker (record { setup = setup; history = new.ticker.pass.seen }) given.outs.items finished.outs.items
   outs_at =
@@ -335,9 +335,9 @@ module _ {C D O L : Type 0} (states : DeviceStates C D O L) (tells : L → SinkS
       let closed : Closed states tells program server (ticker, written, given, finished) = record {
         after = ending.after;
         first = new.ticker.pass;
-        others = passes_of (reverse new.workers);
+        others = passes_of (reverse new.connection_workers);
         passes = ending.passes;
-        ended = ends_of (reverse new.workers);
+        ended = ends_of (reverse new.connection_workers);
         journal = ending.journal;
         on = on.on;
         config = on.config;
@@ -359,10 +359,10 @@ module _ {C D O L : Type 0} (states : DeviceStates C D O L) (tells : L → SinkS
         limit = ending.limit;
         text = ending.text;
       } in
-      let failed : Bool = is_tick_fault ticker || (list_any is_door_fault (ends_of (reverse new.workers)) || is_cut written) in
+      let failed : Bool = is_tick_fault ticker || (list_any is_door_fault (ends_of (reverse new.connection_workers)) || is_cut written) in
       let end_is : end ≡ ends_so failed =
       ending.end_is
       ∙ ap (λ (b : Bool). ends_so (is_tick_fault ticker || (b || is_cut written)))
-      (sym (any_reversed is_door_fault (λ (worker : ConnectionWorker D). worker.end) new.workers)) in
+      (sym (any_reversed is_door_fault (λ (worker : ConnectionWorker D). worker.end) new.connection_workers)) in
       subst (λ (e : ServeEnd). Serves states tells program e (given, finished)) (sym end_is)
       (serves states tells program failed (given, finished) (has_run states tells program server ticker written given finished closed))

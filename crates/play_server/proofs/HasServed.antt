@@ -18,7 +18,7 @@ use Rattle.conn_worker.specs.declared.work_end.WorkEnd.{WorkEnd}
 use Rattle.play_server.specs.Doors.{DoorRun, EachDoor, HasServed, IsTagOfLink, is_door_fault}
 use Rattle.play_server.specs.Links.{EachFrom}
 use Rattle.play_server.specs.inner.Workers.{DoorStates}
-use Rattle.play_server.proofs.DoorOrder.{EachPlace}
+use Rattle.play_server.proofs.HasWorkedAt.{EachPlace}
 use Rattle.play_server.proofs.Tags.{IsTagged, all_append, steps_tagged}
 use Rattle.play_server.proofs.HasWorked.{Link, events_from, link_events, link_runs_in}
 use Rattle.play_server.proofs.IsExplainedLink.{IsNewPass, ServedBy, length_link_runs, served_by}

@@ -13,7 +13,7 @@ use Rattle.play_server.specs.Run.{is_cut}
 use Rattle.play_server.specs.Site.{DeviceStates}
 use Rattle.play_server.specs.Statuses.{HasServedClients}
 use Rattle.play_server.specs.declared.served.ServeEnd.TheVariants as serve
-use Rattle.play_server.proofs.DeviceFaults.{no_faults}
+use Rattle.play_server.proofs.ADeviceFails.{no_faults}
 use Rattle.play_server.proofs.IsReplayable.{run_replayable, taken_by_new}
 
 -- what was not cut was wholly written

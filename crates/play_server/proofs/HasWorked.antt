@@ -25,8 +25,9 @@ use Rattle.conn_worker.specs.declared.work_end.WorkEnd.{WorkEnd}
 use Rattle.conn_worker.specs.declared.work_end.WorkEnd.TheVariants.{Closed, Ended, DoorFault, SessionsOver}
 use Rattle.play_server.specs.Links.{EachFrom}
 use Rattle.play_server.specs.Doors.{DoorRun, OnlyLastIsStopped, WasAsked, faults_after, given_back, is_closed, is_door_fault, is_stopped}
-use Rattle.play_server.proofs.PassOn.{DoorOn, PassOn, door_served, door_waited, more_returned, pass_looked, pass_made, pass_quiet, pass_same, pass_stopped, pass_then}
-use Rattle.play_server.proofs.LinkRuns.{GoesOn, StopSeen, goes_on, looked_stop, looks_ends}
+use Rattle.play_server.proofs.ListenerState.{DoorOn, door_served, door_waited, more_returned}
+use Rattle.play_server.proofs.PassView.{PassOn, pass_looked, pass_made, pass_quiet, pass_same, pass_stopped, pass_then}
+use Rattle.play_server.proofs.GoesOnAfter.{GoesOn, StopSeen, goes_on, looked_stop, looks_ends}
 
 -- a link that was served, and the talk with its client
 pub record Link (L : Type 0) : Type 0 where

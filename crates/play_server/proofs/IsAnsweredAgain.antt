@@ -29,7 +29,7 @@ use Rattle.conn_worker.specs.Followed.{Followed, Service, events_of, turn_of}
 use Rattle.conn_worker.specs.Followed as followed
 use Rattle.play_server.specs.Replay.{IsAnsweredAgain, opening_output, playout_of}
 use Rattle.play_server.specs.Run.{Program}
-use Rattle.play_server.proofs.Reversed.{heads}
+use Rattle.play_server.proofs.Reverse.{heads}
 use Rattle.play_server.proofs.HistoryOutput.{history_output-at}
 
 -- no answer depends on the clips

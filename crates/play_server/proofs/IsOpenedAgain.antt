@@ -15,7 +15,7 @@ use Rattle.history_replay.proofs.Openings.{told_before}
 use Rattle.conn_worker.specs.Followed.{Followed, Service, events_of, given_up_of, steps_in, steps_of, turn_of}
 use Rattle.play_server.specs.Replay.{IsOpenedAgain, opening_output, playout_of}
 use Rattle.play_server.specs.Run.{Program}
-use Rattle.play_server.proofs.Reversed.{heads, tails}
+use Rattle.play_server.proofs.Reverse.{heads, tails}
 
 -- steps in two parts, followed
 record CutAt (steps : List Followed) (front back : List Step) : Type 0 where

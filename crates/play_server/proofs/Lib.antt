@@ -1,28 +1,30 @@
+mod ADeviceFails
+pub mod AllZip
 mod AreUnused
 mod CopyChannels
-mod DeviceFaults
-mod DoorOrder
+mod EndsWithFault
 mod EndsWithStop
-pub mod Halves
+mod Filmed
+mod GoesOnAfter
 mod HasItsCause
 mod HasRun
 mod HasServed
 mod HasServedClients
 mod HasWorked
+mod HasWorkedAt
 mod HistoryOutput
 mod IsAnsweredAgain
 mod IsExplainedLink
 mod IsOpenedAgain
 mod IsReplayable
 mod IsShownAgain
-mod LinkRuns
+mod ListenerState
 pub mod OnLiterals
-mod OnAir
-mod PassOn
-mod Reversed
-mod RunPasses
+mod PassView
+mod Reverse
+mod RunsLine
 mod RunsServer
 mod SaysLine
 mod Tags
-mod ToldFault
+mod WorkerPasses
 mod WriteHistory

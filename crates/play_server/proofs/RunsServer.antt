@@ -140,3 +140,14 @@ module _ {C D O L : Type 0} (device : DeviceStates C D O L) (tells : L → SinkS
     folder = folder;
     status_is = ends.status_is;
   }
+
+  -- the run ended without a fault, and nothing was said
+  pub ended_without_fault : (line : List (List ℕ)) (first last : AtSite C D O) → RunsLine device tells line (Ok tt) (first, last) → RunsServer device tells line 0 (first, last)
+  ended_without_fault line first last ran = record {
+    result = Ok tt;
+    between = last;
+    runs = ran;
+    says = refl;
+    folder = refl;
+    status_is = refl;
+  }

@@ -39,7 +39,7 @@ pub record IsExplainedBy (service : Service) (history : List Event) (end : LinkE
   pub events : tagged service.tag history ≡ flat_map (events_of service) (covered talk)
   -- before each look all steps of the bytes read until then were followed, and none of them was an end
   pub looks : (k : ℕ) → k < length talk.rounds → IsCaughtUp service (take k talk.rounds)
-  -- the link was called just so: look by look, and after each look the replies to its steps were written, in order; a failure comes
+  -- the link was called just so: after each look the replies to its steps were written, in order, before the next look; a failure comes
   -- after that
   pub link : IsAfterFailure service talk.failure (after_rounds service talk.rounds came) left
   -- what the end tells, if the pass had seen a part of the history

@@ -35,28 +35,28 @@ impl<D: Listener> ConnectionWorker<D> {
 
 /// Moves each door with the last passes and the sessions into a connection worker, the last door first. There is room for them.
 pub(crate) fn engage<D: Listener>(
-    workers: &mut Vec<ConnectionWorker<D>>,
+    connection_workers: &mut Vec<ConnectionWorker<D>>,
     passes: &mut Vec<Pass>,
     mut sessions: Vec<Session>,
     doors: &mut Vec<D>,
 )
-    requires none { workers.old.items ≡ [] }
-    requires room { vec_len doors.old ≤ vec_capacity workers.old }
+    requires none { connection_workers.old.items ≡ [] }
+    requires room { vec_len doors.old ≤ vec_capacity connection_workers.old }
     requires passes { vec_len doors.old ≤ vec_len passes.old }
     requires sessions { vec_len sessions ≡ vec_len doors.old }
-    ensures workers { vec_len workers.new ≡ vec_len doors.old }
-    ensures passes { passes.old.items ≡ passes.new.items ++ map (λ worker. worker.pass) (reverse workers.new.items) }
-    ensures doors { doors.old.items ≡ map (λ worker. worker.door) (reverse workers.new.items) }
+    ensures connection_workers { vec_len connection_workers.new ≡ vec_len doors.old }
+    ensures passes { passes.old.items ≡ passes.new.items ++ map (λ worker. worker.pass) (reverse connection_workers.new.items) }
+    ensures doors { doors.old.items ≡ map (λ worker. worker.door) (reverse connection_workers.new.items) }
     ensures none_left { doors.new.items ≡ [] }
     ensures passes_room { vec_capacity passes.new ≡ vec_capacity passes.old }
     ensures doors_room { vec_capacity doors.new ≡ vec_capacity doors.old }
     ensures may_work { (stage : SharedView) → All (IsRunning stage) passes.old.items → All (MayCome D.state) doors.old.items
-        → All (MayWork (door_states D.state D.Line.state) stage) workers.new.items }
+        → All (MayWork (door_states D.state D.Line.state) stage) connection_workers.new.items }
 {
     while let Some(door) = doors.pop() {
         let pass = passes.pop().unwrap();
         let session = sessions.pop().unwrap();
-        workers.push_reserved(ConnectionWorker {
+        connection_workers.push_reserved(ConnectionWorker {
             pass,
             session,
             door,
@@ -67,16 +67,16 @@ pub(crate) fn engage<D: Listener>(
 
 /// Moves the passes and the doors of the connection workers back, the last worker first. There is room for them.
 pub(crate) fn release<D: Listener>(
-    mut workers: Vec<ConnectionWorker<D>>,
+    mut connection_workers: Vec<ConnectionWorker<D>>,
     passes: &mut Vec<Pass>,
     doors: &mut Vec<D>,
 )
-    requires passes { vec_len passes.old + vec_len workers ≤ vec_capacity passes.old }
-    requires doors { vec_len doors.old + vec_len workers ≤ vec_capacity doors.old }
-    ensures passes { passes.new.items ≡ passes.old.items ++ map (λ worker. worker.pass) (reverse workers.items) }
-    ensures doors { doors.new.items ≡ doors.old.items ++ map (λ worker. worker.door) (reverse workers.items) }
+    requires passes { vec_len passes.old + vec_len connection_workers ≤ vec_capacity passes.old }
+    requires doors { vec_len doors.old + vec_len connection_workers ≤ vec_capacity doors.old }
+    ensures passes { passes.new.items ≡ passes.old.items ++ map (λ worker. worker.pass) (reverse connection_workers.items) }
+    ensures doors { doors.new.items ≡ doors.old.items ++ map (λ worker. worker.door) (reverse connection_workers.items) }
 {
-    while let Some(worker) = workers.pop() {
+    while let Some(worker) = connection_workers.pop() {
         let ConnectionWorker { pass, door, .. } = worker;
         passes.push_reserved(pass);
         doors.push_reserved(door);
@@ -84,29 +84,29 @@ pub(crate) fn release<D: Listener>(
 }
 
 /// Serves the links of all doors, each beside the others.
-#[cycle(workers)]
-#[tactic(auto, using(crate::proofs::Halves::all_zip_halves))]
+#[cycle(connection_workers)]
+#[tactic(auto, using(crate::proofs::AllZip::all_zip_halves))]
 pub(crate) fn work_all<R: Threads + Wait + Sync, D: Listener>(
     rt: &R,
     server: &Server<'_>,
-    workers: &mut [ConnectionWorker<D>],
+    connection_workers: &mut [ConnectionWorker<D>],
 )
     requires stage { HasStageOfConfig server.now }
-    requires may_work { All (MayWork (door_states D.state D.Line.state) server.now.stage.now) workers.old }
-    ensures { AllZip (HasWorkedAt (door_states D.state D.Line.state) server.now) workers.old workers.new }
+    requires may_work { All (MayWork (door_states D.state D.Line.state) server.now.stage.now) connection_workers.old }
+    ensures { AllZip (HasWorkedAt (door_states D.state D.Line.state) server.now) connection_workers.old connection_workers.new }
 {
-    match workers {
+    match connection_workers {
         [] => {}
         [worker] => worker.work(rt, server),
         _ => {
-            let (first, last) = workers.split_at_mut(workers.len() / 2);
+            let (first, last) = connection_workers.split_at_mut(connection_workers.len() / 2);
             work_both(rt, server, first, last);
         }
     }
 }
 
 /// Serves the links of the doors of two parts, each beside the others.
-#[cycle(workers)]
+#[cycle(connection_workers)]
 fn work_both<R: Threads + Wait + Sync, D: Listener>(
     rt: &R,
     server: &Server<'_>,

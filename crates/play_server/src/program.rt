@@ -50,22 +50,6 @@ pub fn serve_main<R: Threads + Wait + Sync, E: Site>(
         ) }
 {
     laws::first_fault_decides();
-    serve_and_say(rt, alloc, words, site)
-}
-
-/// Serves as the words say, and says what went wrong. Returns the exit status.
-fn serve_and_say<R: Threads + Wait + Sync, E: Site>(
-    rt: &R,
-    alloc: Global,
-    words: &[String],
-    site: &mut E,
-) -> u8
-    ensures { RunsServer (device_states E.Clock.state E.Door.state E.Out.state) E.Door.Line.state
-        (codes "playd" ∷ map string_bytes words.now) result (
-          record { folder = E.Media.state (E.folder site.old); site = E.state site.old },
-          record { folder = E.Media.state (E.folder site.new); site = E.state site.new },
-        ) }
-{
     match serve_words(rt, alloc, words, site) {
         Ok(()) => 0,
         Err(fault) => end_with(alloc, &fault, site),

@@ -19,7 +19,7 @@ use crate::ticker_thread::TickerThread;
 use clip_format::MediaTable;
 use conn_worker::{Server, WorkEnd};
 use play_outside::{Clock, Devices, Listener, MOST_AWAY, Sent, Sink};
-use play_ticker::TickEnd;
+use play_ticker::{PipeEnds, TickEnd};
 use play_types::Config;
 use std::alloc::Global;
 use std::sync::Wait;
@@ -96,8 +96,10 @@ fn run<R: Threads + Wait + Sync, C: Clock, D: Listener, O: Sink + Send>(
     let mut ticker = TickerThread {
         pass: passes.pop().unwrap(),
         renderer,
-        stage_end,
-        write_end,
+        ends: PipeEnds {
+            stage_end,
+            write_end,
+        },
         clock,
         outs,
     };
@@ -147,9 +149,9 @@ fn run_threads<R: Threads + Wait + Sync, C: Clock, D: Listener, O: Sink + Send>(
 ) -> TickEnd
     requires stage { HasStageOfConfig server.now }
     requires ticker { IsNewTicker server.now.stage.now ticker.old }
-    requires workers { All (MayWork (door_states D.state D.Line.state) server.now.stage.now) connection_workers.old }
+    requires connection_workers { All (MayWork (door_states D.state D.Line.state) server.now.stage.now) connection_workers.old }
     ensures { RanBeside (ticker_states C.state O.state) (door_states D.state D.Line.state) (setup_for ticker.old.renderer media.now) server.now
-        (result, record { ticker = ticker.old; workers = connection_workers.old }, record { ticker = ticker.new; workers = connection_workers.new }) }
+        (result, record { ticker = ticker.old; connection_workers = connection_workers.old }, record { ticker = ticker.new; connection_workers = connection_workers.new }) }
 {
     let (tick_end, ()) = join_mut(
         rt,
@@ -184,10 +186,10 @@ fn ticker_failed(tick_end: TickEnd) -> bool
 }
 
 /// Returns whether a door failed.
-fn door_failed<D>(workers: &[ConnectionWorker<D>]) -> bool
-    ensures { result ≡ list_any (λ worker. is_door_fault worker.end) workers.now }
+fn door_failed<D>(connection_workers: &[ConnectionWorker<D>]) -> bool
+    ensures { result ≡ list_any (λ worker. is_door_fault worker.end) connection_workers.now }
 {
-    workers
+    connection_workers
         .iter()
         .any(|worker| matches!(worker.end, WorkEnd::DoorFault))
 }

@@ -5,8 +5,7 @@ ghost use Rattle.play_server.specs.inner.Threads.{HasTicked, IsNewTicker, ticker
 use band_render::Renderer;
 use clip_format::MediaTable;
 use play_outside::{Clock, Sink};
-use play_ticker::{TickEnd, Ticker};
-use scene_pipe::{StageEnd, WriteEnd};
+use play_ticker::{PipeEnds, TickEnd, Ticker};
 use stage_lock::{Pass, SharedStage};
 use std::sync::Wait;
 use std::thread::Threads;
@@ -17,8 +16,7 @@ use std::thread::Threads;
 pub(crate) struct TickerThread<C, O> {
     pub(crate) pass: Pass,
     pub(crate) renderer: Renderer,
-    pub(crate) stage_end: StageEnd,
-    pub(crate) write_end: WriteEnd,
+    pub(crate) ends: PipeEnds,
     pub(crate) clock: C,
     pub(crate) outs: Vec<O>,
 }
@@ -39,8 +37,7 @@ impl<C: Clock, O: Sink + Send> TickerThread<C, O> {
             rt,
             &mut self.pass,
             &mut self.renderer,
-            &mut self.stage_end,
-            &mut self.write_end,
+            &mut self.ends,
             &mut self.clock,
             &mut self.outs,
         )

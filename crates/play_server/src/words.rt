@@ -172,10 +172,7 @@ fn config_of<'a>(matches: &ArgMatches<'a>) -> &'a str
     requires { is_some (first_value (found_of matches.now) (codes "config")) ≡ true }
     ensures { first_of (codes "config") (rows_of (found_of matches.now)) ≡ Some result.now }
 {
-    match matches.get_str("config") {
-        Some(text) => text,
-        None => unreachable!(),
-    }
+    matches.get_str("config").unwrap()
 }
 
 /// Returns the number of workers.
@@ -192,8 +189,8 @@ fn workers_of(matches: &ArgMatches<'_>) -> u32
 fn journal_of(alloc: Global, matches: &ArgMatches<'_>) -> Result<Option<String>, AllocError>
     ensures { IfOk result (λ journal. first_of (codes "journal") (rows_of (found_of matches.now)) ≡ option_map string_bytes journal) }
 {
-    match matches.get_str("journal") {
-        Some(path) => Ok(Some(String::from_str(alloc, path)?)),
-        None => Ok(None),
-    }
+    matches
+        .get_str("journal")
+        .map(|path| String::from_str(alloc, path))
+        .transpose()
 }

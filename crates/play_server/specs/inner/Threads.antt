@@ -35,7 +35,7 @@ pub record IsRunMemory {D : Type 0} (config : ConfigView) (media : List Entry) (
   pub sizes : memory.stage.sizes ≡ sizes_for config
   pub passes : memory.passes.items ≡ new_passes memory.stage
   pub sessions : vec_len memory.sessions ≡ config.connections
-  pub workers : memory.connection_workers.items ≡ []
+  pub connection_workers : memory.connection_workers.items ≡ []
   pub room : config.connections ≤ vec_capacity memory.connection_workers
 
 -- a pass for a ticker, before its ticks
@@ -63,7 +63,7 @@ pub record IsNewTicker {C O : Type 0} (stage : SharedView) (ticker : TickerThrea
   pub made : ticker.pass.made ≡ []
   pub frames_many : length ticker.renderer ≡ stage.sizes.channels
   pub blank : AreBlank ticker.renderer
-  pub pipe : AreNewEnds stage.sizes.channels ticker.stage_end ticker.write_end
+  pub pipe : AreNewEnds stage.sizes.channels ticker.ends.stage_end ticker.ends.write_end
   pub outs_many : vec_len ticker.outs ≡ stage.sizes.channels
 
 -- a ticker took pulses, from the first of two moments to the second, and its pulses ended so
@@ -77,9 +77,9 @@ pub record HasTicked {C O : Type 0} (states : TickerStates C O) (setup : Setup) 
 -- what the threads of a run own at one moment
 pub record Moment (C D O : Type 0) : Type 0 where
   pub ticker : TickerThread C O
-  pub workers : List (ConnectionWorker D)
+  pub connection_workers : List (ConnectionWorker D)
 
 -- the ticker ran beside the connection workers, from the first of two moments to the second, and its pulses ended so
 pub record RanBeside {C D O L : Type 0} (ticker : TickerStates C O) (doors : DoorStates D L) (setup : Setup) (server : Server) (run : TickEnd × Moment C D O × Moment C D O) : Type 0 where
   pub ticked : HasTicked ticker setup server.stage.now run.0 (run.1.ticker, run.2.ticker)
-  pub worked : AllZip (HasWorkedAt doors server) run.1.workers run.2.workers
+  pub worked : AllZip (HasWorkedAt doors server) run.1.connection_workers run.2.connection_workers

@@ -27,10 +27,10 @@ fn copy_call(alloc: Global, config: &Config, history: Option<&str>) -> Result<Re
     ensures { IfOk result (λ call. call ≡ ready_call config.now (option_map (λ path. path.now) history.entry) false) }
 {
     let config = copy_config(alloc, config)?;
-    let history = match history {
-        Some(path) => Some(ByteList::new(Vec::from_slice(alloc, path.as_bytes())?)),
-        None => None,
-    };
+    let history = history
+        .map(|path| Vec::from_slice(alloc, path.as_bytes()))
+        .transpose()?
+        .map(ByteList::new);
     Ok(ReadyCall {
         config,
         history,

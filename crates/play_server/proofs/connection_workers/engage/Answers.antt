@@ -3,15 +3,15 @@ use Rattle.std.specs.Prelude.{IfSome, option_to_list}
 use Rattle.std.proofs.lemmas.List.Elements.{All-nil, All-pop, All-push}
 use Rattle.play_server.specs.inner.Workers.{IsRunning, MayCome, MayWork, door_states}
 use Rattle.play_server.specs.declared.connection_workers.ConnectionWorker.{ConnectionWorker}
-use Rattle.play_server.proofs.Reversed.{none, taken_more}
+use Rattle.play_server.proofs.Reverse.{none, taken_more}
 use Rattle.play_server.proofs.connection_workers.engage.Goals as goal
 
 pub loop-door-init : goal.loop-door-init
 loop-door-init g c =
     let Worker = ConnectionWorker g.row.D.Denot in
-    let count : vec_len c.args.workers.now ≡ 0 = c.args.workers.now.ok.0 ∙ ap length c.requires.none in
+    let count : vec_len c.args.connection_workers.now ≡ 0 = c.args.connection_workers.now.ok.0 ∙ ap length c.requires.none in
     record {
-      workers = omega (arith, count);
+      connection_workers = omega (arith, count);
       passes = sym (append-nil c.args.passes.now.items)
           ∙ ap (λ (ws : List Worker). c.args.passes.now.items ++ map (λ (worker : Worker). worker.pass) (reverse ws)) (sym c.requires.none);
       doors = sym (append-nil c.args.doors.now.items)
@@ -38,7 +38,7 @@ unwrap-session-requires g c =
 
 pub push_reserved-requires : goal.push_reserved-requires
 push_reserved-requires g c =
-    let many = c.loop-door.invariant.workers in
+    let many = c.loop-door.invariant.connection_workers in
     let fewer = c.in-Some.ensures.len in
     let room = c.loop-door.invariant.room in
     let enough = c.requires.room in
@@ -57,17 +57,17 @@ loop-door-preserved g c =
     let session_one = ap (λ o. length (option_to_list o)) c.unwrap-session.ensures in
     let door_left = c.in-Some.ensures.len in
     let more = c.push_reserved.ensures.len in
-    let many = taken.workers in
+    let many = taken.connection_workers in
     let passes_left = taken.passes_left in
     let sessions_left = taken.sessions_left in
     record {
-      workers = omega (arith, many, door_left, more);
+      connection_workers = omega (arith, many, door_left, more);
       passes =
-          taken_more (λ (worker : Worker). worker.pass) c.args.passes.now.items c.loop-door.passes.items c.pop-in-Some.new.self.items c.loop-door.workers.items _ c.unwrap-pass.result
+          taken_more (λ (worker : Worker). worker.pass) c.args.passes.now.items c.loop-door.passes.items c.pop-in-Some.new.self.items c.loop-door.connection_workers.items _ c.unwrap-pass.result
           taken.passes passes refl
           ∙ ap (λ (ws : List Worker). c.pop-in-Some.new.self.items ++ map (λ (worker : Worker). worker.pass) (reverse ws)) (sym c.push_reserved.ensures.items);
       doors =
-          taken_more (λ (worker : Worker). worker.door) c.args.doors.now.items c.loop-door.doors.items c.pop.new.self.items c.loop-door.workers.items _ c.in-Some.door
+          taken_more (λ (worker : Worker). worker.door) c.args.doors.now.items c.loop-door.doors.items c.pop.new.self.items c.loop-door.connection_workers.items _ c.in-Some.door
           taken.doors c.in-Some.ensures.items refl
           ∙ ap (λ (ws : List Worker). c.pop.new.self.items ++ map (λ (worker : Worker). worker.door) (reverse ws)) (sym c.push_reserved.ensures.items);
       passes_left = omega (arith, passes_left, pass_left, pass_one, door_left);
@@ -82,7 +82,7 @@ loop-door-preserved g c =
             one.0,
             other.0,
             subst (All (MayWork states stage)) (sym c.push_reserved.ensures.items)
-                (All-push (MayWork states stage) c.loop-door.workers.items _ so.2 (record {
+                (All-push (MayWork states stage) c.loop-door.connection_workers.items _ so.2 (record {
                   pass = subst (λ o. IfSome o (IsRunning stage)) c.unwrap-pass.ensures one.1;
                   door = subst (λ o. IfSome o (MayCome g.D.Listener.state)) c.in-Some.is other.1;
                 })),
@@ -95,12 +95,12 @@ returns g c =
     let taken = c.loop-door.invariant in
     let empty : c.loop-door.doors.items ≡ [] = none c.loop-door.doors.items (sym c.loop-door.doors.ok.0 ∙ c.in_default.ensures.cases.0) in
     let left : c.pop.new.self.items ≡ [] = sym (append-nil c.pop.new.self.items) ∙ sym c.in_default.ensures.items ∙ empty in
-    let many = taken.workers in
+    let many = taken.connection_workers in
     let zero_left = c.in_default.ensures.cases.0 in
     record {
-      workers = omega (arith, many, zero_left);
+      connection_workers = omega (arith, many, zero_left);
       passes = taken.passes;
-      doors = taken.doors ∙ ap (λ (ds : List g.row.D.Denot). ds ++ map (λ (worker : Worker). worker.door) (reverse c.loop-door.workers.items)) empty;
+      doors = taken.doors ∙ ap (λ (ds : List g.row.D.Denot). ds ++ map (λ (worker : Worker). worker.door) (reverse c.loop-door.connection_workers.items)) empty;
       none_left = left;
       passes_room = taken.passes_room;
       doors_room = c.in_default.ensures.capacity ∙ taken.doors_room;

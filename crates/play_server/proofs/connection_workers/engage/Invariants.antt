@@ -1,23 +1,23 @@
 use Rattle.std.proofs.Common.{◌≡◌, ◌+◌, ◌≤◌, ◌++◌, All, length, reverse, vec_capacity, vec_len}
 use Rattle.stage_lock.specs.Views.{SharedView}
 use Rattle.play_server.specs.inner.Workers.{IsRunning, MayCome, MayWork, door_states}
-use Rattle.play_server.proofs.DoorOrder.{doors_of, passes_of}
+use Rattle.play_server.proofs.HasWorkedAt.{doors_of, passes_of}
 use Rattle.play_server.proofs.connection_workers.engage.Given as goal
 
 -- the last doors stand in workers, and the others are left
 abbrev pub invariant-loop-door : goal.invariant-loop-door
 invariant-loop-door g l = record {
-  workers : vec_len l.workers + vec_len l.doors ≡ vec_len l.initial.doors;
-  passes : l.initial.passes.items ≡ l.passes.items ++ passes_of (reverse l.workers.items);
-  doors : l.initial.doors.items ≡ l.doors.items ++ doors_of (reverse l.workers.items);
+  connection_workers : vec_len l.connection_workers + vec_len l.doors ≡ vec_len l.initial.doors;
+  passes : l.initial.passes.items ≡ l.passes.items ++ passes_of (reverse l.connection_workers.items);
+  doors : l.initial.doors.items ≡ l.doors.items ++ doors_of (reverse l.connection_workers.items);
   passes_left : vec_len l.doors ≤ vec_len l.passes;
   sessions_left : vec_len l.sessions ≡ vec_len l.doors;
-  room : vec_capacity l.workers ≡ vec_capacity l.initial.workers;
+  room : vec_capacity l.connection_workers ≡ vec_capacity l.initial.connection_workers;
   passes_room : vec_capacity l.passes ≡ vec_capacity l.initial.passes;
   doors_room : vec_capacity l.doors ≡ vec_capacity l.initial.doors;
   may_work : (stage : SharedView) → All (IsRunning stage) l.initial.passes.items → All (MayCome g.D.Listener.state) l.initial.doors.items
       → All (IsRunning stage) l.passes.items × All (MayCome g.D.Listener.state) l.doors.items
-      × All (MayWork (door_states g.D.Listener.state g.D.Line.Sink.state) stage) l.workers.items;
+      × All (MayWork (door_states g.D.Listener.state g.D.Line.Sink.state) stage) l.connection_workers.items;
 }
 
 abbrev pub decreases-loop-door : goal.decreases-loop-door

@@ -1,6 +1,6 @@
 use Rattle.std.proofs.Common.{◌≡◌, List, [], ◌++◌, append-nil, map, reverse, sym, ap, ◌∙◌, arith}
 use Rattle.play_server.specs.declared.connection_workers.ConnectionWorker.{ConnectionWorker}
-use Rattle.play_server.proofs.Reversed.{given_more, none}
+use Rattle.play_server.proofs.Reverse.{given_more, none}
 use Rattle.play_server.proofs.connection_workers.release.Goals as goal
 
 pub push_reserved-requires : goal.push_reserved-requires
@@ -29,9 +29,9 @@ loop-worker-preserved g c =
     let pass_more = c.push_reserved.ensures.len in
     let door_more = c.push_reserved-in-Some.ensures.len in
     record {
-      passes = given_more (λ (worker : Worker). worker.pass) _ c.loop-worker.passes.items c.push_reserved.new.self.items c.loop-worker.workers.items c.pop.new.self.items c.in-Some.worker
+      passes = given_more (λ (worker : Worker). worker.pass) _ c.loop-worker.passes.items c.push_reserved.new.self.items c.loop-worker.connection_workers.items c.pop.new.self.items c.in-Some.worker
           given.passes c.in-Some.ensures.items c.push_reserved.ensures.items;
-      doors = given_more (λ (worker : Worker). worker.door) _ c.loop-worker.doors.items c.push_reserved-in-Some.new.self.items c.loop-worker.workers.items c.pop.new.self.items c.in-Some.worker
+      doors = given_more (λ (worker : Worker). worker.door) _ c.loop-worker.doors.items c.push_reserved-in-Some.new.self.items c.loop-worker.connection_workers.items c.pop.new.self.items c.in-Some.worker
           given.doors c.in-Some.ensures.items c.push_reserved-in-Some.ensures.items;
       passes_many = omega (arith, passes_many, fewer, pass_more);
       doors_many = omega (arith, doors_many, fewer, door_more);
@@ -43,7 +43,7 @@ pub returns : goal.returns
 returns g c =
     let Worker = ConnectionWorker g.row.D.Denot in
     let given = c.loop-worker.invariant in
-    let empty : c.loop-worker.workers.items ≡ [] = none c.loop-worker.workers.items (sym c.loop-worker.workers.ok.0 ∙ c.in_default.ensures.cases.0) in
+    let empty : c.loop-worker.connection_workers.items ≡ [] = none c.loop-worker.connection_workers.items (sym c.loop-worker.connection_workers.ok.0 ∙ c.in_default.ensures.cases.0) in
     record {
       passes =
           sym (append-nil c.loop-worker.passes.items)

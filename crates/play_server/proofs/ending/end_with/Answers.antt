@@ -1,4 +1,4 @@
-use Rattle.play_server.proofs.ToldFault.{takes_memory, told_as_met, told_without_memory}
+use Rattle.play_server.proofs.EndsWithFault.{takes_memory, told_as_met, told_without_memory}
 use Rattle.play_server.proofs.ending.end_with.Goals as goal
 
 pub returns-in-Some-clause-ends : goal.returns-in-Some-clause-ends

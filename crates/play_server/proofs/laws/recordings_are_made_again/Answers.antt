@@ -7,7 +7,7 @@ use Rattle.play_server.specs.Program.{program_of}
 use Rattle.play_server.specs.Replay.{playout_of}
 use Rattle.play_server.specs.Run.{setup_of}
 use Rattle.play_server.proofs.HasServedClients.{program_replayable, text_taken}
-use Rattle.play_server.proofs.OnAir.{film_on_air, run_taken}
+use Rattle.play_server.proofs.Filmed.{film_on_air, run_taken}
 use Rattle.play_server.proofs.laws.recordings_are_made_again.Goals as goal
 
 pub returns-clause-film : goal.returns-clause-film

@@ -1,16 +1,20 @@
-use Rattle.play_server.proofs.HasItsCause.{clips_status, config_status, device_status, faultless_status, faulty_status, memory_status, most_status, refused_status, success_status, usage_status}
+use Rattle.std.proofs.Common.{ap}
+use Rattle.play_server.proofs.HasItsCause.{has_its_cause}
+use Rattle.play_server.proofs.RunsServer.{ended_with, ended_without_fault}
 use Rattle.play_server.proofs.program.serve_main.Goals as goal
 
-pub returns-clause-causes : goal.returns-clause-causes
-returns-clause-causes g c = record {
-  most = most_status _ _ _ _ _ c.serve_and_say.ensures;
-  usage = usage_status _ _ _ _ _ c.serve_and_say.ensures;
-  refused = refused_status _ _ _ _ _ c.serve_and_say.ensures;
-  config = config_status _ _ _ _ _ c.serve_and_say.ensures;
-  clips = clips_status _ _ _ _ _ c.serve_and_say.ensures;
-  device = device_status _ _ _ _ _ c.serve_and_say.ensures;
-  memory = memory_status _ _ _ _ _ c.serve_and_say.ensures;
-  success = success_status _ _ _ _ _ c.serve_and_say.ensures;
-  valid = faultless_status _ _ _ _ _ c.serve_and_say.ensures c.first_fault_decides.ensures;
-  invalid = faulty_status _ _ _ _ _ c.serve_and_say.ensures c.first_fault_decides.ensures;
-}
+pub returns-in-Ok-clause-causes : goal.returns-in-Ok-clause-causes
+returns-in-Ok-clause-causes g c =
+    has_its_cause _ _ _ _ _ (ended_without_fault _ _ _ _ _ (rw c.in-Ok.is at c.serve_words.ensures)) c.first_fault_decides.ensures
+
+pub returns-in-Err-clause-runs : goal.returns-in-Err-clause-runs
+returns-in-Err-clause-runs g c =
+    ended_with _ _ _ c.in-Err.fault _ _ _ _ (rw c.in-Err.is at c.serve_words.ensures) c.end_with.ensures.ends
+    (ap g.E.Media.MediaDir.state c.end_with.ensures.folder)
+
+pub returns-in-Err-clause-causes : goal.returns-in-Err-clause-causes
+returns-in-Err-clause-causes g c =
+    has_its_cause _ _ _ _ _
+    (ended_with _ _ _ c.in-Err.fault _ _ _ _ (rw c.in-Err.is at c.serve_words.ensures) c.end_with.ensures.ends
+    (ap g.E.Media.MediaDir.state c.end_with.ensures.folder))
+    c.first_fault_decides.ensures

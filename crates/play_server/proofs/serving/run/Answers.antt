@@ -17,14 +17,14 @@ use Rattle.play_server.specs.Site.{DeviceStates}
 use Rattle.play_server.specs.inner.Threads.{Moment, ticker_pass, worker_passes}
 use Rattle.play_server.specs.inner.Workers.{IsRunning, MayWork, door_states}
 use Rattle.play_server.specs.declared.connection_workers.ConnectionWorker.{ConnectionWorker}
-use Rattle.play_server.proofs.DoorOrder.{passes_of}
+use Rattle.play_server.proofs.HasWorkedAt.{passes_of}
 use Rattle.play_server.proofs.HasRun.{blank, finish, sizes_of_zero}
-use Rattle.play_server.proofs.Reversed.{only_one}
-use Rattle.play_server.proofs.RunPasses.{all_passes, new_passes_parts, parts_many, passes_given, running_from, same_workers, written_whole}
+use Rattle.play_server.proofs.Reverse.{only_one}
+use Rattle.play_server.proofs.WorkerPasses.{all_passes, new_passes_parts, parts_many, passes_given, running_from, same_workers, written_whole}
 use Rattle.play_server.proofs.serving.run.Goals as goal
 
 pub engage-requires-clause-none : goal.engage-requires-clause-none
-engage-requires-clause-none g c κs within = c.requires.memory.workers
+engage-requires-clause-none g c κs within = c.requires.memory.connection_workers
 
 pub engage-requires-clause-room : goal.engage-requires-clause-room
 engage-requires-clause-room g c κs within = let doors = c.requires.doors in let room = c.requires.memory.room in omega (arith, doors, room)
@@ -47,11 +47,11 @@ pub unwrap-requires : goal.unwrap-requires
 unwrap-requires g c =
     let Worker = ConnectionWorker g.row.D.Denot in
     let stage = c.args.memory.stage in
-    let workers = c.engage.new.workers.items in
-    let many : length workers ≡ c.args.config.now.connections =
-    sym c.engage.new.workers.ok.0 ∙ c.engage.ensures.workers ∙ c.requires.doors in
+    let connection_workers = c.engage.new.connection_workers.items in
+    let many : length connection_workers ≡ c.args.config.now.connections =
+    sym c.engage.new.connection_workers.ok.0 ∙ c.engage.ensures.connection_workers ∙ c.requires.doors in
     let counted : stage.sizes.passes ≡ c.args.config.now.connections + 1 = ap (λ (s : Sizes). s.passes) c.requires.memory.sizes in
-    let given = passes_given stage c.args.config.now.connections c.args.memory.passes.items c.engage.new.passes.items workers
+    let given = passes_given stage c.args.config.now.connections c.args.memory.passes.items c.engage.new.passes.items connection_workers
     c.requires.memory.passes counted many c.engage.ensures.passes in
     c.pop.ensures.variant.1 (let left = c.engage.new.passes.ok.0 ∙ ap length given.0 in omega (arith, left))
 
@@ -59,11 +59,11 @@ pub run_threads-tick_end-requires-clause-ticker : goal.run_threads-tick_end-requ
 run_threads-tick_end-requires-clause-ticker g c κs within =
     let Worker = ConnectionWorker g.row.D.Denot in
     let stage = c.args.memory.stage in
-    let workers = c.engage.new.workers.items in
-    let many : length workers ≡ c.args.config.now.connections =
-    sym c.engage.new.workers.ok.0 ∙ c.engage.ensures.workers ∙ c.requires.doors in
+    let connection_workers = c.engage.new.connection_workers.items in
+    let many : length connection_workers ≡ c.args.config.now.connections =
+    sym c.engage.new.connection_workers.ok.0 ∙ c.engage.ensures.connection_workers ∙ c.requires.doors in
     let counted : stage.sizes.passes ≡ c.args.config.now.connections + 1 = ap (λ (s : Sizes). s.passes) c.requires.memory.sizes in
-    let given = passes_given stage c.args.config.now.connections c.args.memory.passes.items c.engage.new.passes.items workers
+    let given = passes_given stage c.args.config.now.connections c.args.memory.passes.items c.engage.new.passes.items connection_workers
     c.requires.memory.passes counted many c.engage.ensures.passes in
     let popped = only_one c.pop.new.self.items (ticker_pass stage) c.unwrap.result
     (sym given.0 ∙ c.pop.ensures.items ∙ ap (λ o. c.pop.new.self.items ++ option_to_list o) c.unwrap.ensures) in
@@ -78,8 +78,8 @@ run_threads-tick_end-requires-clause-ticker g c κs within =
       outs_many = c.requires.outs ∙ sym channels;
     }
 
-pub run_threads-tick_end-requires-clause-workers : goal.run_threads-tick_end-requires-clause-workers
-run_threads-tick_end-requires-clause-workers g c κs within =
+pub run_threads-tick_end-requires-clause-connection_workers : goal.run_threads-tick_end-requires-clause-connection_workers
+run_threads-tick_end-requires-clause-connection_workers g c κs within =
     let stage = c.args.memory.stage in
     let states = door_states g.D.Listener.state g.D.Line.Sink.state in
     subst (All (MayWork states stage)) (sym c.as_mut_slice.ensures.value)
@@ -91,11 +91,11 @@ pub push_reserved-requires : goal.push_reserved-requires
 push_reserved-requires g c =
     let Worker = ConnectionWorker g.row.D.Denot in
     let stage = c.args.memory.stage in
-    let workers = c.engage.new.workers.items in
-    let many : length workers ≡ c.args.config.now.connections =
-    sym c.engage.new.workers.ok.0 ∙ c.engage.ensures.workers ∙ c.requires.doors in
+    let connection_workers = c.engage.new.connection_workers.items in
+    let many : length connection_workers ≡ c.args.config.now.connections =
+    sym c.engage.new.connection_workers.ok.0 ∙ c.engage.ensures.connection_workers ∙ c.requires.doors in
     let counted : stage.sizes.passes ≡ c.args.config.now.connections + 1 = ap (λ (s : Sizes). s.passes) c.requires.memory.sizes in
-    let given = passes_given stage c.args.config.now.connections c.args.memory.passes.items c.engage.new.passes.items workers
+    let given = passes_given stage c.args.config.now.connections c.args.memory.passes.items c.engage.new.passes.items connection_workers
     c.requires.memory.passes counted many c.engage.ensures.passes in
     let popped = only_one c.pop.new.self.items (ticker_pass stage) c.unwrap.result
     (sym given.0 ∙ c.pop.ensures.items ∙ ap (λ o. c.pop.new.self.items ++ option_to_list o) c.unwrap.ensures) in
@@ -111,11 +111,11 @@ pub release-requires-clause-passes : goal.release-requires-clause-passes
 release-requires-clause-passes g c =
     let Worker = ConnectionWorker g.row.D.Denot in
     let stage = c.args.memory.stage in
-    let workers = c.engage.new.workers.items in
-    let many : length workers ≡ c.args.config.now.connections =
-    sym c.engage.new.workers.ok.0 ∙ c.engage.ensures.workers ∙ c.requires.doors in
+    let connection_workers = c.engage.new.connection_workers.items in
+    let many : length connection_workers ≡ c.args.config.now.connections =
+    sym c.engage.new.connection_workers.ok.0 ∙ c.engage.ensures.connection_workers ∙ c.requires.doors in
     let counted : stage.sizes.passes ≡ c.args.config.now.connections + 1 = ap (λ (s : Sizes). s.passes) c.requires.memory.sizes in
-    let given = passes_given stage c.args.config.now.connections c.args.memory.passes.items c.engage.new.passes.items workers
+    let given = passes_given stage c.args.config.now.connections c.args.memory.passes.items c.engage.new.passes.items connection_workers
     c.requires.memory.passes counted many c.engage.ensures.passes in
     let popped = only_one c.pop.new.self.items (ticker_pass stage) c.unwrap.result
     (sym given.0 ∙ c.pop.ensures.items ∙ ap (λ o. c.pop.new.self.items ++ option_to_list o) c.unwrap.ensures) in
@@ -126,7 +126,7 @@ release-requires-clause-passes g c =
     let empty : vec_len c.pop.new.self ≡ 0 = c.pop.new.self.ok.0 ∙ ap length popped.0 in
     let more = c.push_reserved.ensures.len in
     let room = c.push_reserved.ensures.capacity ∙ c.pop.ensures.capacity ∙ c.engage.ensures.passes_room in
-    let engaged = c.engage.ensures.workers ∙ c.requires.doors in
+    let engaged = c.engage.ensures.connection_workers ∙ c.requires.doors in
     omega (arith, before, within, empty, more, room, engaged)
 
 pub release-requires-clause-doors : goal.release-requires-clause-doors
@@ -134,69 +134,69 @@ release-requires-clause-doors g c =
     let empty : vec_len c.engage.new.doors ≡ 0 = c.engage.new.doors.ok.0 ∙ ap length c.engage.ensures.none_left in
     let room = c.engage.ensures.doors_room in
     let within = c.args.devices.doors.ok.1 in
-    let engaged = c.engage.ensures.workers in
+    let engaged = c.engage.ensures.connection_workers in
     omega (arith, empty, room, within, engaged)
 
 pub close-stage-requires : goal.close-stage-requires
 close-stage-requires g c =
     let Worker = ConnectionWorker g.row.D.Denot in
     let stage = c.args.memory.stage in
-    let workers = c.engage.new.workers.items in
-    let many : length workers ≡ c.args.config.now.connections =
-    sym c.engage.new.workers.ok.0 ∙ c.engage.ensures.workers ∙ c.requires.doors in
+    let connection_workers = c.engage.new.connection_workers.items in
+    let many : length connection_workers ≡ c.args.config.now.connections =
+    sym c.engage.new.connection_workers.ok.0 ∙ c.engage.ensures.connection_workers ∙ c.requires.doors in
     let counted : stage.sizes.passes ≡ c.args.config.now.connections + 1 = ap (λ (s : Sizes). s.passes) c.requires.memory.sizes in
-    let given = passes_given stage c.args.config.now.connections c.args.memory.passes.items c.engage.new.passes.items workers
+    let given = passes_given stage c.args.config.now.connections c.args.memory.passes.items c.engage.new.passes.items connection_workers
     c.requires.memory.passes counted many c.engage.ensures.passes in
     let popped = only_one c.pop.new.self.items (ticker_pass stage) c.unwrap.result
     (sym given.0 ∙ c.pop.ensures.items ∙ ap (λ o. c.pop.new.self.items ++ option_to_list o) c.unwrap.ensures) in
     let old : Moment g.row.C.Denot g.row.D.Denot g.row.O.Denot = record {
-      ticker = record { pass = c.unwrap.result; renderer = c.args.memory.renderer; stage_end = c.split-stage_end.result.0; write_end = c.split-stage_end.result.1; clock = c.args.devices.clock; outs = c.args.devices.outs };
-      workers = c.as_mut_slice.result.now;
+      ticker = record { pass = c.unwrap.result; renderer = c.args.memory.renderer; ends = record { stage_end = c.split-stage_end.result.0; write_end = c.split-stage_end.result.1 }; clock = c.args.devices.clock; outs = c.args.devices.outs };
+      connection_workers = c.as_mut_slice.result.now;
     } in
-    let new : Moment g.row.C.Denot g.row.D.Denot g.row.O.Denot = record { ticker = c.run_threads-tick_end.new.ticker; workers = c.run_threads-tick_end.new.connection_workers } in
-    let old_workers : length old.workers ≡ c.args.config.now.connections = ap length c.as_mut_slice.ensures.value ∙ many in
-    let new_workers : length new.workers ≡ c.engage.new.workers.len =
-    same_workers _ _ _ _ _ old new c.run_threads-tick_end.ensures ∙ ap length c.as_mut_slice.ensures.value ∙ sym c.engage.new.workers.ok.0 in
-    let left : List Worker = take c.engage.new.workers.len (new.workers ++ drop (length new.workers) workers) in
-    let whole : left ≡ new.workers =
-    written_whole c.engage.new.workers.len new.workers workers new_workers (sym c.engage.new.workers.ok.0) in
-    let passes : c.release.new.passes.items ≡ new.ticker.pass ∷ passes_of (reverse new.workers) =
+    let new : Moment g.row.C.Denot g.row.D.Denot g.row.O.Denot = record { ticker = c.run_threads-tick_end.new.ticker; connection_workers = c.run_threads-tick_end.new.connection_workers } in
+    let old_workers : length old.connection_workers ≡ c.args.config.now.connections = ap length c.as_mut_slice.ensures.value ∙ many in
+    let new_workers : length new.connection_workers ≡ c.engage.new.connection_workers.len =
+    same_workers _ _ _ _ _ old new c.run_threads-tick_end.ensures ∙ ap length c.as_mut_slice.ensures.value ∙ sym c.engage.new.connection_workers.ok.0 in
+    let left : List Worker = take c.engage.new.connection_workers.len (new.connection_workers ++ drop (length new.connection_workers) connection_workers) in
+    let whole : left ≡ new.connection_workers =
+    written_whole c.engage.new.connection_workers.len new.connection_workers connection_workers new_workers (sym c.engage.new.connection_workers.ok.0) in
+    let passes : c.release.new.passes.items ≡ new.ticker.pass ∷ passes_of (reverse new.connection_workers) =
     c.release.ensures.passes
     ∙ ap (λ (ps : List PassView). ps ++ passes_of (reverse left)) (c.push_reserved.ensures.items ∙ ap (λ (ps : List PassView). ps ++ new.ticker.pass ∷ []) popped.0)
     ∙ ap (λ (ws : List Worker). new.ticker.pass ∷ passes_of (reverse ws)) whole in
     subst (AreAll stage) (sym passes)
     (all_passes _ _ _ _ _ old new c.run_threads-tick_end.ensures
-    (record { ticker = popped.1; workers = ap (λ (ws : List Worker). passes_of (reverse ws)) c.as_mut_slice.ensures.value ∙ given.1 ∙ ap (worker_passes stage) (sym old_workers) })
+    (record { ticker = popped.1; connection_workers = ap (λ (ws : List Worker). passes_of (reverse ws)) c.as_mut_slice.ensures.value ∙ given.1 ∙ ap (worker_passes stage) (sym old_workers) })
     (counted ∙ ap (λ (n : ℕ). n + 1) (sym old_workers)))
 
 pub returns : goal.returns
 returns g c =
     let Worker = ConnectionWorker g.row.D.Denot in
     let stage = c.args.memory.stage in
-    let workers = c.engage.new.workers.items in
-    let many : length workers ≡ c.args.config.now.connections =
-    sym c.engage.new.workers.ok.0 ∙ c.engage.ensures.workers ∙ c.requires.doors in
+    let connection_workers = c.engage.new.connection_workers.items in
+    let many : length connection_workers ≡ c.args.config.now.connections =
+    sym c.engage.new.connection_workers.ok.0 ∙ c.engage.ensures.connection_workers ∙ c.requires.doors in
     let counted : stage.sizes.passes ≡ c.args.config.now.connections + 1 = ap (λ (s : Sizes). s.passes) c.requires.memory.sizes in
-    let given = passes_given stage c.args.config.now.connections c.args.memory.passes.items c.engage.new.passes.items workers
+    let given = passes_given stage c.args.config.now.connections c.args.memory.passes.items c.engage.new.passes.items connection_workers
     c.requires.memory.passes counted many c.engage.ensures.passes in
     let popped = only_one c.pop.new.self.items (ticker_pass stage) c.unwrap.result
     (sym given.0 ∙ c.pop.ensures.items ∙ ap (λ o. c.pop.new.self.items ++ option_to_list o) c.unwrap.ensures) in
     let old : Moment g.row.C.Denot g.row.D.Denot g.row.O.Denot = record {
-      ticker = record { pass = c.unwrap.result; renderer = c.args.memory.renderer; stage_end = c.split-stage_end.result.0; write_end = c.split-stage_end.result.1; clock = c.args.devices.clock; outs = c.args.devices.outs };
-      workers = c.as_mut_slice.result.now;
+      ticker = record { pass = c.unwrap.result; renderer = c.args.memory.renderer; ends = record { stage_end = c.split-stage_end.result.0; write_end = c.split-stage_end.result.1 }; clock = c.args.devices.clock; outs = c.args.devices.outs };
+      connection_workers = c.as_mut_slice.result.now;
     } in
-    let new : Moment g.row.C.Denot g.row.D.Denot g.row.O.Denot = record { ticker = c.run_threads-tick_end.new.ticker; workers = c.run_threads-tick_end.new.connection_workers } in
+    let new : Moment g.row.C.Denot g.row.D.Denot g.row.O.Denot = record { ticker = c.run_threads-tick_end.new.ticker; connection_workers = c.run_threads-tick_end.new.connection_workers } in
     let words : DeviceStates g.row.C.Denot g.row.D.Denot g.row.O.Denot g.row.D-Line.Denot = record { clock = g.C.Clock.state; door = g.D.Listener.state; out = g.O.Sink.state } in
-    let new_workers : length new.workers ≡ c.engage.new.workers.len =
-    same_workers _ _ _ _ _ old new c.run_threads-tick_end.ensures ∙ ap length c.as_mut_slice.ensures.value ∙ sym c.engage.new.workers.ok.0 in
-    let left : List Worker = take c.engage.new.workers.len (new.workers ++ drop (length new.workers) workers) in
-    let whole : left ≡ new.workers =
-    written_whole c.engage.new.workers.len new.workers workers new_workers (sym c.engage.new.workers.ok.0) in
-    let passes : c.release.new.passes.items ≡ new.ticker.pass ∷ passes_of (reverse new.workers) =
+    let new_workers : length new.connection_workers ≡ c.engage.new.connection_workers.len =
+    same_workers _ _ _ _ _ old new c.run_threads-tick_end.ensures ∙ ap length c.as_mut_slice.ensures.value ∙ sym c.engage.new.connection_workers.ok.0 in
+    let left : List Worker = take c.engage.new.connection_workers.len (new.connection_workers ++ drop (length new.connection_workers) connection_workers) in
+    let whole : left ≡ new.connection_workers =
+    written_whole c.engage.new.connection_workers.len new.connection_workers connection_workers new_workers (sym c.engage.new.connection_workers.ok.0) in
+    let passes : c.release.new.passes.items ≡ new.ticker.pass ∷ passes_of (reverse new.connection_workers) =
     c.release.ensures.passes
     ∙ ap (λ (ps : List PassView). ps ++ passes_of (reverse left)) (c.push_reserved.ensures.items ∙ ap (λ (ps : List PassView). ps ++ new.ticker.pass ∷ []) popped.0)
     ∙ ap (λ (ws : List Worker). new.ticker.pass ∷ passes_of (reverse ws)) whole in
-    let doors_back : map (λ (worker : Worker). worker.door) (reverse new.workers) ≡ c.release.new.doors.items =
+    let doors_back : map (λ (worker : Worker). worker.door) (reverse new.connection_workers) ≡ c.release.new.doors.items =
     sym (c.release.ensures.doors
     ∙ ap (λ (ds : List g.row.D.Denot). ds ++ map (λ (worker : Worker). worker.door) (reverse left)) c.engage.ensures.none_left
     ∙ ap (λ (ws : List Worker). map (λ (worker : Worker). worker.door) (reverse ws)) whole) in
@@ -206,7 +206,7 @@ returns g c =
     c.run_threads-tick_end.result c.args.devices _ old new
     (record { clock = refl; doors = ap (λ (ws : List Worker). map (λ (worker : Worker). worker.door) (reverse ws)) c.as_mut_slice.ensures.value ∙ sym c.engage.ensures.doors; outs = refl })
     (record { clock = refl; doors = doors_back; outs = refl })
-    (record { ticker = popped.1; workers = ap (λ (ws : List Worker). passes_of (reverse ws)) c.as_mut_slice.ensures.value ∙ given.1 ∙ ap (worker_passes stage) (sym doors_count) })
+    (record { ticker = popped.1; connection_workers = ap (λ (ws : List Worker). passes_of (reverse ws)) c.as_mut_slice.ensures.value ∙ given.1 ∙ ap (worker_passes stage) (sym doors_count) })
     c.run_threads-tick_end.ensures
     c.write_history-written.result c.end_of.result
     (record {

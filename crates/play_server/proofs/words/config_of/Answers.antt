@@ -6,4 +6,4 @@ use Rattle.play_server.proofs.words.config_of.Goals as goal
 pub returns : goal.returns
 returns c =
     sym (first_value-rows (found_of c.args.matches.now) (codes "config"))
-    ∙ (sym c.get_str.ensures ∙ ap (option_map (λ s. s.now)) c.in-Some.is)
+    ∙ (sym c.get_str.ensures ∙ ap (option_map (λ s. s.now)) c.unwrap.ensures)

@@ -18,6 +18,6 @@ returns g c =
       sizes = c.in_ok-stage.ensures.sizes;
       passes = c.in_ok-stage.ensures.passes;
       sessions = search rules;
-      workers = c.in_ok-connection_workers.ensures.items;
+      connection_workers = c.in_ok-connection_workers.ensures.items;
       room = search rules;
     }

@@ -16,8 +16,8 @@ use Rattle.play_ticker.specs.declared.ending.TickEnd.{TickEnd}
 use Rattle.play_server.specs.inner.Threads.{Moment, RanBeside, TickerStates, ticker_pass, worker_passes}
 use Rattle.play_server.specs.inner.Workers.{DoorStates, HasWorkedAt, IsRunning}
 use Rattle.play_server.specs.declared.connection_workers.ConnectionWorker.{ConnectionWorker}
-use Rattle.play_server.proofs.DoorOrder.{EachPlace, doors_of, each_place, ends_of, passes_of}
-use Rattle.play_server.proofs.Reversed.{all_zip_many, all_zip_reverse, first_left}
+use Rattle.play_server.proofs.HasWorkedAt.{EachPlace, doors_of, each_place, ends_of, passes_of}
+use Rattle.play_server.proofs.Reverse.{all_zip_many, all_zip_reverse, first_left}
 
 pub many_from : (stage : SharedView) (number count : ℕ) → length (map (new_pass stage) (range_with_len number count)) ≡ count
 many_from stage number zero = refl
@@ -96,33 +96,33 @@ parts_many stage count = omega (arith, many_from stage 1 count)
 -- the passes of a run before its threads begin
 pub record HasNewPasses {C D O : Type 0} (stage : SharedView) (count : ℕ) (moment : Moment C D O) : Type 0 where
   pub ticker : moment.ticker.pass ≡ ticker_pass stage
-  pub workers : passes_of (reverse moment.workers) ≡ worker_passes stage count
+  pub connection_workers : passes_of (reverse moment.connection_workers) ≡ worker_passes stage count
 
-workers_many : {D : Type 0} (workers : List (ConnectionWorker D)) → length (passes_of (reverse workers)) ≡ length workers
-workers_many workers = length-map (reverse workers) _ ∙ length-reverse workers
+workers_many : {D : Type 0} (connection_workers : List (ConnectionWorker D)) → length (passes_of (reverse connection_workers)) ≡ length connection_workers
+workers_many connection_workers = length-map (reverse connection_workers) _ ∙ length-reverse connection_workers
 
 -- if each connection worker was given a pass of a new stage, the ticker's pass is left
-pub passes_given : {D : Type 0} (stage : SharedView) (count : ℕ) (passes left : List PassView) (workers : List (ConnectionWorker D))
-    → passes ≡ new_passes stage → stage.sizes.passes ≡ count + 1 → length workers ≡ count → passes ≡ left ++ passes_of (reverse workers)
-    → (left ≡ ticker_pass stage ∷ []) × (passes_of (reverse workers) ≡ worker_passes stage count)
-passes_given stage count passes left workers new many count_is given =
-    first_left (ticker_pass stage) (worker_passes stage count) left (passes_of (reverse workers))
+pub passes_given : {D : Type 0} (stage : SharedView) (count : ℕ) (passes left : List PassView) (connection_workers : List (ConnectionWorker D))
+    → passes ≡ new_passes stage → stage.sizes.passes ≡ count + 1 → length connection_workers ≡ count → passes ≡ left ++ passes_of (reverse connection_workers)
+    → (left ≡ ticker_pass stage ∷ []) × (passes_of (reverse connection_workers) ≡ worker_passes stage count)
+passes_given stage count passes left connection_workers new many count_is given =
+    first_left (ticker_pass stage) (worker_passes stage count) left (passes_of (reverse connection_workers))
     (sym (new_passes_parts stage count many) ∙ sym new ∙ given)
-    (workers_many workers ∙ count_is ∙ sym (many_from stage 1 count))
+    (workers_many connection_workers ∙ count_is ∙ sym (many_from stage 1 count))
 
 module _ {C D O L : Type 0} (ticker_states : TickerStates C O) (states : DoorStates D L) (setup : Setup) (server : Server) (tick_end : TickEnd) (old new : Moment C D O)
     (ran : RanBeside ticker_states states setup server (tick_end, old, new)) where
-  pub same_workers : length new.workers ≡ length old.workers
-  same_workers = all_zip_many (HasWorkedAt states server) old.workers new.workers ran.worked
+  pub same_workers : length new.connection_workers ≡ length old.connection_workers
+  same_workers = all_zip_many (HasWorkedAt states server) old.connection_workers new.connection_workers ran.worked
 
   -- all passes of the stage are there when the threads have ended
-  pub all_passes : HasNewPasses server.stage.now (length old.workers) old → server.stage.now.sizes.passes ≡ length old.workers + 1
-      → AreAll server.stage.now (new.ticker.pass ∷ passes_of (reverse new.workers))
+  pub all_passes : HasNewPasses server.stage.now (length old.connection_workers) old → server.stage.now.sizes.passes ≡ length old.connection_workers + 1
+      → AreAll server.stage.now (new.ticker.pass ∷ passes_of (reverse new.connection_workers))
   all_passes passes many =
-      let doors : length (doors_of (reverse old.workers)) ≡ length old.workers = length-map (reverse old.workers) _ ∙ length-reverse old.workers in
-      let each = each_place states server (reverse old.workers) (reverse new.workers) (all_zip_reverse (HasWorkedAt states server) old.workers new.workers ran.worked) in
-      all_there states server server.stage.now new.ticker.pass (passes_of (reverse new.workers)) (doors_of (reverse old.workers)) (ends_of (reverse new.workers)) (doors_of (reverse new.workers))
+      let doors : length (doors_of (reverse old.connection_workers)) ≡ length old.connection_workers = length-map (reverse old.connection_workers) _ ∙ length-reverse old.connection_workers in
+      let each = each_place states server (reverse old.connection_workers) (reverse new.connection_workers) (all_zip_reverse (HasWorkedAt states server) old.connection_workers new.connection_workers ran.worked) in
+      all_there states server server.stage.now new.ticker.pass (passes_of (reverse new.connection_workers)) (doors_of (reverse old.connection_workers)) (ends_of (reverse new.connection_workers)) (doors_of (reverse new.connection_workers))
       ran.ticked.of
-      (subst (λ (ps : List PassView). EachPlace states server ps (doors_of (reverse old.workers)) (passes_of (reverse new.workers)) (ends_of (reverse new.workers)) (doors_of (reverse new.workers)))
-      (passes.workers ∙ ap (worker_passes server.stage.now) (sym doors)) each)
+      (subst (λ (ps : List PassView). EachPlace states server ps (doors_of (reverse old.connection_workers)) (passes_of (reverse new.connection_workers)) (ends_of (reverse new.connection_workers)) (doors_of (reverse new.connection_workers)))
+      (passes.connection_workers ∙ ap (worker_passes server.stage.now) (sym doors)) each)
       (many ∙ ap (λ (n : ℕ). n + 1) (sym doors))

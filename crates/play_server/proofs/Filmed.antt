@@ -21,7 +21,7 @@ use Rattle.play_server.specs.Run.{is_tick_fault, setup_of}
 use Rattle.play_server.specs.Site.{DeviceStates}
 use Rattle.play_server.specs.Statuses.{HasServedClients}
 use Rattle.play_server.specs.declared.served.ServeEnd.TheVariants as serve
-use Rattle.play_server.proofs.DeviceFaults.{no_faults}
+use Rattle.play_server.proofs.ADeviceFails.{no_faults}
 
 -- the events before a tick, and those from it on
 record IsSplit (history : List Event) (count : ℕ) : Type 0 where

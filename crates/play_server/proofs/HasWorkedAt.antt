@@ -11,13 +11,13 @@ use Rattle.play_server.specs.declared.connection_workers.ConnectionWorker.{Conne
 
 -- the passes, the doors and the ends of connection workers
 abbrev pub passes_of : {D : Type 0} → List (ConnectionWorker D) → List PassView
-passes_of {D} workers = map (λ (worker : ConnectionWorker D). worker.pass) workers
+passes_of {D} connection_workers = map (λ (worker : ConnectionWorker D). worker.pass) connection_workers
 
 abbrev pub doors_of : {D : Type 0} → List (ConnectionWorker D) → List D
-doors_of {D} workers = map (λ (worker : ConnectionWorker D). worker.door) workers
+doors_of {D} connection_workers = map (λ (worker : ConnectionWorker D). worker.door) connection_workers
 
 abbrev pub ends_of : {D : Type 0} → List (ConnectionWorker D) → List WorkEnd
-ends_of {D} workers = map (λ (worker : ConnectionWorker D). worker.end) workers
+ends_of {D} connection_workers = map (λ (worker : ConnectionWorker D). worker.end) connection_workers
 
 -- the work at a door, from the pass and the door before it to those after it. It ended so
 pub record WorkedAt {D L : Type 0} (states : DoorStates D L) (server : Server) (before : PassView) (old : D) (after : PassView) (end : WorkEnd) (new : D) : Type 0 where

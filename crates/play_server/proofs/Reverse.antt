@@ -4,7 +4,7 @@ use Rattle.std.specs.List.{AllZip, list_any}
 use Rattle.std.proofs.lemmas.List.{length-append, map-append, reverse-append}
 use Rattle.std.proofs.lemmas.List.Folds.{list_any-append}
 use mathlib.Core.List.{reverse-cons}
-use Rattle.play_server.proofs.Halves.{all_zip_append}
+use Rattle.play_server.proofs.AllZip.{all_zip_append}
 
 -- one element more was taken from the end of a list, and stands in another one at the end
 pub taken_more : {X Y : Type 0} (f : X → Y) (whole before after : List Y) (taken : List X) (x : X) (y : Y)

@@ -9,7 +9,7 @@ use Rattle.conn_worker.specs.Work.{FindsEnd, GoesOnAfter}
 use Rattle.conn_worker.specs.declared.link_end.LinkEnd as link
 use Rattle.conn_worker.specs.declared.link_end.LinkEnd.TheVariants as ends
 use Rattle.play_server.specs.Doors.{is_stopped}
-use Rattle.play_server.proofs.PassOn.{PassOn, pass_looked, pass_same}
+use Rattle.play_server.proofs.PassView.{PassOn, pass_looked, pass_same}
 
 -- after a link was served the work goes on, or a stop was found
 pub record GoesOn (end : link.LinkEnd) (before after : PassView) : Type 0 where

@@ -1,38 +1,39 @@
 //! Tests of the parts of the programs: what no clause says. Real files and folders; calls that take memory, if memory is ample;
-//! values from outside or worked out by hand. The tests of whole runs, of rendering and of threads are in `run_tests`.
+//! values from outside or worked out by hand. Each file is named for the crate that it tests. The tests of whole runs, of
+//! rendering and of threads are in `run_tests`.
 //!
 //! The crates below have no tests of their own, since the gate proves a crate that has tests a second time.
 #![tactic(auto)]
 
 #[cfg(test)]
-mod clips;
+mod amcp_text_tests;
 #[cfg(test)]
-mod configurations;
+mod clip_format_tests;
 #[cfg(test)]
-mod folders;
+mod clip_store_tests;
 #[cfg(test)]
-mod frames;
+mod cmd_print_tests;
 #[cfg(test)]
-mod journals;
+mod config_file_tests;
 #[cfg(test)]
-mod layers;
+mod frame_writer_tests;
 #[cfg(test)]
-mod messages;
+mod host_system_tests;
 #[cfg(test)]
-mod mixers;
+mod lane_blend_tests;
 #[cfg(test)]
-mod outside;
+mod layer_state_tests;
 #[cfg(test)]
-mod printing;
+mod mixer_state_tests;
 #[cfg(test)]
-mod routes;
+mod osc_status_tests;
 #[cfg(test)]
-mod rows;
+mod play_journal_tests;
 #[cfg(test)]
-mod setups;
+mod play_outside_tests;
 #[cfg(test)]
-mod system;
+mod play_types_tests;
 #[cfg(test)]
-mod text;
+mod route_graph_tests;
 #[cfg(test)]
-mod types;
+mod server_setup_tests;

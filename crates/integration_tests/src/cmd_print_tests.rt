@@ -1,4 +1,4 @@
-//! A history and commands that are printed to a sink with room. What they print was written by hand, by the form of printed
+//! Events and commands that are printed to a sink with room. What they print was written by hand, by the form of printed
 //! commands.
 use amcp_text::tokens;
 use cmd_parse::parse;
@@ -24,71 +24,78 @@ fn names(alloc: Global) -> Result<MediaNames, Fail> {
     Ok(names)
 }
 
-#[test]
-fn prints_a_history(rt: HostRuntime) -> Result<(), Fail> {
-    let alloc = rt.alloc();
-    let names = names(alloc)?;
-    let mut sink = MemSink::new(alloc, 0, 1000, 7, Vec::new(alloc))?;
-    let tag = Tag {
-        worker: 2,
-        session: 70000,
-    };
-    let server = Tag {
-        worker: 0,
-        session: 0,
-    };
-    let place = Place::new(1, 10).ok_or("a place")?;
+/// A connection.
+const TAG: Tag = Tag {
+    worker: 2,
+    session: 70000,
+};
+
+/// The server itself.
+const SERVER: Tag = Tag {
+    worker: 0,
+    session: 0,
+};
+
+/// Returns commands of a place.
+fn commands(place: Place) -> Result<[Cmd; 4], Fail> {
     let cut = Trans::cut();
     let wipe = Trans::new(Kind::Wipe, 12, Curve::Linear, true).ok_or("a transition")?;
     let clip = Take::new(Spec::Clip(0), true, 0, 4, cut, false).ok_or("a take")?;
-    let other = Take::new(Spec::Clip(1), false, 2, 7, wipe, true).ok_or("a take")?;
+    let escaped = Take::new(Spec::Clip(1), false, 2, 7, wipe, true).ok_or("a take")?;
     let missing = Take::new(Spec::Clip(2), false, 0, 1, cut, false).ok_or("a take")?;
     let colour = Take::new(Spec::Colour(0x8000AF09), false, 0, 0, cut, false).ok_or("a take")?;
-    let fill = Setting::new(
-        place,
-        Prop::Fill,
-        [250_000, -500_000, 1_000_000, 30],
-        5,
-        Curve::Linear,
-        true,
-    )
-    .ok_or("a setting")?;
+    Ok([
+        Cmd::play_take(place, clip),
+        Cmd::LoadBg(place, escaped),
+        Cmd::load(place, missing),
+        Cmd::load(place, colour),
+    ])
+}
+
+/// The line of each of these commands in a history, if the connection gave it for layer 10 of channel 1.
+const COMMAND_LINES: [&str; 4] = [
+    "2.70000 PLAY 1-10 \"BGLOOP\" LOOP SEEK 0 LENGTH 4\n",
+    "2.70000 LOADBG 1-10 \"A \\\"B\\\\C\\nD\" SEEK 2 LENGTH 7 WIPE 12 LINEAR LEFT AUTO\n",
+    "2.70000 LOAD 1-10 \"\" SEEK 0 LENGTH 1\n",
+    "2.70000 LOAD 1-10 #8000AF09\n",
+];
+
+#[test]
+fn a_command_is_printed_after_its_connection(rt: HostRuntime) -> Result<(), Fail> {
+    let alloc = rt.alloc();
+    let names = names(alloc)?;
+    let commands = commands(Place::new(1, 10).ok_or("a place")?)?;
+    for (cmd, line) in commands.iter().zip(COMMAND_LINES) {
+        let mut sink = MemSink::new(alloc, 0, 200, 7, Vec::new(alloc))?;
+        let sent = print_event(&Event::Do(TAG, *cmd), 1, &names, &mut sink);
+        assert_eq!(rt; sent, Sent::All);
+        assert_eq!(rt; sink.taken(), line.as_bytes());
+    }
+    Ok(())
+}
+
+#[test]
+fn ticks_batches_and_stops_are_printed_as_lines(rt: HostRuntime) -> Result<(), Fail> {
+    let alloc = rt.alloc();
+    let names = names(alloc)?;
+    let place = Place::new(1, 10).ok_or("a place")?;
+    let values = [250_000, -500_000, 1_000_000, 30];
+    let fill = Setting::new(place, Prop::Fill, values, 5, Curve::Linear, true);
     let mut batch = CmdList::new(alloc);
     batch.push(Cmd::SwapLayers(place, place, true))?;
-    batch.push(Cmd::Set(fill))?;
+    batch.push(Cmd::Set(fill.ok_or("a setting")?))?;
+    let mut sink = MemSink::new(alloc, 0, 1000, 7, Vec::new(alloc))?;
     let sent = [
-        print_event(
-            &Event::Do(tag, Cmd::play_take(place, clip)),
-            1,
-            &names,
-            &mut sink,
-        ),
-        print_event(
-            &Event::Do(tag, Cmd::LoadBg(place, other)),
-            1,
-            &names,
-            &mut sink,
-        ),
-        print_event(
-            &Event::Do(tag, Cmd::load(place, missing)),
-            1,
-            &names,
-            &mut sink,
-        ),
         print_event(&Event::Tick, 200_001, &names, &mut sink),
-        print_event(&Event::Batch(tag, batch), 1, &names, &mut sink),
+        print_event(&Event::Batch(TAG, batch), 1, &names, &mut sink),
         print_event(&Event::Tick, 1, &names, &mut sink),
-        print_event(&Event::Stop(tag), 1, &names, &mut sink),
-        print_event(&Event::Stop(server), 1, &names, &mut sink),
-        print(&Cmd::load(place, colour), &names, &mut sink),
+        print_event(&Event::Stop(TAG), 1, &names, &mut sink),
+        print_event(&Event::Stop(SERVER), 1, &names, &mut sink),
     ];
-    assert_eq!(rt; sent, [Sent::All; 9]);
+    assert_eq!(rt; sent, [Sent::All; 5]);
     assert_eq!(rt;
         sink.taken(),
-        b"2.70000 PLAY 1-10 \"BGLOOP\" LOOP SEEK 0 LENGTH 4
-2.70000 LOADBG 1-10 \"A \\\"B\\\\C\\nD\" SEEK 2 LENGTH 7 WIPE 12 LINEAR LEFT AUTO
-2.70000 LOAD 1-10 \"\" SEEK 0 LENGTH 1
-T 100000
+        b"T 100000
 T 100000
 T 1
 2.70000 BEGIN
@@ -98,7 +105,7 @@ T 1
 T 1
 2.70000 KILL
 X
-LOAD 1-10 #8000AF09"
+"
             .as_slice()
     );
     Ok(())
@@ -260,7 +267,7 @@ fn is_asked_again(
 }
 
 #[test]
-fn printed_lines_ask_again(rt: HostRuntime) -> Result<(), Fail> {
+fn a_printed_command_is_read_again(rt: HostRuntime) -> Result<(), Fail> {
     let alloc = rt.alloc();
     let config = two_channels(alloc)?;
     let media = clips(alloc)?;

@@ -6,7 +6,7 @@ use play_types::{ClipFault, Text};
 use std::test::Fail;
 
 #[test]
-fn clips_are_read_and_written(rt: HostRuntime) -> Result<(), Fail> {
+fn a_clip_is_written_with_the_bytes_that_were_read(rt: HostRuntime) -> Result<(), Fail> {
     let file = b"RCLP\0\x01\0\0\0\x02\0\x01\0\0\0\x02\0\x01\0\0aaaAbbbBl1r1cccCdddDl2r2";
     let clip = decode(Vec::from_slice(rt.alloc(), file)?)
         .ok()
@@ -39,7 +39,7 @@ const STRAIGHT: [(&[u8], &[u8]); 4] = [
 ];
 
 #[test]
-fn clips_are_made_straight(rt: HostRuntime) -> Result<(), Fail> {
+fn a_straight_clip_has_the_bytes_of_version_2(rt: HostRuntime) -> Result<(), Fail> {
     for (file, straight) in STRAIGHT {
         let clip = decode(Vec::from_slice(rt.alloc(), file)?)
             .ok()
@@ -78,7 +78,7 @@ const HEADERS: [(&[u8], ClipFault); 4] = [
 ];
 
 #[test]
-fn files_that_are_no_clips(rt: HostRuntime) -> Result<(), Fail> {
+fn a_cut_clip_and_a_wrong_header_are_refused(rt: HostRuntime) -> Result<(), Fail> {
     let alloc = rt.alloc();
     for had in 0..PIXEL.len() {
         let needed = if had < 20 { 20 } else { 24 };
@@ -97,7 +97,7 @@ fn files_that_are_no_clips(rt: HostRuntime) -> Result<(), Fail> {
 }
 
 #[test]
-fn tables(rt: HostRuntime) -> Result<(), Fail> {
+fn a_table_has_the_name_of_an_unreadable_clip(rt: HostRuntime) -> Result<(), Fail> {
     let alloc = rt.alloc();
     let mut table = MediaTable::empty(alloc)?;
     table.add(Text::copy(alloc, "SHORTER")?, Err(ClipFault::BadMagic))?;

@@ -16,7 +16,7 @@ channel = [
 "#;
 
 #[test]
-fn configurations(rt: HostRuntime) -> Result<(), Fail> {
+fn a_configuration_in_unusual_toml_is_read(rt: HostRuntime) -> Result<(), Fail> {
     let config = read_config(rt.alloc(), TWO_CHANNELS)
         .ok()
         .ok_or("a configuration")?;
@@ -29,7 +29,7 @@ fn configurations(rt: HostRuntime) -> Result<(), Fail> {
 }
 
 #[test]
-fn refused_texts(rt: HostRuntime) -> Result<(), Fail> {
+fn a_refused_configuration_names_the_wrong_key(rt: HostRuntime) -> Result<(), Fail> {
     for (text, key) in [
         ("", "listen"),
         ("listen = 'a'\nmedia = '\u{e9}'\nrate = 1979-05-27", "rate"),

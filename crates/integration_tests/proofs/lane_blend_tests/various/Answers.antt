@@ -2,7 +2,7 @@ use Rattle.std.proofs.Common.{◌≡◌, ℕ, ◌+◌, ◌*◌, List, ◌++◌, 
 use Rattle.pixel_math.specs.Pixel.{PixelView, lowered, pixel_bytes}
 use Rattle.lane_blend.specs.Rows.{AreLowered, IsLowered}
 use Rattle.lane_blend.proofs.Rows.{AreLowered-append}
-use Rattle.integration_tests.proofs.rows.various.Goals as goal
+use Rattle.integration_tests.proofs.lane_blend_tests.various.Goals as goal
 
 IsLowered-lowered : (b g r a : ℕ) → IsLowered (lowered b g r a)
 IsLowered-lowered b g r a = record { blue = omega arith; green = omega arith; red = omega arith }

@@ -5,7 +5,7 @@ use std::test::Fail;
 use std::{env, fs};
 
 #[test]
-fn reads_files(rt: HostRuntime) -> Result<(), Fail> {
+fn files_of_a_folder_are_read_and_missing_ones_fail(rt: HostRuntime) -> Result<(), Fail> {
     let alloc = rt.alloc();
     fs::create_dir_all(&rt, "host_system_test/inner")?;
     fs::write(&rt, "host_system_test/one", "abc")?;
@@ -36,7 +36,7 @@ fn reads_files(rt: HostRuntime) -> Result<(), Fail> {
 }
 
 #[test]
-fn takes_words(rt: HostRuntime) -> Result<(), Fail> {
+fn the_words_of_the_program_are_taken(rt: HostRuntime) -> Result<(), Fail> {
     assert!(rt; words_of(rt.alloc(), env::args(&rt)).is_ok());
     Ok(())
 }

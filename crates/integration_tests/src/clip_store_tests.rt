@@ -31,7 +31,7 @@ fn scan_failing<R: Threads + Sync>(
 }
 
 #[test]
-fn scans(rt: HostRuntime) -> Result<(), Fail> {
+fn a_scan_fails_if_a_call_fails_or_a_name_comes_twice(rt: HostRuntime) -> Result<(), Fail> {
     let alloc = rt.alloc();
     let names = ["b.rclp", "a.RCLP"];
     for fails in 1..4 {

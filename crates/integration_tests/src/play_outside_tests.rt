@@ -17,7 +17,7 @@ fn check_reads<S: Source>(rt: &impl Abort, source: &mut S, expected: &[ReadStep]
 }
 
 #[test]
-fn reads(rt: HostRuntime) -> Result<(), Fail> {
+fn sources_give_pieces_and_fail_as_planned(rt: HostRuntime) -> Result<(), Fail> {
     let bytes = Vec::from_slice(rt.alloc(), b"abcdef")?;
     let (three, two, four) = (ReadStep::Got(3), ReadStep::Got(2), ReadStep::Got(4));
     let mut plain = PlainSource::new(bytes.clone()?);
@@ -29,7 +29,7 @@ fn reads(rt: HostRuntime) -> Result<(), Fail> {
 }
 
 #[test]
-fn writes(rt: HostRuntime) -> Result<(), Fail> {
+fn a_sink_takes_pieces_until_it_is_full(rt: HostRuntime) -> Result<(), Fail> {
     let mut sink = MemSink::new(rt.alloc(), 7, 6, 3, vec![in rt.alloc(); 2]?)?;
     let steps = [
         sink.write(b"abcd"),
@@ -44,7 +44,7 @@ fn writes(rt: HostRuntime) -> Result<(), Fail> {
 }
 
 #[test]
-fn sends(rt: HostRuntime) -> Result<(), Fail> {
+fn a_send_goes_on_until_all_is_taken_or_a_write_fails(rt: HostRuntime) -> Result<(), Fail> {
     let mut sink = MemSink::new(rt.alloc(), 0, 8, 3, Vec::new(rt.alloc()))?;
     let sent = [
         send(b"abcd", &mut sink),
@@ -57,7 +57,7 @@ fn sends(rt: HostRuntime) -> Result<(), Fail> {
 }
 
 #[test]
-fn gathers(rt: HostRuntime) -> Result<(), Fail> {
+fn a_gather_writes_once_and_drops_what_failed(rt: HostRuntime) -> Result<(), Fail> {
     let mut sink = MemSink::new(rt.alloc(), 0, 99, 99, vec![in rt.alloc(); 4]?)?;
     let mut gather = Gather::<4>::new();
     let sent = [
@@ -74,7 +74,7 @@ fn gathers(rt: HostRuntime) -> Result<(), Fail> {
 }
 
 #[test]
-fn finds_files(rt: HostRuntime) -> Result<(), Fail> {
+fn a_folder_finds_its_files_and_fails_as_planned(rt: HostRuntime) -> Result<(), Fail> {
     let alloc = rt.alloc();
     let config = MemConfig {
         path: String::from_str(alloc, "c")?,

@@ -8,7 +8,7 @@ use std::alloc::{AllocError, Global};
 use std::test::Fail;
 
 #[test]
-fn rows_of_every_length(rt: HostRuntime) -> Result<(), Fail> {
+fn rows_of_every_length_are_blended_as_their_pixels(rt: HostRuntime) -> Result<(), Fail> {
     for width in 0..68usize {
         let upper = various(rt.alloc(), width, 7)?;
         let lower = various(rt.alloc(), width, 11)?;

@@ -57,7 +57,7 @@ fn has_bytes(alloc: Global, address: &str, args: &[OscArg<'_>], bytes: &[u8]) ->
 }
 
 #[test]
-fn addresses_of_each_length(rt: HostRuntime) -> Result<(), Fail> {
+fn addresses_are_padded_to_four_bytes(rt: HostRuntime) -> Result<(), Fail> {
     let alloc = rt.alloc();
     assert!(rt; has_bytes(alloc, "/", &[], b"/\0\0\0,\0\0\0")?);
     assert!(rt; has_bytes(alloc, "/a", &[], b"/a\0\0,\0\0\0")?);
@@ -67,7 +67,7 @@ fn addresses_of_each_length(rt: HostRuntime) -> Result<(), Fail> {
 }
 
 #[test]
-fn words_of_each_length(rt: HostRuntime) -> Result<(), Fail> {
+fn words_are_padded_to_four_bytes(rt: HostRuntime) -> Result<(), Fail> {
     let alloc = rt.alloc();
     let words = [
         OscArg::Word(""),
@@ -88,7 +88,7 @@ fn words_of_each_length(rt: HostRuntime) -> Result<(), Fail> {
 }
 
 #[test]
-fn numbers_and_letters_of_each_length(rt: HostRuntime) -> Result<(), Fail> {
+fn numbers_have_four_bytes_after_padded_letters(rt: HostRuntime) -> Result<(), Fail> {
     let alloc = rt.alloc();
     let (one, least) = (OscArg::Int(1), OscArg::Int(-2_147_483_648));
     assert!(rt; has_bytes(alloc, "/", &[one], b"/\0\0\0,i\0\0\0\0\0\x01")?);
@@ -160,7 +160,7 @@ static REFUSED: [(&[u8], &str); 9] = [
 ];
 
 #[test]
-fn other_bytes_are_refused(rt: HostRuntime) {
+fn bytes_that_are_no_message_are_refused(rt: HostRuntime) {
     for (bytes, cause) in &REFUSED {
         assert!(rt; is_refused(rt.alloc(), bytes), "{cause}");
     }
@@ -208,7 +208,7 @@ fn text_in(lines: &str) -> Option<&str> {
 }
 
 #[test]
-fn names_stand_bare(rt: HostRuntime) -> Result<(), Fail> {
+fn names_of_clips_have_no_quotes_and_no_zero_bytes(rt: HostRuntime) -> Result<(), Fail> {
     for (name, digits) in &NAMES {
         let lines = lines_of(rt.alloc(), name)?;
         assert_eq!(rt; text_in(lines.as_str()), Some(*digits));

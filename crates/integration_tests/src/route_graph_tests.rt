@@ -5,7 +5,7 @@ use route_graph::Routes;
 use std::test::Fail;
 
 #[test]
-fn tables_take_memory(rt: HostRuntime) -> Result<(), Fail> {
+fn a_route_shows_what_its_layer_showed_a_tick_before(rt: HostRuntime) -> Result<(), Fail> {
     let place = Place::new(2, 9_999).ok_or("a place")?;
     let mut routes = Routes::new(rt.alloc(), 2)?;
     routes.begin_tick();

@@ -21,7 +21,7 @@ fn push_after_tick(journal: &mut Journal, alloc: Global, tag: Tag) -> Result<(),
 }
 
 #[test]
-fn commands_take_memory(rt: HostRuntime) -> Result<(), Fail> {
+fn a_journal_takes_more_commands_than_a_block_holds(rt: HostRuntime) -> Result<(), Fail> {
     let alloc = rt.alloc();
     let tag = Tag {
         worker: 1,
@@ -35,7 +35,7 @@ fn commands_take_memory(rt: HostRuntime) -> Result<(), Fail> {
 }
 
 #[test]
-fn batches_take_memory(rt: HostRuntime) -> Result<(), Fail> {
+fn a_journal_takes_a_batch(rt: HostRuntime) -> Result<(), Fail> {
     let alloc = rt.alloc();
     let tag = Tag {
         worker: 1,

@@ -5,7 +5,7 @@ use play_types::Geometry;
 use std::test::Fail;
 
 #[test]
-fn writes_frames(rt: HostRuntime) -> Result<(), Fail> {
+fn frames_are_written_as_digits_digests_and_bytes(rt: HostRuntime) -> Result<(), Fail> {
     let mut sink = MemSink::new(rt.alloc(), 0, 400, 7, Vec::new(rt.alloc()))?;
     let size = Geometry {
         width: 1,
@@ -34,7 +34,7 @@ pixelssound"
 }
 
 #[test]
-fn writes_lines_together(rt: HostRuntime) -> Result<(), Fail> {
+fn the_lines_of_a_small_frame_are_one_write(rt: HostRuntime) -> Result<(), Fail> {
     let mut sink = MemSink::new(rt.alloc(), 0, 99, 99, vec![in rt.alloc(); 2]?)?;
     let size = Geometry {
         width: 1,

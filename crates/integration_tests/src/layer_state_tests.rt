@@ -123,25 +123,25 @@ fn a_content_shows_its_frames(rt: HostRuntime) -> Result<(), Fail> {
 }
 
 #[test]
-fn loads_and_plays(rt: HostRuntime) -> Result<(), Fail> {
+fn load_and_play_show_their_producer(rt: HostRuntime) -> Result<(), Fail> {
     assert_eq!(rt; first_wrong(&LOADS_AND_PLAYS)?, None);
     Ok(())
 }
 
 #[test]
-fn pauses_and_stops(rt: HostRuntime) -> Result<(), Fail> {
+fn pause_holds_and_stop_empties(rt: HostRuntime) -> Result<(), Fail> {
     assert_eq!(rt; first_wrong(&PAUSES_AND_STOPS)?, None);
     Ok(())
 }
 
 #[test]
-fn automatic_starts(rt: HostRuntime) -> Result<(), Fail> {
+fn a_background_with_auto_starts_by_itself(rt: HostRuntime) -> Result<(), Fail> {
     assert_eq!(rt; first_wrong(&AUTOMATIC_STARTS)?, None);
     Ok(())
 }
 
 #[test]
-fn automatic_starts_when_they_are_due(rt: HostRuntime) -> Result<(), Fail> {
+fn an_automatic_start_comes_when_it_is_due(rt: HostRuntime) -> Result<(), Fail> {
     assert_eq!(rt; first_wrong(&DUE_STARTS)?, None);
     Ok(())
 }
@@ -153,7 +153,7 @@ fn transitions_show_their_steps(rt: HostRuntime) -> Result<(), Fail> {
 }
 
 #[test]
-fn commands_in_transitions(rt: HostRuntime) -> Result<(), Fail> {
+fn a_command_holds_or_ends_a_transition(rt: HostRuntime) -> Result<(), Fail> {
     assert_eq!(rt; first_wrong(&BROKEN_TRANSITIONS)?, None);
     Ok(())
 }

@@ -35,7 +35,7 @@ fn set_up_failing<R: Threads + Sync>(
 }
 
 #[test]
-fn sets_up(rt: HostRuntime) -> Result<(), Fail> {
+fn a_failed_call_of_the_folder_has_status_4(rt: HostRuntime) -> Result<(), Fail> {
     let alloc = rt.alloc();
     for fails in 1..5 {
         let fault = set_up_failing(&rt, alloc, fails)?.err().ok_or("a fault")?;

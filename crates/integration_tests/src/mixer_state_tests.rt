@@ -28,7 +28,7 @@ fn opacity(place: Place, value: i64, duration: u32) -> Result<Setting, Fail>
 }
 
 #[test]
-fn calls_with_ample_memory(rt: HostRuntime) -> Result<(), Fail> {
+fn settings_tween_wait_and_swap_as_by_hand(rt: HostRuntime) -> Result<(), Fail> {
     let alloc = rt.alloc();
     let one = layer(1)?;
     let two = layer(2)?;

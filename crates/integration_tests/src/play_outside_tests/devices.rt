@@ -11,7 +11,7 @@ use std::sync::atomic::AtomicBool;
 use std::test::Fail;
 
 #[test]
-fn beats(rt: HostRuntime) -> Result<(), Fail> {
+fn clocks_beat_fail_as_planned_and_close(rt: HostRuntime) -> Result<(), Fail> {
     let mut plain = PlainClock::new(1);
     assert_eq!(rt; [plain.next(), plain.next()], [Beat::Pulse, Beat::Closed]);
     let mut clock = MemClock::new(2, vec![in rt.alloc(); 2]?);
@@ -30,7 +30,7 @@ fn read<L: Link>(link: &mut L) -> LinkStep {
 }
 
 #[test]
-fn reads_and_writes(rt: HostRuntime) -> Result<(), Fail> {
+fn links_read_and_write_pieces_and_fail_as_planned(rt: HostRuntime) -> Result<(), Fail> {
     let alloc = rt.alloc();
     let plan = LinkPlan {
         input: Vec::from_slice(alloc, b"abcdef")?,
@@ -84,7 +84,7 @@ fn ask<D: Listener>(door: &mut D) -> &'static str
 }
 
 #[test]
-fn doors(rt: HostRuntime) -> Result<(), Fail> {
+fn doors_give_links_fail_as_planned_and_close(rt: HostRuntime) -> Result<(), Fail> {
     let alloc = rt.alloc();
     let answers = vec![in alloc; DoorAnswer::Again, DoorAnswer::Line(PlainLink::new(7))]?;
     let mut door = MemDoor::new(alloc, 0, answers, vec![in alloc; 2]?)?;
@@ -102,7 +102,7 @@ fn doors(rt: HostRuntime) -> Result<(), Fail> {
 }
 
 #[test]
-fn held(rt: HostRuntime) -> Result<(), Fail> {
+fn held_devices_wait_for_their_flag(rt: HostRuntime) -> Result<(), Fail> {
     let alloc = rt.alloc();
     let flag: Flag = Arc::new(alloc, AtomicBool::new(false))?;
     let second = FlaggedCall {

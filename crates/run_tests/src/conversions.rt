@@ -19,7 +19,7 @@ const CONVERSIONS: [(&[u8], u8, &[u8]); 9] = [
         0,
         b"RCLP\0\x02\0\0\0\x01\0\x01\0\0\0\x01\0\0\0\0\0\0\xff\x80",
     ),
-    // A clip of version 2 stays as it is, also where a colour is above its alpha.
+    // A clip of version 2 stays as it is, also if a colour is above its alpha.
     (
         b"RCLP\0\x02\0\0\0\x01\0\x01\0\0\0\x01\0\0\0\0\0\0\xff\x80",
         0,

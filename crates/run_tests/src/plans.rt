@@ -13,46 +13,71 @@ use std::thread::Threads;
 /// One channel of one pixel, at 25 frames a second.
 const CONFIG: &str = "listen='l'\nmedia='m'\nrate=25\nchannel=[{width=1,height=1,output='o'}]";
 
-/// Plans: the words, the cue sheet, the exit status and the output.
-const PLANS: [(&str, &str, u8, &str); 8] = [
+/// A cue sheet that is played, and what has to come of it.
+#[derive(Clone, Copy)]
+struct Plan {
+    /// The words of the command line, with a space between them.
+    words: &'static str,
+    sheet: &'static str,
+    status: u8,
+    output: &'static str,
+}
+
+/// The cue sheets that are played.
+const PLANS: [Plan; 8] = [
     // The lines come by their moments, whatever their order.
-    (
-        "plan --config one",
-        "AT 00:00:00:02 1.1 PLAY 1-0 BLUE\nAT 0 1.1 PLAY 1-0 RED\nAFTER 1 2.1 MIXER 1-0 OPACITY 0.5\nEND 3\n",
-        0,
-        "1.1 202 PLAY OK\nF 1 1\n0000ffff\n2.1 202 MIXER OK\nF 1 2\n00008080\n1.1 202 PLAY OK\nF 1 3\n80000080\n",
-    ),
+    Plan {
+        words: "plan --config one",
+        sheet: "AT 00:00:00:02 1.1 PLAY 1-0 BLUE\nAT 0 1.1 PLAY 1-0 RED\nAFTER 1 2.1 MIXER 1-0 OPACITY 0.5\nEND 3\n",
+        status: 0,
+        output: "1.1 202 PLAY OK\nF 1 1\n0000ffff\n2.1 202 MIXER OK\nF 1 2\n00008080\n1.1 202 PLAY OK\nF 1 3\n80000080\n",
+    },
     // A copy may be due at the end.
-    (
-        "plan --config one",
-        "AT 1 EVERY 2 TIMES 2 1.1 VERSION\nEND 3",
-        0,
-        "F 1 1\n00000000\n1.1 201 VERSION OK\n1.1 2.0 PLAYD\nF 1 2\n00000000\nF 1 3\n00000000\n1.1 201 VERSION OK\n1.1 2.0 PLAYD\n",
-    ),
-    ("plan --config one", "END 0", 0, ""),
+    Plan {
+        words: "plan --config one",
+        sheet: "AT 1 EVERY 2 TIMES 2 1.1 VERSION\nEND 3",
+        status: 0,
+        output: "F 1 1\n00000000\n1.1 201 VERSION OK\n1.1 2.0 PLAYD\nF 1 2\n00000000\nF 1 3\n00000000\n1.1 201 VERSION OK\n1.1 2.0 PLAYD\n",
+    },
+    Plan {
+        words: "plan --config one",
+        sheet: "END 0",
+        status: 0,
+        output: "",
+    },
     // Without a cue line before it, AFTER counts from 0, and copies without a distance come together.
-    (
-        "plan --config one",
-        "AFTER 1 1.1 MIXER 1-0 OPACITY\r\nAT 1 EVERY 0 TIMES 2 2.1 VERSION\r\nEND 1\r\n",
-        0,
-        "F 1 1\n00000000\n1.1 201 MIXER OK\n1.1 1\n2.1 201 VERSION OK\n2.1 2.0 PLAYD\n2.1 201 VERSION OK\n2.1 2.0 PLAYD\n",
-    ),
+    Plan {
+        words: "plan --config one",
+        sheet: "AFTER 1 1.1 MIXER 1-0 OPACITY\r\nAT 1 EVERY 0 TIMES 2 2.1 VERSION\r\nEND 1\r\n",
+        status: 0,
+        output: "F 1 1\n00000000\n1.1 201 MIXER OK\n1.1 1\n2.1 201 VERSION OK\n2.1 2.0 PLAYD\n2.1 201 VERSION OK\n2.1 2.0 PLAYD\n",
+    },
     // After KILL nothing is played.
-    (
-        "plan --config one",
-        "AT 2 1.1 INFO\r\nAT 1 1.1 KILL\r\n# a\r\nEND 5\r\n",
-        0,
-        "F 1 1\n00000000\n1.1 202 KILL OK\n",
-    ),
+    Plan {
+        words: "plan --config one",
+        sheet: "AT 2 1.1 INFO\r\nAT 1 1.1 KILL\r\n# a\r\nEND 5\r\n",
+        status: 0,
+        output: "F 1 1\n00000000\n1.1 202 KILL OK\n",
+    },
     // A batch is one event at the moment of its COMMIT, and the texts of a connection are those of one session.
-    (
-        "plan --config one --workers 3 --digest",
-        "AT 0 1.1 BEGIN\nAT 0 1.1 PLAY 1-0 RED\nAT 1 1.1 COMMIT\nAT 1 2.1 \nEND 2\n",
-        0,
-        "1.1 202 BEGIN OK\n1.1 202 PLAY OK\nD 1 1 df3f619804a92fdb4057192dc43dd748ea778adc52bc498ce80524c014b81119\n1.1 202 COMMIT OK\nD 1 2 b7d1b3a1104cc86b1cea310793cf777002db0517281d135a02de079b0ea87c23\n",
-    ),
-    ("plan 1 1", "END 0", 1, "E usage\n"),
-    ("plan --config none", "END 0", 4, "E device\n"),
+    Plan {
+        words: "plan --config one --workers 3 --digest",
+        sheet: "AT 0 1.1 BEGIN\nAT 0 1.1 PLAY 1-0 RED\nAT 1 1.1 COMMIT\nAT 1 2.1 \nEND 2\n",
+        status: 0,
+        output: "1.1 202 BEGIN OK\n1.1 202 PLAY OK\nD 1 1 df3f619804a92fdb4057192dc43dd748ea778adc52bc498ce80524c014b81119\n1.1 202 COMMIT OK\nD 1 2 b7d1b3a1104cc86b1cea310793cf777002db0517281d135a02de079b0ea87c23\n",
+    },
+    Plan {
+        words: "plan 1 1",
+        sheet: "END 0",
+        status: 1,
+        output: "E usage\n",
+    },
+    Plan {
+        words: "plan --config none",
+        sheet: "END 0",
+        status: 4,
+        output: "E device\n",
+    },
 ];
 
 /// Cue sheets that are refused: the sheet, the output and what is told. Nothing of them is played.
@@ -172,14 +197,19 @@ fn status_of<R: Threads + Sync>(
 #[test]
 fn lines_are_played_at_their_moments(rt: HostRuntime) -> Result<(), Fail> {
     let alloc = rt.alloc();
-    for (line, sheet, status, output) in PLANS {
+    for Plan {
+        words,
+        sheet,
+        status,
+        output,
+    } in PLANS {
         let mut out = MemSink::new(alloc, 0, 1000, 4096, Vec::new(alloc))?;
         let mut teller = MemTeller {
             listens: true,
             told: Vec::new(alloc),
             texts: Vec::new(alloc),
         };
-        let found = status_of(&rt, alloc, line, sheet.as_bytes(), &mut out, &mut teller)?;
+        let found = status_of(&rt, alloc, words, sheet.as_bytes(), &mut out, &mut teller)?;
         assert_eq!(&rt; found, status, "{sheet}");
         assert_eq!(&rt; out.taken(), output.as_bytes(), "{sheet}");
         assert!(&rt; teller.told.is_empty(), "{sheet}");

@@ -53,69 +53,87 @@ const PIXELS: [(&str, &[u8]); 4] = [
 const CLIP: &[u8] =
     b"RCLP\0\x01\0\0\0\x01\0\x01\0\0\0\x03\0\0\0\0\0\0\0\xff\0\0\x50\xff\0\0\xa0\xff";
 
-/// Runs: the words, the names of the clip files, the script, the exit status and the output.
-const RUNS: [(&str, &str, &str, u8, &str); 14] = [
-    (
-        "run 1 1",
-        "",
-        "1.1 BEGIN\n1.1 PLAY 1-0 RED\n1.1 COMMIT\n1.1 FROB 1\n2.7 PLAY 1-0 #FF00FF00\nT 2\n1.1 BYE\n1.1 KILL\n2.7 KILL\nzzz\n",
-        0,
-        "1.1 202 BEGIN OK\n1.1 202 PLAY OK\n1.1 202 COMMIT OK\n1.1 400 ERROR\n1.1 FROB 1\n2.7 202 PLAY OK\nF 1 1\n00ff00ff\nF 1 2\n00ff00ff\n2.7 202 KILL OK\n",
-    ),
-    (
-        "run --config two --workers 64",
-        "three.rclp",
-        "1.1 CLS\n1.1 PLAY 2-0 THREE LOOP\nT 2\n",
-        0,
-        "1.1 200 CLS OK\n1.1 \"THREE\" 1x1 3 0\n1.1 \n1.1 202 PLAY OK\nF 1 1\n0000000000000000\nF 2 1\n000000ff\nF 1 2\n0000000000000000\nF 2 2\n000050ff\n",
-    ),
-    (
-        "run --config two",
-        "three.rclp",
-        "1.1 PLAY 2-0 THREE\nT\n1.1 PAUSE 2-0\nT\n1.1 LOADBG 2-0 RED AUTO\n1.1 RESUME 2-0\nT 3\n1.1 STOP 2-0\n1.1 CLEAR 2\n1.1 INFO\nT\n",
-        0,
-        "1.1 202 PLAY OK\nF 1 1\n0000000000000000\nF 2 1\n000000ff\n1.1 202 PAUSE OK\nF 1 2\n0000000000000000\nF 2 2\n000050ff\n1.1 202 LOADBG OK\n1.1 202 RESUME OK\nF 1 3\n0000000000000000\nF 2 3\n000050ff\nF 1 4\n0000000000000000\nF 2 4\n0000a0ff\nF 1 5\n0000000000000000\nF 2 5\n0000ffff\n1.1 202 STOP OK\n1.1 202 CLEAR OK\n1.1 200 INFO OK\n1.1 1 2x1 EMPTY\n1.1 2 1x1 EMPTY\n1.1 \nF 1 6\n0000000000000000\nF 2 6\n00000000\n",
-    ),
-    (
-        "run --config two",
-        "low1.rclp low2.rclp high1.rclp high2.rclp",
-        "1.1 PLAY 2-0 LOW1\nT\n1.1 PLAY 2-0 LOW2\nT\n1.1 PLAY 2-0 HIGH1\nT\n1.1 PLAY 2-0 HIGH2\nT\n",
-        0,
-        "1.1 202 PLAY OK\nF 1 1\n0000000000000000\nF 2 1\n00004080\n1.1 202 PLAY OK\nF 1 2\n0000000000000000\nF 2 2\n00004080\n1.1 202 PLAY OK\nF 1 3\n0000000000000000\nF 2 3\n00008080\n1.1 202 PLAY OK\nF 1 4\n0000000000000000\nF 2 4\n00008080\n",
-    ),
-    (
-        "run --config two --digest",
-        "three.rclp",
-        "1.1 PLAY 2-0 THREE\nT 2",
-        0,
-        "1.1 202 PLAY OK
+/// A run of the program, and what has to come of it.
+#[derive(Clone, Copy)]
+struct Run {
+    /// The words of the command line, with a space between them.
+    words: &'static str,
+    /// The names of the clip files, with a space between them.
+    clips: &'static str,
+    script: &'static str,
+    status: u8,
+    output: &'static str,
+}
+
+/// The runs.
+const RUNS: [Run; 14] = [
+    Run {
+        words: "run 1 1",
+        clips: "",
+        script: "1.1 BEGIN\n1.1 PLAY 1-0 RED\n1.1 COMMIT\n1.1 FROB 1\n2.7 PLAY 1-0 #FF00FF00\nT 2\n1.1 BYE\n1.1 KILL\n2.7 KILL\nzzz\n",
+        status: 0,
+        output: "1.1 202 BEGIN OK\n1.1 202 PLAY OK\n1.1 202 COMMIT OK\n1.1 400 ERROR\n1.1 FROB 1\n2.7 202 PLAY OK\nF 1 1\n00ff00ff\nF 1 2\n00ff00ff\n2.7 202 KILL OK\n",
+    },
+    Run {
+        words: "run --config two --workers 64",
+        clips: "three.rclp",
+        script: "1.1 CLS\n1.1 PLAY 2-0 THREE LOOP\nT 2\n",
+        status: 0,
+        output: "1.1 200 CLS OK\n1.1 \"THREE\" 1x1 3 0\n1.1 \n1.1 202 PLAY OK\nF 1 1\n0000000000000000\nF 2 1\n000000ff\nF 1 2\n0000000000000000\nF 2 2\n000050ff\n",
+    },
+    Run {
+        words: "run --config two",
+        clips: "three.rclp",
+        script: "1.1 PLAY 2-0 THREE\nT\n1.1 PAUSE 2-0\nT\n1.1 LOADBG 2-0 RED AUTO\n1.1 RESUME 2-0\nT 3\n1.1 STOP 2-0\n1.1 CLEAR 2\n1.1 INFO\nT\n",
+        status: 0,
+        output: "1.1 202 PLAY OK\nF 1 1\n0000000000000000\nF 2 1\n000000ff\n1.1 202 PAUSE OK\nF 1 2\n0000000000000000\nF 2 2\n000050ff\n1.1 202 LOADBG OK\n1.1 202 RESUME OK\nF 1 3\n0000000000000000\nF 2 3\n000050ff\nF 1 4\n0000000000000000\nF 2 4\n0000a0ff\nF 1 5\n0000000000000000\nF 2 5\n0000ffff\n1.1 202 STOP OK\n1.1 202 CLEAR OK\n1.1 200 INFO OK\n1.1 1 2x1 EMPTY\n1.1 2 1x1 EMPTY\n1.1 \nF 1 6\n0000000000000000\nF 2 6\n00000000\n",
+    },
+    Run {
+        words: "run --config two",
+        clips: "low1.rclp low2.rclp high1.rclp high2.rclp",
+        script: "1.1 PLAY 2-0 LOW1\nT\n1.1 PLAY 2-0 LOW2\nT\n1.1 PLAY 2-0 HIGH1\nT\n1.1 PLAY 2-0 HIGH2\nT\n",
+        status: 0,
+        output: "1.1 202 PLAY OK\nF 1 1\n0000000000000000\nF 2 1\n00004080\n1.1 202 PLAY OK\nF 1 2\n0000000000000000\nF 2 2\n00004080\n1.1 202 PLAY OK\nF 1 3\n0000000000000000\nF 2 3\n00008080\n1.1 202 PLAY OK\nF 1 4\n0000000000000000\nF 2 4\n00008080\n",
+    },
+    Run {
+        words: "run --config two --digest",
+        clips: "three.rclp",
+        script: "1.1 PLAY 2-0 THREE\nT 2",
+        status: 0,
+        output: "1.1 202 PLAY OK
 D 1 1 af5570f5a1810b7af78caf4bc70a660f0df51e42baf91d4de5b2328de0e83dfc
 D 2 1 e3820096cb82366b860b8a4e668453a7aaaf423af03bdf289fa308ea03a79332
 D 1 2 af5570f5a1810b7af78caf4bc70a660f0df51e42baf91d4de5b2328de0e83dfc
 D 2 2 528e90ed2693270b3661c9f5af8c7ce302dc39968b9e1e24511272fba9ee3906
 ",
-    ),
-    (
-        "run 1 1",
-        "",
-        "1.1 REQ a1 PLAY 1-0 RED\n1.1 req b MIXER 1-0 OPACITY\n1.1 REQ\n1.1 REQ c\n1.1 REQ \"x y\" INFO\n1.1 REQ d REQ e INFO\n1.1 REQ f BYE\n",
-        0,
-        "1.1 RES a1 202 PLAY OK\n1.1 RES b 201 MIXER OK\n1.1 1\n1.1 402 REQ ERROR\n1.1 RES c 402 REQ ERROR\n1.1 403 REQ ERROR\n1.1 RES d 400 ERROR\n1.1 REQ d REQ e INFO\n",
-    ),
-    (
-        "run 1 1",
-        "",
-        "1.1 REQ aaaaaaaaaaaaaaaaaaaaaaaaaaaaaaaaaaaaaaaaaaaaaaaaaaaaaaaaaaaaaaaa BEGIN\n1.1 REQ aaaaaaaaaaaaaaaaaaaaaaaaaaaaaaaaaaaaaaaaaaaaaaaaaaaaaaaaaaaaaaaaa STOP 1-0\n1.1 REQ 2 STOP 1-0\n1.1 REQ 3 INFO\n1.1 STOP 1-1\n1.1 REQ 4 COMMIT\n1.1 REQ ! INFO\n1.1 REQ 5 \"INFO\n1.1 REQ ~ KILL\n",
-        0,
-        "1.1 RES aaaaaaaaaaaaaaaaaaaaaaaaaaaaaaaaaaaaaaaaaaaaaaaaaaaaaaaaaaaaaaaa 202 BEGIN OK\n1.1 403 REQ ERROR\n1.1 RES 2 202 STOP OK\n1.1 RES 3 403 INFO ERROR\n1.1 202 STOP OK\n1.1 RES 4 202 COMMIT OK\n1.1 RES ! 200 INFO OK\n1.1 1 1x1 EMPTY\n1.1 \n1.1 400 ERROR\n1.1 REQ 5 \"INFO\n1.1 RES ~ 202 KILL OK\n",
-    ),
-    ("run 1 1", "", "T\nzzz\n", 2, "F 1 1\n00000000\nE line 2\n"),
-    (
-        "run --config sound",
-        "song.rclp",
-        "1.1 PLAY 1-0 SONG LOOP\n1.1 PLAY 2-0 route://1\nT\n1.1 BEGIN\n1.1 PLAY 1-0 RED PUSH 3\n1.1 MIXER 1-0 VOLUME 0.5 DEFER\n1.1 COMMIT\nT\n1.1 MIXER 1 COMMIT\n1.1 MIXER 1-0 VOLUME\nT\n1.1 SWAP 1-0 2-0\n1.1 PAUSE 2-0\n1.1 INFO\n",
-        0,
-        "1.1 202 PLAY OK
+    },
+    Run {
+        words: "run 1 1",
+        clips: "",
+        script: "1.1 REQ a1 PLAY 1-0 RED\n1.1 req b MIXER 1-0 OPACITY\n1.1 REQ\n1.1 REQ c\n1.1 REQ \"x y\" INFO\n1.1 REQ d REQ e INFO\n1.1 REQ f BYE\n",
+        status: 0,
+        output: "1.1 RES a1 202 PLAY OK\n1.1 RES b 201 MIXER OK\n1.1 1\n1.1 402 REQ ERROR\n1.1 RES c 402 REQ ERROR\n1.1 403 REQ ERROR\n1.1 RES d 400 ERROR\n1.1 REQ d REQ e INFO\n",
+    },
+    Run {
+        words: "run 1 1",
+        clips: "",
+        script: "1.1 REQ aaaaaaaaaaaaaaaaaaaaaaaaaaaaaaaaaaaaaaaaaaaaaaaaaaaaaaaaaaaaaaaa BEGIN\n1.1 REQ aaaaaaaaaaaaaaaaaaaaaaaaaaaaaaaaaaaaaaaaaaaaaaaaaaaaaaaaaaaaaaaaa STOP 1-0\n1.1 REQ 2 STOP 1-0\n1.1 REQ 3 INFO\n1.1 STOP 1-1\n1.1 REQ 4 COMMIT\n1.1 REQ ! INFO\n1.1 REQ 5 \"INFO\n1.1 REQ ~ KILL\n",
+        status: 0,
+        output: "1.1 RES aaaaaaaaaaaaaaaaaaaaaaaaaaaaaaaaaaaaaaaaaaaaaaaaaaaaaaaaaaaaaaaa 202 BEGIN OK\n1.1 403 REQ ERROR\n1.1 RES 2 202 STOP OK\n1.1 RES 3 403 INFO ERROR\n1.1 202 STOP OK\n1.1 RES 4 202 COMMIT OK\n1.1 RES ! 200 INFO OK\n1.1 1 1x1 EMPTY\n1.1 \n1.1 400 ERROR\n1.1 REQ 5 \"INFO\n1.1 RES ~ 202 KILL OK\n",
+    },
+    Run {
+        words: "run 1 1",
+        clips: "",
+        script: "T\nzzz\n",
+        status: 2,
+        output: "F 1 1\n00000000\nE line 2\n",
+    },
+    Run {
+        words: "run --config sound",
+        clips: "song.rclp",
+        script: "1.1 PLAY 1-0 SONG LOOP\n1.1 PLAY 2-0 route://1\nT\n1.1 BEGIN\n1.1 PLAY 1-0 RED PUSH 3\n1.1 MIXER 1-0 VOLUME 0.5 DEFER\n1.1 COMMIT\nT\n1.1 MIXER 1 COMMIT\n1.1 MIXER 1-0 VOLUME\nT\n1.1 SWAP 1-0 2-0\n1.1 PAUSE 2-0\n1.1 INFO\n",
+        status: 0,
+        output: "1.1 202 PLAY OK
 1.1 202 PLAY OK
 F 1 1
 00ff00ff00ff00ff
@@ -147,20 +165,20 @@ ff0000ff
 1.1 200 INFO OK
 1.1 1 2x1 PLAYING
 1.1 2 1x1 PAUSED\n1.1 \n",
-    ),
-    (
-        "run --config two",
-        "a.rclp A.RCLP",
-        "T\n",
-        3,
-        "E media twice A\n",
-    ),
-    (
-        "run 1 1",
-        "",
-        "1.1 PLAY 1-0 RED\n1.1 MIXER 1-0 OPACITY 0 4 EASEINQUAD\nT\n1.1 MIXER 1-0 OPACITY\n1.1 MIXER 1-0 CLEAR\n1.1 MIXER 1-0 OPACITY 0 4 EASEOUTQUAD\nT\n1.1 MIXER 1-0 OPACITY\n1.1 MIXER 1-0 CLEAR\n1.1 MIXER 1-0 OPACITY 0 4 EASEINCUBIC\nT\n1.1 MIXER 1-0 OPACITY\n1.1 MIXER 1-0 CLEAR\n1.1 MIXER 1-0 OPACITY 0 4 EASEOUTCUBIC\nT\n1.1 MIXER 1-0 OPACITY\n",
-        0,
-        "1.1 202 PLAY OK
+    },
+    Run {
+        words: "run --config two",
+        clips: "a.rclp A.RCLP",
+        script: "T\n",
+        status: 3,
+        output: "E media twice A\n",
+    },
+    Run {
+        words: "run 1 1",
+        clips: "",
+        script: "1.1 PLAY 1-0 RED\n1.1 MIXER 1-0 OPACITY 0 4 EASEINQUAD\nT\n1.1 MIXER 1-0 OPACITY\n1.1 MIXER 1-0 CLEAR\n1.1 MIXER 1-0 OPACITY 0 4 EASEOUTQUAD\nT\n1.1 MIXER 1-0 OPACITY\n1.1 MIXER 1-0 CLEAR\n1.1 MIXER 1-0 OPACITY 0 4 EASEINCUBIC\nT\n1.1 MIXER 1-0 OPACITY\n1.1 MIXER 1-0 CLEAR\n1.1 MIXER 1-0 OPACITY 0 4 EASEOUTCUBIC\nT\n1.1 MIXER 1-0 OPACITY\n",
+        status: 0,
+        output: "1.1 202 PLAY OK
 1.1 202 MIXER OK
 F 1 1
 0000efef
@@ -185,20 +203,20 @@ F 1 4
 1.1 201 MIXER OK
 1.1 0.421875
 ",
-    ),
-    (
-        "run 1 1",
-        "",
-        "1.1 PLAY 1-0 BLUE\n1.1 PLAY 1-0 RED MIX 2 EASEOUTQUAD\nT 2\n",
-        0,
-        "1.1 202 PLAY OK\n1.1 202 PLAY OK\nF 1 1\n4000bfff\nF 1 2\n0000ffff\n",
-    ),
-    (
-        "run --config sound",
-        "song.rclp",
-        "1.1 PLAY 1-0 SONG LOOP\nT\n1.1 PLAY 1-0 RED WIPE 4 EASEINQUAD\nT 4\n",
-        0,
-        "1.1 202 PLAY OK
+    },
+    Run {
+        words: "run 1 1",
+        clips: "",
+        script: "1.1 PLAY 1-0 BLUE\n1.1 PLAY 1-0 RED MIX 2 EASEOUTQUAD\nT 2\n",
+        status: 0,
+        output: "1.1 202 PLAY OK\n1.1 202 PLAY OK\nF 1 1\n4000bfff\nF 1 2\n0000ffff\n",
+    },
+    Run {
+        words: "run --config sound",
+        clips: "song.rclp",
+        script: "1.1 PLAY 1-0 SONG LOOP\nT\n1.1 PLAY 1-0 RED WIPE 4 EASEINQUAD\nT 4\n",
+        status: 0,
+        output: "1.1 202 PLAY OK
 F 1 1
 00ff00ff00ff00ff
 e80318fc
@@ -231,8 +249,14 @@ F 2 5
 00000000
 00000000
 ",
-    ),
-    ("run --config none", "", "T\n", 4, "E device\n"),
+    },
+    Run {
+        words: "run --config none",
+        clips: "",
+        script: "T\n",
+        status: 4,
+        output: "E device\n",
+    },
 ];
 
 /// Returns the words of a line.
@@ -277,9 +301,15 @@ fn folder_of(alloc: Global, names: &str) -> Result<MemMedia, Fail> {
 #[test]
 fn runs_end_with_their_status(rt: HostRuntime) -> Result<(), Fail> {
     let alloc = rt.alloc();
-    for (line, files, script, status, output) in RUNS {
-        let words = words_of(alloc, line)?;
-        let mut media = folder_of(alloc, files)?;
+    for Run {
+        words,
+        clips,
+        script,
+        status,
+        output,
+    } in RUNS {
+        let words = words_of(alloc, words)?;
+        let mut media = folder_of(alloc, clips)?;
         let mut input = MemSource::new(script.as_bytes().to_vec(alloc)?, 4096, Vec::new(alloc));
         let mut out = MemSink::new(alloc, 0, 1000, 4096, Vec::new(alloc))?;
         let found = run_main(
@@ -290,8 +320,8 @@ fn runs_end_with_their_status(rt: HostRuntime) -> Result<(), Fail> {
             &mut media,
             &mut out,
         );
-        assert_eq!(&rt; found, status, "{line}");
-        assert_eq!(&rt; out.taken(), output.as_bytes(), "{line}");
+        assert_eq!(&rt; found, status, "{script}");
+        assert_eq!(&rt; out.taken(), output.as_bytes(), "{script}");
     }
     Ok(())
 }

@@ -1,9 +1,10 @@
 -- Drawn rows in parts.
 use Rattle.std.proofs.Common.{◌≡◌, ℕ, ◌+◌, ◌≤◌, List, [], ◌∷◌, ◌++◌, length, take, drop, flat_map, sym, ap, ap₂, ◌∙◌, take_at, drop_at, append-nil, length-append, get_or, subst, ◌<◌, zero, suc, refl, arith}
+use Rattle.std.specs.Prelude.{All}
 use Rattle.std.proofs.lemmas.Grind.{flat_map-append}
 use Rattle.history_model.specs.pictures.Raster.{Pictures}
 use Rattle.std.specs.List.{range_with_len}
-use Rattle.play_types.specs.Scene.{scene_at}
+use Rattle.play_types.specs.Scene.{IsConfigured, scene_at}
 use Rattle.play_types.specs.declared.drawn.Drawn.{Drawn}
 use Rattle.play_types.specs.declared.geometry.Geometry.{Geometry}
 use Rattle.pixel_math.specs.Pixel.{pixel_bytes}
@@ -12,9 +13,10 @@ use Rattle.play_scene.specs.Frames.{ArePictures, ArePixels, FrameView, no_frame,
 use Rattle.play_scene.proofs.Pixels.{ArePixels-append, ArePixels-drop, ArePixels-take}
 use Rattle.play_sound.specs.Sounds.{sounds_of}
 use Rattle.band_render.specs.Rendered.{ShowsScene, sizes}
-use Rattle.band_render.specs.declared.band.Group.{Group}
+use Rattle.band_render.specs.declared.band.Band.{Band}
 use Rattle.band_render.specs.declared.drawing.Tick.{Tick}
-use Rattle.band_render.specs.Rows.{AreGroupsOfChannels, AreOfChannels, Row, byte_count, row_bytes, rows_from, rows_of_bands, rows_of_frames, rows_of_groups}
+use Rattle.band_render.specs.Rows.{AreOfChannels, Row, byte_count, row_bytes, rows_from, rows_of, rows_of_bands, rows_of_frames}
+use Rattle.band_render.specs.inner.Rooms.{AreWide}
 use Rattle.band_render.specs.inner.Drawing.{AreDrawn, CanDraw, HasDrawn, HasSoundOf, ShowsRows}
 use Rattle.band_render.proofs.Rows.{all_parts, byte_count-append, byte_count-rows, byte_count-whole, bytes_of_rows, length-rows}
 use Rattle.band_render.proofs.Bands.{bytes_of_parts}
@@ -76,26 +78,47 @@ drawn_row tick scene channel size y bytes is shown pixels = record {
   pixels = pixels;
 }
 
--- the groups of the second of two parts, and its bytes
-pub can_draw_last : (tick : Tick) (groups first last : List Group) (bytes xs ys : List ℕ) → CanDraw tick groups bytes → first ++ last ≡ groups →
-    xs ++ ys ≡ bytes → length xs ≡ byte_count (rows_of_groups first) → CanDraw tick last ys
-can_draw_last tick groups first last bytes xs ys can is parts counted =
-    let split = all_parts (λ (g : Group). AreOfChannels (length tick.scenes.now) g.bands.items) first last
-    (subst (AreGroupsOfChannels (length tick.scenes.now)) (sym is) can.channels) in
-    let whole = bytes_of_parts groups first last is in
+-- the bands of one of two parts, as many rooms, and their bytes
+pub can_draw_parts : (tick : Tick) (bands first last : List Band) (rooms some more : List ℕ) (bytes xs ys : List ℕ) → CanDraw tick bands rooms bytes →
+    first ++ last ≡ bands → some ++ more ≡ rooms → xs ++ ys ≡ bytes → 0 < length some → 0 < length more →
+    length xs ≡ byte_count (rows_of_bands first) → CanDraw tick first some xs × CanDraw tick last more ys
+can_draw_parts tick bands first last rooms some more bytes xs ys can is are parts one two counted =
+    let channels = all_parts (λ (b : Band). IsConfigured (length tick.scenes.now) b.channel) first last
+    (subst (AreOfChannels (length tick.scenes.now)) (sym is) can.channels) in
+    let wide : AreWide (first ++ last) (some ++ more) =
+    subst (AreWide (first ++ last)) (sym are) (subst (λ (l : List Band). AreWide l rooms) (sym is) can.wide) in
+    let rows = all_parts (λ (room : ℕ). All (λ (b : Band). b.size.width ≤ room) (first ++ last)) some more wide in
+    let whole = bytes_of_parts bands first last is in
     let long = sym (length-append xs ys) ∙ ap length parts in
-    let small = can.small in
-    record { same = can.same; channels = split.1; counted = omega (arith, long, counted, whole, can.counted); small = omega (arith, long, small) }
+    let small = can.small in (
+      record {
+        same = can.same;
+        channels = channels.0;
+        counted = counted;
+        small = omega (arith, long, small);
+        some = one;
+        wide = λ k d lt. (all_parts (λ (b : Band). b.size.width ≤ get_or some k d) first last (rows.0 k d lt)).0;
+      },
+      record {
+        same = can.same;
+        channels = channels.1;
+        counted = omega (arith, long, counted, whole, can.counted);
+        small = omega (arith, long, small);
+        some = two;
+        wide = λ k d lt. (all_parts (λ (b : Band). b.size.width ≤ get_or more k d) first last (rows.1 k d lt)).1;
+      },
+    )
 
 -- what was drawn in two parts was drawn in the whole
-pub has_drawn_both : (tick : Tick) (groups first last : List Group) (first_now last_now : List Group) (bytes more : List ℕ) → first ++ last ≡ groups →
-    HasDrawn tick first first_now bytes → HasDrawn tick last last_now more → HasDrawn tick groups (first_now ++ last_now) (bytes ++ more)
-has_drawn_both tick groups first last first_now last_now bytes more is one other =
+pub has_drawn_both : (tick : Tick) (bands first last : List Band) (rooms some more : List ℕ) (some_now more_now : List ℕ) (bytes others : List ℕ) →
+    first ++ last ≡ bands → some ++ more ≡ rooms → HasDrawn tick first some some_now bytes → HasDrawn tick last more more_now others →
+    HasDrawn tick bands rooms (some_now ++ more_now) (bytes ++ others)
+has_drawn_both tick bands first last rooms some more some_now more_now bytes others is are one other =
     record {
-      drawn = subst (λ (rows : List Row). AreDrawn tick rows (bytes ++ more))
-          (sym (flat_map-append (λ (g : Group). rows_of_bands g.bands.items) first last) ∙ ap rows_of_groups is)
-          (drawn_append tick (rows_of_groups first) (rows_of_groups last) bytes more one.drawn other.drawn);
-      groups = ap₂ (λ (xs ys : List Group). xs ++ ys) one.groups other.groups ∙ is;
+      drawn = subst (λ (rows : List Row). AreDrawn tick rows (bytes ++ others))
+          (sym (flat_map-append rows_of first last) ∙ ap rows_of_bands is)
+          (drawn_append tick (rows_of_bands first) (rows_of_bands last) bytes others one.drawn other.drawn);
+      rooms = ap₂ (λ (xs ys : List ℕ). xs ++ ys) one.rooms other.rooms ∙ are;
     }
 
 -- the pictures of all frames are as many bytes as their rows

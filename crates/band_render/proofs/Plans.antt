@@ -1,35 +1,16 @@
--- The bands of channels and the groups of bands, one more at a time.
-use Rattle.std.proofs.Common.{◌≡◌, ℕ, zero, suc, ◌+◌, ◌*◌, ◌^◌, ◌<◌, ◌≤◌, List, [], ◌∷◌, ◌++◌, Option, Some, length, map, take, drop, get_or, slice_get, unwrap_or, refl, sym, ap, ap₂, ◌∙◌, append_assoc, append-nil, length-take-le, subst, arith}
+-- The bands of channels, one more at a time.
+use Rattle.std.proofs.Common.{◌≡◌, ℕ, zero, suc, ◌+◌, ◌-◌, ◌*◌, ◌^◌, ◌<◌, ◌≤◌, List, [], ◌∷◌, ◌++◌, Option, Some, length, map, take, get_or, slice_get, unwrap_or, refl, sym, ap, ◌∙◌, length-take-le, subst, arith}
 use Rattle.std.specs.Prelude.{All}
-use Rattle.std.proofs.Math.Seq.{take-add, take-suc}
-use Rattle.std.proofs.lemmas.Grind.{flat_map-append}
+use Rattle.std.proofs.Math.Seq.{take-suc}
 use Rattle.std.proofs.lemmas.List.{length-map, map-append}
-use Rattle.std.proofs.lemmas.List.Elements.{All-map, All-take}
+use Rattle.std.proofs.lemmas.List.Elements.{All-append, All-cons, All-map, All-take}
 use Rattle.play_types.specs.Config.{ChannelView, IsChannel}
-use Rattle.play_types.specs.Scene.{IsConfigured}
 use Rattle.play_types.specs.declared.geometry.Geometry.{Geometry}
-use Rattle.play_scene.specs.Frames.{FrameView, zero_frame}
+use Rattle.play_scene.specs.Frames.{FrameView, frame_at, no_frame, zero_frame}
 use Rattle.play_scene.proofs.Rows.{picture_small}
 use Rattle.band_render.specs.Rendered.{sizes}
-use Rattle.band_render.specs.declared.band.Band.{Band}
-use Rattle.band_render.specs.declared.band.Group.{Group}
-use Rattle.band_render.specs.Rows.{AreGroupsOfChannels, Row, byte_count, rows_from, rows_of, rows_of_bands, rows_of_frames, rows_of_groups, size_of}
-use Rattle.band_render.proofs.Bands.{channels_of_groups}
-use Rattle.band_render.proofs.Rows.{channels_of_rows, frames_small, rows_from-more, rows_of_frames-more}
-
--- one more band of a channel, right below the rows so far
-pub bands_more : (before : List Row) (bands : List Band) (band : Band) (now : List Band) (first : ℕ) → now ≡ bands ++ band ∷ [] → band.first ≡ first →
-    rows_of_bands bands ≡ before ++ rows_from band.channel band.size 0 first →
-    rows_of_bands now ≡ before ++ rows_from band.channel band.size 0 (first + band.rows)
-bands_more before bands band now first is here rows =
-    let channel = band.channel in
-    let size = band.size in
-    let place : band.first ≡ 0 + first = omega (arith, here) in
-    ap rows_of_bands is
-    ∙ flat_map-append rows_of bands (band ∷ [])
-    ∙ ap₂ (λ (xs ys : List Row). xs ++ ys) rows (append-nil (rows_of band) ∙ ap (λ (k : ℕ). rows_from channel size k band.rows) place)
-    ∙ append_assoc before (rows_from channel size 0 first) (rows_from channel size (0 + first) band.rows)
-    ∙ ap (λ (xs : List Row). before ++ xs) (sym (rows_from-more channel size 0 first band.rows))
+use Rattle.band_render.specs.Rows.{Row, byte_count, rows_from, rows_of_frames, size_of}
+use Rattle.band_render.proofs.Rows.{frames_small, rows_of_frames-more}
 
 -- what a list has at a place
 unwrap_get : {X : Type 0} (xs : List X) (n : ℕ) (d : X) → unwrap_or (slice_get xs n) d ≡ get_or xs n d
@@ -57,17 +38,25 @@ channels_more channels at channel before now lt there rows is =
     ∙ sym (rows_of_frames-more 1 (at + 1) first (size_of channel) (omega (arith, long)))
     ∙ ap (rows_of_frames 1) (sym more)
 
--- one more group, which has the next bands
-pub groups_more : (bands : List Band) (start n k : ℕ) (groups : List Group) (group : Group) (now : List Group) → now ≡ groups ++ group ∷ [] →
-    rows_of_groups groups ≡ rows_of_bands (take start bands) → group.bands.items ≡ take k (drop start bands) → k ≡ n →
-    rows_of_groups now ≡ rows_of_bands (take (start + n) bands)
-groups_more bands start n k groups group now is rows own count =
-    ap rows_of_groups is
-    ∙ flat_map-append (λ (g : Group). rows_of_bands g.bands.items) groups (group ∷ [])
-    ∙ ap₂ (λ (xs ys : List Row). xs ++ ys) rows (append-nil (rows_of_bands group.bands.items) ∙ ap rows_of_bands own)
-    ∙ sym (flat_map-append rows_of (take start bands) (take k (drop start bands)))
-    ∙ ap rows_of_bands (sym (take-add start k bands))
-    ∙ ap (λ (m : ℕ). rows_of_bands (take (start + m) bands)) count
+-- the bands of one more frame
+pub frames_more : (frames : List FrameView) (at : ℕ) (size : Geometry) (before now : List Row) → at < length frames →
+    size ≡ (frame_at (at + 1) frames).size → before ≡ rows_of_frames 1 (sizes (take at frames)) →
+    now ≡ before ++ rows_from (at + 1) size 0 size.height → now ≡ rows_of_frames 1 (sizes (take (at + 1) frames))
+frames_more frames at size before now lt there rows is =
+    let one : suc at ≡ at + 1 = omega arith in
+    let place : at + 1 - 1 ≡ at = omega arith in
+    let first = sizes (take at frames) in
+    let long = length-map (take at frames) (λ (frame : FrameView). frame.size) ∙ length-take-le at frames (omega (arith, lt)) in
+    let here : (get_or frames at no_frame).size ≡ size = ap (λ (n : ℕ). (get_or frames n no_frame).size) (sym place) ∙ sym there in
+    let more : sizes (take (at + 1) frames) ≡ first ++ size ∷ [] =
+    ap (λ (n : ℕ). sizes (take n frames)) (sym one)
+    ∙ ap sizes (take-suc frames at no_frame lt)
+    ∙ map-append (λ (frame : FrameView). frame.size) (take at frames) (get_or frames at no_frame ∷ [])
+    ∙ ap (λ (s : Geometry). first ++ s ∷ []) here in
+    is
+    ∙ ap (λ (l : List Row). l ++ rows_from (at + 1) size 0 size.height) rows
+    ∙ sym (rows_of_frames-more 1 (at + 1) first size (omega (arith, long)))
+    ∙ ap (rows_of_frames 1) (sym more)
 
 -- the pictures of the first channels are less than 2 to the 64th bytes
 pub plan_small : (channels : List ChannelView) (at : ℕ) (rows : List Row) → All IsChannel channels → length channels ≤ 16 → at ≤ length channels →
@@ -87,11 +76,23 @@ pub sizes_of_new : (channels : List ChannelView) → sizes (map zero_frame chann
 sizes_of_new [] = refl
 sizes_of_new (channel ∷ channels) = ap (λ (l : List Geometry). size_of channel ∷ l) (sizes_of_new channels)
 
--- groups that have the rows of frames are of their channels
-pub groups_of_frames : (frames : List FrameView) (groups : List Group) (channels : ℕ) → rows_of_groups groups ≡ rows_of_frames 1 (sizes frames) →
-    length frames ≡ channels → AreGroupsOfChannels channels groups
-groups_of_frames frames groups channels rows many =
-    let long = length-map frames (λ (frame : FrameView). frame.size) in
-    channels_of_groups channels groups
-    (subst (All (λ (row : Row). IsConfigured channels row.channel)) (sym rows)
-    (channels_of_rows channels 1 (sizes frames) (omega arith) (omega (arith, long, many))))
+-- no channel of the first ones is wider than this, and one more
+pub widest_more : (channels : List ChannelView) (at : ℕ) (channel : ChannelView) (before now : ℕ) → at < length channels →
+    slice_get channels at ≡ Some channel → before ≤ now → channel.width ≤ now →
+    All (λ c. c.width ≤ before) (take at channels) → All (λ c. c.width ≤ now) (take (at + 1) channels)
+widest_more channels at channel before now lt there more wide all =
+    let one : at + 1 ≡ suc at = omega arith in
+    let here : get_or channels at channel ≡ channel = sym (some_there channels at channel there) in
+    let last : All (λ (c : ChannelView). c.width ≤ now) (get_or channels at channel ∷ []) =
+    All-cons (λ (c : ChannelView). c.width ≤ now) (get_or channels at channel) [] (subst (λ (c : ChannelView). c.width ≤ now) (sym here) wide)
+    (λ k d small. absurd (omega (arith, small))) in
+    subst (All (λ (c : ChannelView). c.width ≤ now)) (sym (ap (λ (n : ℕ). take n channels) one ∙ take-suc channels at channel lt))
+    (All-append (λ (c : ChannelView). c.width ≤ now) (take at channels) (get_or channels at channel ∷ [])
+    (λ k d small. let old = all k d small in omega (arith, old, more)) last)
+
+-- rooms for rows of channels are for rows of their frames
+pub rooms_of_sizes : (channels : List ChannelView) (rooms : List ℕ) (sizes : List Geometry) → sizes ≡ map size_of channels →
+    All (λ room. All (λ channel. channel.width ≤ room) channels) rooms → All (λ room. All (λ size. size.width ≤ room) sizes) rooms
+rooms_of_sizes channels rooms sizes is wide = λ k d lt.
+    subst (All (λ (s : Geometry). s.width ≤ get_or rooms k d)) (sym is)
+    (All-map (λ (s : Geometry). s.width ≤ get_or rooms k d) size_of channels (λ n c small. wide k d lt n c small))

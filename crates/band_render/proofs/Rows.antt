@@ -1,5 +1,5 @@
 -- Rows of frames and their bytes.
-use Rattle.std.proofs.Common.{◌≡◌, ℕ, zero, suc, ◌+◌, ◌*◌, ◌%◌, ◌≤◌, List, [], ◌∷◌, ◌++◌, length, flat_map, refl, sym, ap, ap₂, ◌∙◌, append_assoc, append-nil, length-append, subst, arith}
+use Rattle.std.proofs.Common.{◌≡◌, ℕ, zero, suc, ◌+◌, ◌-◌, ◌*◌, ◌%◌, ◌≤◌, List, [], ◌∷◌, ◌++◌, length, flat_map, refl, sym, ap, ap₂, ◌∙◌, append_assoc, append-nil, length-append, subst, arith}
 use Rattle.std.specs.Prelude.{All}
 use Rattle.std.specs.List.{range_with_len}
 use Rattle.std.proofs.lemmas.List.{get_or-append-add, get_or_append_left}
@@ -102,6 +102,27 @@ channels_of_rows channels channel (size ∷ sizes) some few =
     All-append (λ row. IsConfigured channels row.channel) (rows_from channel size 0 size.height) (rows_of_frames (channel + 1) sizes)
     (each_row (λ c s. IsConfigured channels c) channel size 0 size.height (some, omega (arith, few)))
     (channels_of_rows channels (channel + 1) sizes (omega arith) (omega (arith, few)))
+
+-- and no wider than the frames
+pub widths_of_rows : (most channel : ℕ) (sizes : List Geometry) → All (λ size. size.width ≤ most) sizes →
+    All (λ row. row.size.width ≤ most) (rows_of_frames channel sizes)
+widths_of_rows most channel [] wide = λ k d lt. absurd (omega (arith, lt))
+widths_of_rows most channel (size ∷ sizes) wide =
+    All-append (λ (row : Row). row.size.width ≤ most) (rows_from channel size 0 size.height) (rows_of_frames (channel + 1) sizes)
+    (each_row (λ c s. s.width ≤ most) channel size 0 size.height (All-head (λ (s : Geometry). s.width ≤ most) size sizes wide))
+    (widths_of_rows most (channel + 1) sizes (all_rest (λ (s : Geometry). s.width ≤ most) size sizes wide))
+
+-- the rows of a channel above a row, and those from there to another
+pub rows_below : (before : List Row) (channel : ℕ) (size : Geometry) (first y : ℕ) (all now : List Row) → first ≤ y →
+    all ≡ before ++ rows_from channel size 0 first → now ≡ all ++ rows_from channel size first (y - first) →
+    now ≡ before ++ rows_from channel size 0 y
+rows_below before channel size first y all now le is more =
+    let place : first ≡ 0 + first = omega arith in
+    let end : first + (y - first) ≡ y = omega (arith, le) in
+    more
+    ∙ ap₂ (λ (xs ys : List Row). xs ++ ys) is (ap (λ (k : ℕ). rows_from channel size k (y - first)) place)
+    ∙ append_assoc before (rows_from channel size 0 first) (rows_from channel size (0 + first) (y - first))
+    ∙ ap (λ (rows : List Row). before ++ rows) (sym (rows_from-more channel size 0 first (y - first)) ∙ ap (rows_from channel size 0) end)
 
 -- the bytes of frames of at most this many bytes
 pub frames_small : (most channel : ℕ) (sizes : List Geometry) → All (λ size. 4 * size.width * size.height ≤ most) sizes →

@@ -1,4 +1,5 @@
 pub mod Rendered
 pub mod Histories
+pub mod Plans
 pub mod Rows
 pub mod inner

@@ -1,5 +1,5 @@
--- Rows of pictures, and the bands and groups of bands that have them.
-use Rattle.std.specs.Prelude.{ℕ, ◌+◌, ◌*◌, ◌/◌, ◌%◌, ◌-◌, min, List, [], ◌∷◌, ◌++◌, flat_map, map, All}
+-- Rows of pictures, and the bands that have them.
+use Rattle.std.specs.Prelude.{ℕ, ◌+◌, ◌*◌, ◌/◌, ◌%◌, min, List, [], ◌∷◌, ◌++◌, flat_map, map, All}
 use Rattle.std.specs.List.{range_with_len}
 use Rattle.play_types.specs.Config.{ChannelView}
 use Rattle.play_types.specs.Scene.{IsConfigured, scene_at}
@@ -9,7 +9,6 @@ use Rattle.pixel_math.specs.Pixel.{pixel_bytes}
 use Rattle.history_model.specs.pictures.Frame.{scene_pixel}
 use Rattle.history_model.specs.pictures.Raster.{Pictures}
 use Rattle.band_render.specs.declared.band.Band.{Band}
-use Rattle.band_render.specs.declared.band.Group.{Group}
 
 -- a row of the picture of a channel
 pub record Row : Type 0 where
@@ -21,15 +20,12 @@ pub record Row : Type 0 where
 abbrev pub rows_from : ℕ → Geometry → ℕ → ℕ → List Row
 rows_from channel size first count = map (λ y. record { channel = channel; size = size; y = y }) (range_with_len first count)
 
--- the rows of a band, of bands, and of groups of bands, in order
+-- the rows of a band, and of bands, in order
 abbrev pub rows_of : Band → List Row
 rows_of band = rows_from band.channel band.size band.first band.rows
 
 abbrev pub rows_of_bands : List Band → List Row
 rows_of_bands bands = flat_map rows_of bands
-
-abbrev pub rows_of_groups : List Group → List Row
-rows_of_groups groups = flat_map (λ group. rows_of_bands group.bands.items) groups
 
 -- all rows of frames of these sizes, that of the channel first
 abbrev pub rows_of_frames : ℕ → List Geometry → List Row
@@ -50,17 +46,10 @@ row_bytes pictures scenes row =
 abbrev pub AreOfChannels : ℕ → List Band → Type 0
 AreOfChannels channels bands = All (λ band. IsConfigured channels band.channel) bands
 
-abbrev pub AreGroupsOfChannels : ℕ → List Group → Type 0
-AreGroupsOfChannels channels groups = All (λ group. AreOfChannels channels group.bands.items) groups
-
 -- the size of the frame of a channel
 abbrev pub size_of : ChannelView → Geometry
 size_of channel = record { width = channel.width; height = channel.height; pairs = channel.pairs }
 
--- what the part at this place has of a whole that is parted into parts that differ by at most one, the larger ones first
-abbrev pub share : ℕ → ℕ → ℕ → ℕ
-share whole parts at = whole / parts + (min (at + 1) (whole % parts) - min at (whole % parts))
-
--- what the parts before this place have together
+-- what the parts before this place have together if a whole is parted into parts that differ by at most one, the larger ones first
 abbrev pub shares_before : ℕ → ℕ → ℕ → ℕ
 shares_before whole parts at = at * (whole / parts) + min at (whole % parts)

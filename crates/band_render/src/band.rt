@@ -1,10 +1,8 @@
-//! Bands of rows, and groups of bands.
-ghost use Rattle.std.specs.Prelude.{◌≡◌, ◌+◌, ◌<◌, ◌≤◌, All, IfOk};
+//! Bands of rows.
+ghost use Rattle.std.specs.Prelude.{◌+◌, ◌<◌, ◌≤◌};
 ghost use Rattle.play_types.specs.Geometry.{IsSize};
 
 use play_types::Geometry;
-use row_render::RowRoom;
-use std::alloc::{AllocError, Global};
 
 /// Some rows of the picture of a channel, one below the other.
 #[derive(Clone, Copy)]
@@ -19,25 +17,4 @@ pub(crate) struct Band {
     ghost sized: { IsSize size.width size.height size.pairs },
     ghost some: { 0 < rows },
     ghost inside: { first + rows ≤ size.height },
-}
-
-/// Bands that are made one after another, and the room for making a row of them.
-#[derive(Drop)]
-pub(crate) struct Group {
-    pub bands: Vec<Band>,
-    pub room: RowRoom,
-    ghost fits: { All (λ band. band.size.width ≤ room) bands.items },
-}
-
-impl Group {
-    /// Creates a group of these bands, with room for rows of `width` pixels.
-    pub(crate) fn new(alloc: Global, bands: &[Band], width: u16) -> Result<Group, AllocError>
-        requires { All (λ band. band.size.width ≤ width) bands.now }
-        ensures { IfOk result (λ group. group.bands.items ≡ bands.now) }
-    {
-        Ok(Group {
-            bands: bands.to_vec(alloc)?,
-            room: RowRoom::new(alloc, width)?,
-        })
-    }
 }

@@ -1,8 +1,8 @@
 //! The number of bytes that bands have.
 ghost use Rattle.std.specs.Prelude.{◌≡◌, ◌<◌, ◌^◌};
-ghost use Rattle.band_render.specs.Rows.{byte_count, rows_of, rows_of_bands, rows_of_groups};
+ghost use Rattle.band_render.specs.Rows.{byte_count, rows_of, rows_of_bands};
 
-use crate::band::{Band, Group};
+use crate::band::Band;
 
 /// Returns the number of bytes of the rows of a band.
 pub(crate) fn bytes_of_band(band: &Band) -> usize
@@ -19,18 +19,6 @@ pub(crate) fn bytes_of_bands(bands: &[Band]) -> usize
     let mut count = 0;
     for band in bands {
         count += bytes_of_band(band);
-    }
-    count
-}
-
-/// Returns the number of bytes of the rows of all bands of these groups.
-pub(crate) fn bytes_of_groups(groups: &[Group]) -> usize
-    requires { byte_count (rows_of_groups groups.now) < 2 ^ 64 }
-    ensures { result ≡ byte_count (rows_of_groups groups.now) }
-{
-    let mut count = 0;
-    for group in groups {
-        count += bytes_of_bands(&group.bands);
     }
     count
 }

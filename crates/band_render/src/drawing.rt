@@ -1,12 +1,12 @@
 //! The rows of bands, made in threads.
-ghost use Rattle.std.specs.Prelude.{◌≡◌, ◌<◌, ◌≤◌, ◌^◌, All, length};
+ghost use Rattle.std.specs.Prelude.{◌≡◌, ◌*◌, ◌<◌, ◌≤◌, ◌^◌, All, length};
 ghost use Rattle.std.specs.Thread.{IsSync};
 ghost use Rattle.play_types.specs.Scene.{IsConfigured};
 ghost use Rattle.band_render.specs.inner.Drawing.{AreDrawn, CanDraw, HasDrawn, IsTick};
-ghost use Rattle.band_render.specs.Rows.{AreOfChannels, byte_count, rows_of, rows_of_bands};
+ghost use Rattle.band_render.specs.Rows.{AreOfChannels, byte_count, rows_of, rows_of_bands, shares_before};
 
-use crate::band::{Band, Group};
-use crate::bytes::{bytes_of_band, bytes_of_groups};
+use crate::band::Band;
+use crate::bytes::{bytes_of_band, bytes_of_bands};
 use crate::gate::Gate;
 use clip_format::MediaTable;
 use play_scene::Frames;
@@ -73,67 +73,100 @@ fn draw_bands<G: Gate>(
     }
 }
 
-/// Writes the rows of a group.
-fn draw_group<G: Gate>(gate: &G, tick: &Tick<'_>, group: &mut Group, bytes: &mut [u8])
-    requires tick { IsTick tick.now }
-    requires channels { AreOfChannels (length tick.now.scenes.now) group.old.bands.items }
-    requires bytes { length bytes.old ≡ byte_count (rows_of_bands group.old.bands.items) }
-    requires small { length bytes.old < 2 ^ 64 }
-    ensures drawn { AreDrawn tick.now (rows_of_bands group.old.bands.items) bytes.new }
-    ensures group { group.new ≡ group.old }
-{
-    draw_bands(gate, tick, &group.bands, bytes, &mut group.room);
-}
-
-/// Writes the rows of all groups, each in a thread of its own. One group is made by the caller's.
+/// Writes the rows of all bands. They are parted in order into as many groups as there are rooms, whose numbers of bands differ by
+/// at most one, and each group is made in a thread of its own. One group is made by the caller's.
 #[cycle(groups)]
 pub(crate) fn draw_all<R: Threads + Sync, G: Gate>(
     rt: &R,
     gate: &G,
     tick: &Tick<'_>,
-    groups: &mut [Group],
+    bands: &[Band],
+    rooms: &mut [RowRoom],
     bytes: &mut [u8],
 )
-    requires { CanDraw tick.now groups.old bytes.old }
-    ensures { HasDrawn tick.now groups.old groups.new bytes.new }
+    requires { CanDraw tick.now bands.now rooms.old bytes.old }
+    ensures { HasDrawn tick.now bands.now rooms.old rooms.new bytes.new }
 {
-    match groups {
+    match rooms {
         [] => {}
-        [only] => draw_group(gate, tick, only, bytes),
+        [only] => draw_bands(gate, tick, bands, bytes, only),
         _ => {
-            let (first, last) = groups.split_at_mut(groups.len() / 2);
-            let (first_bytes, last_bytes) = bytes.split_at_mut(bytes_of_groups(first));
-            draw_both(rt, gate, tick, first, first_bytes, last, last_bytes);
+            let groups = given_groups(rooms.len());
+            let (first_bands, last_bands) = bands.split_at(shares_before(
+                bands.len(),
+                rooms.len(),
+                groups,
+            ));
+            let (first_bytes, last_bytes) = bytes.split_at_mut(bytes_of_bands(first_bands));
+            let (first, last) = rooms.split_at_mut(groups);
+            let parts = Parts {
+                tick: &*tick,
+                first: first_bands,
+                last: last_bands,
+            };
+            draw_both(rt, gate, &parts, first, first_bytes, last, last_bytes);
         }
     }
 }
 
-/// Writes the rows of two lists of groups, each beside the other.
+/// Bands of a tick in two parts.
+#[derive(Clone, Copy)]
+struct Parts<'a> {
+    tick: &'a Tick<'a>,
+    first: &'a [Band],
+    last: &'a [Band],
+}
+
+/// Writes the rows of two lists of bands, each beside the other.
 #[cycle(groups)]
 fn draw_both<R: Threads + Sync, G: Gate>(
     rt: &R,
     gate: &G,
-    tick: &Tick<'_>,
-    first: &mut [Group],
+    parts: &Parts<'_>,
+    first: &mut [RowRoom],
     first_bytes: &mut [u8],
-    last: &mut [Group],
+    last: &mut [RowRoom],
     last_bytes: &mut [u8],
 )
     requires some { (0 < length first.old) × (0 < length last.old) }
-    requires first { CanDraw tick.now first.old first_bytes.old }
-    requires last { CanDraw tick.now last.old last_bytes.old }
-    ensures first { HasDrawn tick.now first.old first.new first_bytes.new }
-    ensures last { HasDrawn tick.now last.old last.new last_bytes.new }
+    requires first { CanDraw parts.now.tick.now parts.now.first.now first.old first_bytes.old }
+    requires last { CanDraw parts.now.tick.now parts.now.last.now last.old last_bytes.old }
+    ensures first { HasDrawn parts.now.tick.now parts.now.first.now first.old first.new first_bytes.new }
+    ensures last { HasDrawn parts.now.tick.now parts.now.last.now last.old last.new last_bytes.new }
 {
+    let Parts {
+        tick,
+        first: first_bands,
+        last: last_bands,
+    } = *parts;
     join_mut(
         rt,
         &mut ||
-            requires { IsSync R.row × CanDraw tick.now first.now first_bytes.now }
-            ensures { HasDrawn tick.entry.now first.entry.now first.exit.now first_bytes.exit.now }
-        { draw_all(rt, gate, tick, first, first_bytes) },
+            requires { IsSync R.row × CanDraw tick.now first_bands.now first.now first_bytes.now }
+            ensures { HasDrawn tick.entry.now first_bands.entry.now first.entry.now first.exit.now first_bytes.exit.now }
+        { draw_all(rt, gate, tick, first_bands, first, first_bytes) },
         &mut ||
-            requires { IsSync R.row × CanDraw tick.now last.now last_bytes.now }
-            ensures { HasDrawn tick.entry.now last.entry.now last.exit.now last_bytes.exit.now }
-        { draw_all(rt, gate, tick, last, last_bytes) },
+            requires { IsSync R.row × CanDraw tick.now last_bands.now last.now last_bytes.now }
+            ensures { HasDrawn tick.entry.now last_bands.entry.now last.entry.now last.exit.now last_bytes.exit.now }
+        { draw_all(rt, gate, tick, last_bands, last, last_bytes) },
     );
+}
+
+/// Returns how many of some groups, from the first on, are given to a thread that is started, while the caller's sees to the
+/// others. Up to eight groups are given away one by one, so that the caller starts all threads: if a thread starts another as soon
+/// as it runs, that one often waits for its processor until it ends.
+fn given_groups(groups: usize) -> usize
+    requires { 2 ≤ groups }
+    ensures { (0 < result) × (result < groups) }
+{
+    if groups <= 8 { 1 } else { groups / 2 }
+}
+
+/// Returns how many of `bands` bands the first `first` of `groups` groups have.
+fn shares_before(bands: usize, groups: usize, first: usize) -> usize
+    requires { first < groups }
+    ensures value { result ≡ shares_before bands groups first }
+    ensures range { result ≤ bands }
+{
+    first * (bands / groups) + first.min(bands % groups)
 }

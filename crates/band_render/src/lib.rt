@@ -14,6 +14,8 @@ pub mod laws;
 mod plan;
 mod renderer;
 mod rendering;
+mod rooms;
+mod weights;
 
 pub use gate::{Gate, OpenGate};
 pub use renderer::Renderer;

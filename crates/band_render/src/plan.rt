@@ -1,115 +1,176 @@
-//! The bands of all channels, parted into groups.
-ghost use Rattle.std.specs.Prelude.{◌≡◌, ◌+◌, ◌*◌, ◌++◌, ◌<◌, ◌≤◌, ◌^◌, All, IfOk, OnOk, length, map, vec_len};
+//! How the rows of all channels are cut into bands.
+ghost use Rattle.std.specs.Prelude.{◌≡◌, ◌+◌, ◌*◌, ◌++◌, ◌<◌, ◌≤◌, ◌^◌, IfOk, length, map, vec_capacity, vec_len};
 ghost use Rattle.play_types.specs.Geometry.{IsSize};
-ghost use Rattle.band_render.specs.Rows.{byte_count, rows_from, rows_of_bands, rows_of_frames, rows_of_groups, share, size_of};
+ghost use Rattle.play_types.specs.Scene.{IsConfigured};
+ghost use Rattle.band_render.specs.Rendered.{sizes};
+ghost use Rattle.band_render.specs.Rows.{byte_count, rows_from, rows_of_bands, rows_of_frames, size_of};
+ghost use Rattle.band_render.specs.inner.Drawing.{IsTick};
+ghost use Rattle.band_render.specs.inner.Numbers.{AreNumbered};
 
-use crate::band::{Band, Group};
-use crate::bytes::bytes_of_bands;
-use play_types::{Config, Geometry};
+use crate::band::Band;
+use crate::drawing::Tick;
+use crate::weights::{ROWS_ALIKE, frame_weight, row_weight};
+use play_types::{Config, Geometry, Scene};
 use std::alloc::{AllocError, Global};
 
-/// The fewest bytes of the frames of all channels that are made by more than one thread: 64 pixels. Starting a thread takes
-/// longer than making fewer.
-const MIN_SHARED_BYTES: usize = 256;
+/// How many bands the frames of all channels are cut into for each thread, if their rows are enough.
+const BANDS_PER_THREAD: u64 = 16;
 
-/// Returns the groups of bands of a configuration: one for each worker, but no more than there are bands, and one alone if
-/// the frames are small.
-pub(crate) fn groups(alloc: Global, config: &Config, workers: u32) -> Result<Vec<Group>, AllocError>
-    requires some { 1 ≤ workers }
-    requires few { workers ≤ 64 }
-    ensures rows { IfOk result (λ groups. rows_of_groups groups.items ≡ rows_of_frames 1 (map size_of config.now.channels)) }
-    ensures small { IfOk result (λ groups. byte_count (rows_of_groups groups.items) < 2 ^ 64) }
-{
-    let bands = bands(alloc, config, workers as u16)?;
-    let count = if bytes_of_bands(&bands) < MIN_SHARED_BYTES {
-        1
-    } else {
-        bands.len().clamp(1, workers as usize)
-    };
-    part(alloc, &bands, count)
-}
+/// The most bands of a channel: so many for each of 64 threads.
+const MOST_BANDS: usize = 1_024;
 
-/// Returns the bands of a configuration: those of each channel are `workers`, or as many as it has rows if it has fewer.
-fn bands(alloc: Global, config: &Config, workers: u16) -> Result<Vec<Band>, AllocError>
-    requires some { 1 ≤ workers }
-    requires few { workers ≤ 64 }
+/// Returns a band of all rows for each channel of a configuration, in a list with room for the most bands.
+pub(crate) fn whole_frames(alloc: Global, config: &Config) -> Result<Vec<Band>, AllocError>
     ensures rows { IfOk result (λ bands. rows_of_bands bands.items ≡ rows_of_frames 1 (map size_of config.now.channels)) }
     ensures small { IfOk result (λ bands. byte_count (rows_of_bands bands.items) < 2 ^ 64) }
+    ensures room { IfOk result (λ bands. MOST_BANDS * length config.now.channels ≤ vec_capacity bands) }
 {
     let channels = config.channels();
-    let mut bands = Vec::new(alloc);
+    let mut bands = Vec::with_capacity(alloc, MOST_BANDS * channels.len())?;
     for at in 0..channels.len() {
         let size = channels.get(at).unwrap().geometry();
-        cut(&mut bands, at as u8 + 1, size, workers.min(size.height))?;
+        push(&mut bands, at as u8 + 1, size, 0, size.height);
     }
     Ok(bands)
 }
 
-/// Adds the bands of a channel: `count` bands whose numbers of rows differ by at most one.
-fn cut(bands: &mut Vec<Band>, channel: u8, size: Geometry, count: u16) -> Result<(), AllocError>
-    requires room { vec_len bands.old ≤ 64 * 16 }
+/// Cuts the frames of a tick into bands for so many threads, in place of those in the list. For one thread a channel is one band.
+/// For more, each channel has at least as many bands as there are threads, or as it has rows if these are fewer, and the more the
+/// longer its rows take to make; the bands of a channel take about as long.
+pub(crate) fn cut_frames(tick: &Tick<'_>, threads: u16, bands: &mut Vec<Band>)
+    requires tick { IsTick tick.now }
+    requires some { 1 ≤ threads }
+    requires few { threads ≤ 64 }
+    requires room { MOST_BANDS * length tick.now.prev.now ≤ vec_capacity bands.old }
+    ensures rows { rows_of_bands bands.new.items ≡ rows_of_frames 1 (sizes tick.now.prev.now) }
+    ensures numbers { AreNumbered bands.new.items }
+    ensures room { vec_capacity bands.new ≡ vec_capacity bands.old }
+{
+    bands.clear();
+    let all = if threads == 1 { 0 } else { weight_of_all(tick) };
+    for at in 0..tick.scenes.channels() {
+        let scene = tick.scenes.scene(at + 1);
+        let size = tick.prev.size(at + 1);
+        let cut = if threads == 1 {
+            Cut {
+                count: 1,
+                weight: 0,
+            }
+        } else {
+            Cut::new(frame_weight(tick, scene, size), all, threads, size.height)
+        };
+        cut_frame(bands, tick, at + 1, size, scene, cut);
+    }
+}
+
+/// Returns the weight of all rows of the frames of a tick.
+fn weight_of_all(tick: &Tick<'_>) -> u64
+    requires { IsTick tick.now }
+    ensures { result ≤ 2 ^ 52 }
+{
+    let mut all = 0;
+    for at in 0..tick.scenes.channels() {
+        all += frame_weight(tick, tick.scenes.scene(at + 1), tick.prev.size(at + 1));
+    }
+    all
+}
+
+/// Into how many bands a frame is cut, and the weight of its rows.
+#[derive(Clone, Copy)]
+struct Cut {
+    count: u16,
+    weight: u64,
+    ghost some: { 1 ≤ count },
+    ghost most: { count ≤ 1024 },
+    ghost light: { weight ≤ 2 ^ 44 },
+}
+
+impl Cut {
+    /// Returns into how many bands a frame of `rows` rows is cut: by its part of the weight of all frames, at least as many as there
+    /// are threads, and no more than are needed for bands of sixteen rows, if the rows are enough.
+    fn new(weight: u64, all: u64, threads: u16, rows: u16) -> Cut
+        requires some { 1 ≤ threads }
+        requires few { threads ≤ 64 }
+        requires rows { 1 ≤ rows }
+        requires light { weight ≤ 2 ^ 44 }
+        ensures { result.count ≤ rows }
+    {
+        let least = u64::from(threads);
+        let most = BANDS_PER_THREAD * least;
+        let part = weight * most / all.max(1);
+        let fitting = u64::from(rows / ROWS_ALIKE).clamp(least, most);
+        let count = part.clamp(least, fitting).min(u64::from(rows));
+        Cut {
+            count: count as u16,
+            weight,
+        }
+    }
+
+    /// Returns whether the band that is the `made`th ends above a row, by the weight of all rows above it, and by how many rows
+    /// are left from it on: each band that is to come has one at least.
+    fn ends(self, made: u16, above: u64, left: u16) -> bool
+        requires few { made ≤ self.count }
+        requires light { above ≤ 2 ^ 44 }
+    {
+        above * u64::from(self.count) >= self.weight * u64::from(made) || left <= self.count - made
+    }
+}
+
+/// Adds the bands of a channel, from the top.
+fn cut_frame(
+    bands: &mut Vec<Band>,
+    tick: &Tick<'_>,
+    channel: u8,
+    size: Geometry,
+    scene: &Scene,
+    cut: Cut,
+)
+    requires tick { IsTick tick.now }
     requires size { IsSize size.width size.height size.pairs }
-    requires some { 1 ≤ count }
-    requires few { count ≤ size.height }
-    requires most { count ≤ 64 }
-    ensures many { OnOk result (vec_len bands.new ≡ vec_len bands.old + count) }
-    ensures rows { OnOk result (rows_of_bands bands.new.items ≡ rows_of_bands bands.old.items ++ rows_from channel size 0 size.height) }
+    requires few { vec_len bands.old ≤ MOST_BANDS * 255 }
+    requires room { vec_len bands.old + MOST_BANDS ≤ vec_capacity bands.old }
+    ensures many { vec_len bands.new ≤ vec_len bands.old + MOST_BANDS }
+    ensures room { vec_capacity bands.new ≡ vec_capacity bands.old }
+    ensures rows { rows_of_bands bands.new.items ≡ rows_of_bands bands.old.items ++ rows_from channel size 0 size.height }
+    ensures numbers { AreNumbered bands.old.items → AreNumbered bands.new.items }
 {
     let mut first = 0;
-    for at in 0..count {
-        let rows = share(
-            usize::from(size.height),
-            usize::from(count),
-            usize::from(at),
-        ) as u16;
-        bands.push(Band {
-            number: bands.len() as u32,
-            channel,
-            size,
-            first,
-            rows,
-        })?;
-        first += rows;
+    let mut made = 0;
+    let mut above = 0;
+    let mut row = 0;
+    for y in 1..size.height {
+        if made + 1 < cut.count {
+            if (y - 1) % ROWS_ALIKE == 0 {
+                row = row_weight(tick, scene, size, y - 1);
+            }
+            above += row;
+            if cut.ends(made + 1, above, size.height - y) {
+                push(bands, channel, size, first, y - first);
+                first = y;
+                made += 1;
+            }
+        }
     }
-    Ok(())
+    push(bands, channel, size, first, size.height - first);
 }
 
-/// Returns the bands in order in `count` groups whose numbers of bands differ by at most one, each with room for the widest row.
-fn part(alloc: Global, bands: &[Band], count: usize) -> Result<Vec<Group>, AllocError>
-    requires { 1 ≤ count }
-    ensures { IfOk result (λ groups. rows_of_groups groups.items ≡ rows_of_bands bands.now) }
+/// Adds a band of a channel.
+fn push(bands: &mut Vec<Band>, channel: u8, size: Geometry, first: u16, rows: u16)
+    requires size { IsSize size.width size.height size.pairs }
+    requires some { 0 < rows }
+    requires inside { first + rows ≤ size.height }
+    requires few { vec_len bands.old < 2 ^ 32 }
+    requires room { vec_len bands.old < vec_capacity bands.old }
+    ensures many { vec_len bands.new ≡ vec_len bands.old + 1 }
+    ensures room { vec_capacity bands.new ≡ vec_capacity bands.old }
+    ensures rows { rows_of_bands bands.new.items ≡ rows_of_bands bands.old.items ++ rows_from channel size first rows }
+    ensures numbers { AreNumbered bands.old.items → AreNumbered bands.new.items }
 {
-    let width = widest(bands);
-    let mut groups = Vec::with_capacity(alloc, count)?;
-    let mut start = 0;
-    for at in 0..count {
-        let end = start + share(bands.len(), count, at);
-        groups.push(Group::new(alloc, &bands[start..end], width)?)?;
-        start = end;
-    }
-    Ok(groups)
-}
-
-/// Returns the width of the widest frame of these bands, and 0 if there are none.
-fn widest(bands: &[Band]) -> u16
-    ensures { All (λ band. band.size.width ≤ result) bands.now }
-{
-    let mut widest = 0;
-    for band in bands {
-        widest = band.size.width.max(widest);
-    }
-    widest
-}
-
-/// Returns how many of `whole` things the part at place `at` has if they are parted into `parts` parts that differ by at most
-/// one, the larger ones first.
-fn share(whole: usize, parts: usize, at: usize) -> usize
-    requires { 1 ≤ parts }
-    ensures { result ≡ share whole parts at }
-{
-    if at < whole % parts {
-        whole / parts + 1
-    } else {
-        whole / parts
-    }
+    bands.push_reserved(Band {
+        number: bands.len() as u32,
+        channel,
+        size,
+        first,
+        rows,
+    });
 }

@@ -4,15 +4,17 @@ ghost use Rattle.play_types.specs.Scene.{IsConfigured};
 ghost use Rattle.play_scene.specs.Frames.{IsFrame, frame_at, zero_frame};
 ghost use Rattle.band_render.specs.Rendered.{AreRendered};
 
-use crate::band::Group;
-use crate::bytes::bytes_of_groups;
+use crate::band::Band;
+use crate::bytes::bytes_of_bands;
 use crate::drawing::{Tick, draw_all};
 use crate::gate::Gate;
-use crate::plan::groups;
+use crate::plan::{cut_frames, whole_frames};
 use crate::rendering::render_frames;
+use crate::rooms::rooms;
 use clip_format::MediaTable;
 use play_scene::Frames;
 use play_types::{Config, MAX_PAIRS, Scenes};
+use row_render::RowRoom;
 use std::alloc::{AllocError, Global};
 use std::marker::Model;
 use std::mem;
@@ -25,8 +27,10 @@ pub struct Renderer {
     shown: Frames,
     // The frames of the tick before the last one, over which the next ones are written.
     next: Frames,
-    // The bands of all channels, parted among the threads.
-    groups: Vec<Group>,
+    // The bands of all channels at the last tick, with room for the most.
+    bands: Vec<Band>,
+    // Room for making a row, for each thread that makes bands.
+    rooms: Vec<RowRoom>,
     // The pixels of all channels, one channel after another: the threads write them, and then they are exchanged for those of
     // `next`.
     pixels: Vec<u8>,
@@ -35,20 +39,20 @@ pub struct Renderer {
 }
 
 impl Model for Renderer {
-    ghost use Rattle.std.specs.Prelude.{◌≡◌, ◌*◌, ◌<◌, ◌^◌, List, length};
+    ghost use Rattle.std.specs.Prelude.{◌≡◌, ◌*◌, ◌<◌, ◌^◌, List, length, vec_capacity};
     ghost use Rattle.play_types.specs.declared.geometry.TheConstants.{MAX_PAIRS};
     ghost use Rattle.play_scene.specs.Frames.{FrameView};
     ghost use Rattle.band_render.specs.Rendered.{sizes};
-    ghost use Rattle.band_render.specs.Rows.{byte_count, rows_of_frames, rows_of_groups};
+    ghost use Rattle.band_render.specs.Rows.{byte_count, rows_of_frames};
+    ghost use Rattle.band_render.specs.Plans.{CanCut};
 
     ghost Value = { List FrameView };
 
     ghost view = { λ r. r.shown };
 
     ghost invariant = { λ r. (sizes r.next ≡ sizes r.shown) × (length r.sound.items ≡ 4 * MAX_PAIRS)
-        × (rows_of_groups r.groups.items ≡ rows_of_frames 1 (sizes r.shown))
-        × (length r.pixels.items ≡ byte_count (rows_of_groups r.groups.items))
-        × (length r.pixels.items < 2 ^ 64) };
+        × (length r.pixels.items ≡ byte_count (rows_of_frames 1 (sizes r.shown)))
+        × (length r.pixels.items < 2 ^ 64) × CanCut (sizes r.shown) (vec_capacity r.bands) r.rooms.items };
 }
 
 impl Renderer {
@@ -59,12 +63,14 @@ impl Renderer {
         requires few_workers { workers ≤ 64 }
         ensures { IfOk result (λ renderer. renderer ≡ map zero_frame config.now.channels) }
     {
-        let groups = groups(alloc, config, workers)?;
-        let pixels = vec![in alloc; 0; bytes_of_groups(&groups)]?;
+        let bands = whole_frames(alloc, config)?;
+        let rooms = rooms(alloc, config, workers as usize)?;
+        let pixels = vec![in alloc; 0; bytes_of_bands(&bands)]?;
         Ok(Renderer {
             shown: Frames::new(alloc, config)?,
             next: Frames::new(alloc, config)?,
-            groups,
+            bands,
+            rooms,
             pixels,
             sound: vec![in alloc; 0; 4 * usize::from(MAX_PAIRS)]?,
         })
@@ -73,11 +79,13 @@ impl Renderer {
     /// Makes the frame and the sound of each channel from its scene, the clips, and the frames of the tick before, also if
     /// a scene shows the frame of another channel. There are as many scenes as channels. It takes no memory.
     ///
-    /// The rows of each channel are cut into bands: as many as there are workers, or as many as there are rows if the channel
-    /// has fewer. Bands are numbered from 0 over all channels, and each enters the gate once with its number before its first
+    /// The rows of each channel are cut into bands: at least as many as there are workers, or as many as there are rows if the
+    /// channel has fewer. A channel has the more bands, and a band the fewer rows, the more layers these show, so that bands take
+    /// about as long. Bands are numbered from 0 over all channels, and each enters the gate once with its number before its first
     /// row. They are parted in order into as many groups as there are workers, whose numbers of bands differ by at most one, and
-    /// each group is made by a thread, one band after another. There are no more groups than bands. With one worker, and if all
-    /// frames together have fewer than 64 pixels, all bands are made by the caller's thread. The sound is made after the bands.
+    /// each group is made by a thread, one band after another. There are no more groups than rows. With one worker, and if all
+    /// frames together have fewer than 64 pixels, each channel is one band, and the caller's thread makes all of them. The sound is
+    /// made after the bands.
     pub fn render<R: Threads + Sync, G: Gate>(
         &mut self,
         rt: &R,
@@ -94,7 +102,15 @@ impl Renderer {
             prev: &self.shown,
             media,
         };
-        draw_all(rt, gate, &tick, &mut self.groups, &mut self.pixels);
+        cut_frames(&tick, self.rooms.len() as u16, &mut self.bands);
+        draw_all(
+            rt,
+            gate,
+            &tick,
+            &self.bands,
+            &mut self.rooms,
+            &mut self.pixels,
+        );
         render_frames(&tick, &mut self.pixels, &mut self.next, &mut self.sound);
         mem::swap(&mut self.shown, &mut self.next);
     }

@@ -4,9 +4,10 @@ use Rattle.play_types.specs.Scene.{scene_at}
 use Rattle.history_model.specs.pictures.Raster.{Pictures}
 use Rattle.play_scene.specs.Frames.{ArePictures, ArePixels, FrameView}
 use Rattle.play_sound.specs.Sounds.{AreSounds, HasSound, Sounds, mixed_sample}
-use Rattle.band_render.specs.declared.band.Group.{Group}
+use Rattle.band_render.specs.declared.band.Band.{Band}
 use Rattle.band_render.specs.declared.drawing.Tick.{Tick}
-use Rattle.band_render.specs.Rows.{AreGroupsOfChannels, Row, byte_count, row_bytes, rows_from, rows_of_groups}
+use Rattle.band_render.specs.Rows.{AreOfChannels, Row, byte_count, row_bytes, rows_from, rows_of_bands}
+use Rattle.band_render.specs.inner.Rooms.{AreWide}
 
 -- scenes and frames of as many channels
 abbrev pub IsTick : Tick → Type 0
@@ -27,14 +28,16 @@ abbrev pub HasSoundOf : Tick → ℕ → FrameView → Type 0
 HasSoundOf tick channel frame = (sounds : Sounds) → AreSounds sounds tick.prev.now tick.media.now
     → HasSound frame (mixed_sample sounds (scene_at channel tick.scenes.now))
 
--- groups of bands of the channels of a tick, and as many bytes as their rows have
-pub record CanDraw (tick : Tick) (groups : List Group) (bytes : List ℕ) : Type 0 where
+-- bands of the channels of a tick, at least one room, each for the widest of them, and as many bytes as their rows have
+pub record CanDraw (tick : Tick) (bands : List Band) (rooms : List ℕ) (bytes : List ℕ) : Type 0 where
   pub same : IsTick tick
-  pub channels : AreGroupsOfChannels (length tick.scenes.now) groups
-  pub counted : length bytes ≡ byte_count (rows_of_groups groups)
+  pub channels : AreOfChannels (length tick.scenes.now) bands
+  pub counted : length bytes ≡ byte_count (rows_of_bands bands)
   pub small : length bytes < 2 ^ 64
+  pub some : 0 < length rooms
+  pub wide : AreWide bands rooms
 
--- the bytes show the rows of the groups, which stay as they were
-pub record HasDrawn (tick : Tick) (before after : List Group) (bytes : List ℕ) : Type 0 where
-  pub drawn : AreDrawn tick (rows_of_groups before) bytes
-  pub groups : after ≡ before
+-- the bytes show the rows of the bands, and the rooms stay as they were
+pub record HasDrawn (tick : Tick) (bands : List Band) (before after : List ℕ) (bytes : List ℕ) : Type 0 where
+  pub drawn : AreDrawn tick (rows_of_bands bands) bytes
+  pub rooms : after ≡ before

@@ -2,7 +2,6 @@ pub mod Writing
 pub mod Rows
 pub mod Bands
 pub mod Numbers
-pub mod Shares
 pub mod Plans
 pub mod Drawn
 pub mod Ticks

@@ -1,6 +1,6 @@
 -- The bands of channels, one more at a time.
 use Rattle.std.proofs.Common.{◌≡◌, ℕ, zero, suc, ◌+◌, ◌-◌, ◌*◌, ◌^◌, ◌<◌, ◌≤◌, List, [], ◌∷◌, ◌++◌, Option, Some, length, map, take, get_or, slice_get, unwrap_or, refl, sym, ap, ◌∙◌, length-take-le, subst, arith}
-use Rattle.std.specs.Prelude.{All}
+use Rattle.std.specs.Prelude.{All, min}
 use Rattle.std.proofs.Math.Seq.{take-suc}
 use Rattle.std.proofs.lemmas.List.{length-map, map-append}
 use Rattle.std.proofs.lemmas.List.Elements.{All-append, All-cons, All-map, All-take}
@@ -10,6 +10,7 @@ use Rattle.play_scene.specs.Frames.{FrameView, frame_at, no_frame, zero_frame}
 use Rattle.play_scene.proofs.Rows.{picture_small}
 use Rattle.band_render.specs.Rendered.{sizes}
 use Rattle.band_render.specs.Rows.{Row, byte_count, rows_from, rows_of_frames, size_of}
+use Rattle.band_render.specs.inner.Numbers.{fewest_bands}
 use Rattle.band_render.proofs.Rows.{frames_small, rows_of_frames-more}
 
 -- what a list has at a place
@@ -38,25 +39,43 @@ channels_more channels at channel before now lt there rows is =
     ∙ sym (rows_of_frames-more 1 (at + 1) first (size_of channel) (omega (arith, long)))
     ∙ ap (rows_of_frames 1) (sym more)
 
+-- the sizes of one more frame
+sizes_more : (frames : List FrameView) (at : ℕ) (size : Geometry) → at < length frames → size ≡ (frame_at (at + 1) frames).size →
+    sizes (take (at + 1) frames) ≡ sizes (take at frames) ++ size ∷ []
+sizes_more frames at size lt there =
+    let one : suc at ≡ at + 1 = omega arith in
+    let place : at + 1 - 1 ≡ at = omega arith in
+    let first = sizes (take at frames) in
+    let here : (get_or frames at no_frame).size ≡ size = ap (λ (n : ℕ). (get_or frames n no_frame).size) (sym place) ∙ sym there in
+    ap (λ (n : ℕ). sizes (take n frames)) (sym one)
+    ∙ ap sizes (take-suc frames at no_frame lt)
+    ∙ map-append (λ (frame : FrameView). frame.size) (take at frames) (get_or frames at no_frame ∷ [])
+    ∙ ap (λ (s : Geometry). first ++ s ∷ []) here
+
 -- the bands of one more frame
 pub frames_more : (frames : List FrameView) (at : ℕ) (size : Geometry) (before now : List Row) → at < length frames →
     size ≡ (frame_at (at + 1) frames).size → before ≡ rows_of_frames 1 (sizes (take at frames)) →
     now ≡ before ++ rows_from (at + 1) size 0 size.height → now ≡ rows_of_frames 1 (sizes (take (at + 1) frames))
 frames_more frames at size before now lt there rows is =
-    let one : suc at ≡ at + 1 = omega arith in
-    let place : at + 1 - 1 ≡ at = omega arith in
     let first = sizes (take at frames) in
     let long = length-map (take at frames) (λ (frame : FrameView). frame.size) ∙ length-take-le at frames (omega (arith, lt)) in
-    let here : (get_or frames at no_frame).size ≡ size = ap (λ (n : ℕ). (get_or frames n no_frame).size) (sym place) ∙ sym there in
-    let more : sizes (take (at + 1) frames) ≡ first ++ size ∷ [] =
-    ap (λ (n : ℕ). sizes (take n frames)) (sym one)
-    ∙ ap sizes (take-suc frames at no_frame lt)
-    ∙ map-append (λ (frame : FrameView). frame.size) (take at frames) (get_or frames at no_frame ∷ [])
-    ∙ ap (λ (s : Geometry). first ++ s ∷ []) here in
     is
     ∙ ap (λ (l : List Row). l ++ rows_from (at + 1) size 0 size.height) rows
     ∙ sym (rows_of_frames-more 1 (at + 1) first size (omega (arith, long)))
-    ∙ ap (rows_of_frames 1) (sym more)
+    ∙ ap (rows_of_frames 1) (sym (sizes_more frames at size lt there))
+
+-- the fewest bands of one more frame
+fewest_bands-more : (workers : ℕ) (sizes : List Geometry) (size : Geometry) →
+    fewest_bands workers (sizes ++ size ∷ []) ≡ fewest_bands workers sizes + min workers size.height
+fewest_bands-more workers [] size = omega arith
+fewest_bands-more workers (other ∷ sizes) size = omega (arith, fewest_bands-more workers sizes size)
+
+pub enough_more : (workers : ℕ) (frames : List FrameView) (at : ℕ) (size : Geometry) (before now : ℕ) → at < length frames →
+    size ≡ (frame_at (at + 1) frames).size → fewest_bands workers (sizes (take at frames)) ≤ before → before + min workers size.height ≤ now →
+    fewest_bands workers (sizes (take (at + 1) frames)) ≤ now
+enough_more workers frames at size before now lt there enough more =
+    let sum = ap (fewest_bands workers) (sizes_more frames at size lt there) ∙ fewest_bands-more workers (sizes (take at frames)) size in
+    omega (arith, sum, enough, more)
 
 -- the pictures of the first channels are less than 2 to the 64th bytes
 pub plan_small : (channels : List ChannelView) (at : ℕ) (rows : List Row) → All IsChannel channels → length channels ≤ 16 → at ≤ length channels →

@@ -3,9 +3,8 @@ use Rattle.std.specs.Prelude.{ℕ, ◌*◌, ◌<◌, ◌≤◌, List, All, lengt
 use Rattle.play_types.specs.declared.geometry.Geometry.{Geometry}
 use Rattle.band_render.specs.declared.plan.TheConstants.{MOST_BANDS}
 
--- a list of bands with room for the most bands of frames of these sizes, and rooms for 1 to 64 threads that make them
+-- a list of bands with room for the most bands of frames of these sizes, and rooms for threads that make them, one at least
 pub record CanCut (sizes : List Geometry) (capacity : ℕ) (rooms : List ℕ) : Type 0 where
   pub room : MOST_BANDS * length sizes ≤ capacity
   pub some : 0 < length rooms
-  pub few : length rooms ≤ 64
   pub wide : All (λ room. All (λ size. size.width ≤ room) sizes) rooms

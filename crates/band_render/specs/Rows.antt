@@ -1,5 +1,5 @@
 -- Rows of pictures, and the bands that have them.
-use Rattle.std.specs.Prelude.{ℕ, ◌+◌, ◌*◌, ◌/◌, ◌%◌, min, List, [], ◌∷◌, ◌++◌, flat_map, map, All}
+use Rattle.std.specs.Prelude.{ℕ, ◌+◌, ◌*◌, List, [], ◌∷◌, ◌++◌, flat_map, map, All}
 use Rattle.std.specs.List.{range_with_len}
 use Rattle.play_types.specs.Config.{ChannelView}
 use Rattle.play_types.specs.Scene.{IsConfigured, scene_at}
@@ -49,7 +49,3 @@ AreOfChannels channels bands = All (λ band. IsConfigured channels band.channel)
 -- the size of the frame of a channel
 abbrev pub size_of : ChannelView → Geometry
 size_of channel = record { width = channel.width; height = channel.height; pairs = channel.pairs }
-
--- what the parts before this place have together if a whole is parted into parts that differ by at most one, the larger ones first
-abbrev pub shares_before : ℕ → ℕ → ℕ → ℕ
-shares_before whole parts at = at * (whole / parts) + min at (whole % parts)

@@ -1,3 +1,4 @@
 pub mod Drawing
 pub mod Numbers
 pub mod Rooms
+pub mod Shares

@@ -1,9 +1,10 @@
 //! The rows of bands, made in threads.
-ghost use Rattle.std.specs.Prelude.{◌≡◌, ◌*◌, ◌<◌, ◌≤◌, ◌^◌, All, length};
+ghost use Rattle.std.specs.Prelude.{◌≡◌, ◌-◌, ◌*◌, ◌/◌, ◌<◌, ◌≤◌, ◌^◌, All, length};
 ghost use Rattle.std.specs.Thread.{IsSync};
 ghost use Rattle.play_types.specs.Scene.{IsConfigured};
 ghost use Rattle.band_render.specs.inner.Drawing.{AreDrawn, CanDraw, HasDrawn, IsTick};
-ghost use Rattle.band_render.specs.Rows.{AreOfChannels, byte_count, rows_of, rows_of_bands, shares_before};
+ghost use Rattle.band_render.specs.Rows.{AreOfChannels, byte_count, rows_of, rows_of_bands};
+ghost use Rattle.band_render.specs.inner.Shares.{AreShared};
 
 use crate::band::Band;
 use crate::bytes::{bytes_of_band, bytes_of_bands};
@@ -165,8 +166,9 @@ fn given_groups(groups: usize) -> usize
 /// Returns how many of `bands` bands the first `first` of `groups` groups have.
 fn shares_before(bands: usize, groups: usize, first: usize) -> usize
     requires { first < groups }
-    ensures value { result ≡ shares_before bands groups first }
     ensures range { result ≤ bands }
+    ensures first { AreShared result first (bands / groups) }
+    ensures last { AreShared (bands - result) (groups - first) (bands / groups) }
 {
     first * (bands / groups) + first.min(bands % groups)
 }

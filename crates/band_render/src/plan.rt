@@ -1,11 +1,11 @@
 //! How the rows of all channels are cut into bands.
-ghost use Rattle.std.specs.Prelude.{◌≡◌, ◌+◌, ◌*◌, ◌++◌, ◌<◌, ◌≤◌, ◌^◌, IfOk, length, map, vec_capacity, vec_len};
+ghost use Rattle.std.specs.Prelude.{◌≡◌, ◌+◌, ◌*◌, ◌++◌, ◌<◌, ◌≤◌, ◌^◌, IfOk, false, length, map, min, vec_capacity, vec_len};
 ghost use Rattle.play_types.specs.Geometry.{IsSize};
 ghost use Rattle.play_types.specs.Scene.{IsConfigured};
 ghost use Rattle.band_render.specs.Rendered.{sizes};
 ghost use Rattle.band_render.specs.Rows.{byte_count, rows_from, rows_of_bands, rows_of_frames, size_of};
 ghost use Rattle.band_render.specs.inner.Drawing.{IsTick};
-ghost use Rattle.band_render.specs.inner.Numbers.{AreNumbered};
+ghost use Rattle.band_render.specs.inner.Numbers.{AreNumbered, fewest_bands};
 
 use crate::band::Band;
 use crate::drawing::Tick;
@@ -13,10 +13,10 @@ use crate::weights::{ROWS_ALIKE, frame_weight, row_weight};
 use play_types::{Config, Geometry, Scene};
 use std::alloc::{AllocError, Global};
 
-/// How many bands the frames of all channels are cut into for each thread, if their rows are enough.
-const BANDS_PER_THREAD: u64 = 16;
+/// How many bands the frames of all channels are cut into for each worker, if their rows are enough.
+const BANDS_PER_WORKER: u64 = 16;
 
-/// The most bands of a channel: so many for each of 64 threads.
+/// The most bands of a channel: so many for each of 64 workers.
 const MOST_BANDS: usize = 1_024;
 
 /// Returns a band of all rows for each channel of a configuration, in a list with room for the most bands.
@@ -34,31 +34,25 @@ pub(crate) fn whole_frames(alloc: Global, config: &Config) -> Result<Vec<Band>, 
     Ok(bands)
 }
 
-/// Cuts the frames of a tick into bands for so many threads, in place of those in the list. For one thread a channel is one band.
-/// For more, each channel has at least as many bands as there are threads, or as it has rows if these are fewer, and the more the
+/// Cuts the frames of a tick into bands for so many workers, in place of those in the list. For one worker a channel is one band.
+/// For more, each channel has at least as many bands as there are workers, or as it has rows if these are fewer, and the more the
 /// longer its rows take to make; the bands of a channel take about as long.
-pub(crate) fn cut_frames(tick: &Tick<'_>, threads: u16, bands: &mut Vec<Band>)
+pub(crate) fn cut_frames(tick: &Tick<'_>, workers: u16, bands: &mut Vec<Band>)
     requires tick { IsTick tick.now }
-    requires some { 1 ≤ threads }
-    requires few { threads ≤ 64 }
+    requires some { 1 ≤ workers }
+    requires few { workers ≤ 64 }
     requires room { MOST_BANDS * length tick.now.prev.now ≤ vec_capacity bands.old }
     ensures rows { rows_of_bands bands.new.items ≡ rows_of_frames 1 (sizes tick.now.prev.now) }
     ensures numbers { AreNumbered bands.new.items }
+    ensures enough { fewest_bands workers (sizes tick.now.prev.now) ≤ vec_len bands.new }
     ensures room { vec_capacity bands.new ≡ vec_capacity bands.old }
 {
     bands.clear();
-    let all = if threads == 1 { 0 } else { weight_of_all(tick) };
+    let all = if workers == 1 { 0 } else { weight_of_all(tick) };
     for at in 0..tick.scenes.channels() {
         let scene = tick.scenes.scene(at + 1);
         let size = tick.prev.size(at + 1);
-        let cut = if threads == 1 {
-            Cut {
-                count: 1,
-                weight: 0,
-            }
-        } else {
-            Cut::new(frame_weight(tick, scene, size), all, threads, size.height)
-        };
+        let cut = frame_cut(tick, scene, size, all, workers);
         cut_frame(bands, tick, at + 1, size, scene, cut);
     }
 }
@@ -75,6 +69,24 @@ fn weight_of_all(tick: &Tick<'_>) -> u64
     all
 }
 
+/// Returns into how many bands the frame of a channel is cut, if the rows of all frames have the weight `all`.
+fn frame_cut(tick: &Tick<'_>, scene: &Scene, size: Geometry, all: u64, workers: u16) -> Cut
+    requires tick { IsTick tick.now }
+    requires size { IsSize size.width size.height size.pairs }
+    requires some { 1 ≤ workers }
+    requires few { workers ≤ 64 }
+    ensures fitting { result.count ≤ size.height }
+    ensures enough { min workers size.height ≤ result.count }
+{
+    if workers == 1 {
+        return Cut {
+            count: 1,
+            weight: 0,
+        };
+    }
+    Cut::new(frame_weight(tick, scene, size), all, workers, size.height)
+}
+
 /// Into how many bands a frame is cut, and the weight of its rows.
 #[derive(Clone, Copy)]
 struct Cut {
@@ -87,16 +99,17 @@ struct Cut {
 
 impl Cut {
     /// Returns into how many bands a frame of `rows` rows is cut: by its part of the weight of all frames, at least as many as there
-    /// are threads, and no more than are needed for bands of sixteen rows, if the rows are enough.
-    fn new(weight: u64, all: u64, threads: u16, rows: u16) -> Cut
-        requires some { 1 ≤ threads }
-        requires few { threads ≤ 64 }
+    /// are workers, and no more than are needed for bands of sixteen rows, if the rows are enough.
+    fn new(weight: u64, all: u64, workers: u16, rows: u16) -> Cut
+        requires some { 1 ≤ workers }
+        requires few { workers ≤ 64 }
         requires rows { 1 ≤ rows }
         requires light { weight ≤ 2 ^ 44 }
-        ensures { result.count ≤ rows }
+        ensures fitting { result.count ≤ rows }
+        ensures enough { min workers rows ≤ result.count }
     {
-        let least = u64::from(threads);
-        let most = BANDS_PER_THREAD * least;
+        let least = u64::from(workers);
+        let most = BANDS_PER_WORKER * least;
         let part = weight * most / all.max(1);
         let fitting = u64::from(rows / ROWS_ALIKE).clamp(least, most);
         let count = part.clamp(least, fitting).min(u64::from(rows));
@@ -111,12 +124,13 @@ impl Cut {
     fn ends(self, made: u16, above: u64, left: u16) -> bool
         requires few { made ≤ self.count }
         requires light { above ≤ 2 ^ 44 }
+        ensures { result ≡ false → self.count < made + left }
     {
         above * u64::from(self.count) >= self.weight * u64::from(made) || left <= self.count - made
     }
 }
 
-/// Adds the bands of a channel, from the top.
+/// Adds the bands into which the frame of a channel is cut, from the top.
 fn cut_frame(
     bands: &mut Vec<Band>,
     tick: &Tick<'_>,
@@ -127,9 +141,10 @@ fn cut_frame(
 )
     requires tick { IsTick tick.now }
     requires size { IsSize size.width size.height size.pairs }
+    requires rows { cut.count ≤ size.height }
     requires few { vec_len bands.old ≤ MOST_BANDS * 255 }
     requires room { vec_len bands.old + MOST_BANDS ≤ vec_capacity bands.old }
-    ensures many { vec_len bands.new ≤ vec_len bands.old + MOST_BANDS }
+    ensures many { vec_len bands.new ≡ vec_len bands.old + cut.count }
     ensures room { vec_capacity bands.new ≡ vec_capacity bands.old }
     ensures rows { rows_of_bands bands.new.items ≡ rows_of_bands bands.old.items ++ rows_from channel size 0 size.height }
     ensures numbers { AreNumbered bands.old.items → AreNumbered bands.new.items }

@@ -27,6 +27,8 @@ pub struct Renderer {
     shown: Frames,
     // The frames of the tick before the last one, over which the next ones are written.
     next: Frames,
+    // How many threads make the frames at most.
+    workers: u16,
     // The bands of all channels at the last tick, with room for the most.
     bands: Vec<Band>,
     // Room for making a row, for each thread that makes bands.
@@ -39,7 +41,7 @@ pub struct Renderer {
 }
 
 impl Model for Renderer {
-    ghost use Rattle.std.specs.Prelude.{◌≡◌, ◌*◌, ◌<◌, ◌^◌, List, length, vec_capacity};
+    ghost use Rattle.std.specs.Prelude.{◌≡◌, ◌*◌, ◌<◌, ◌≤◌, ◌^◌, List, length, vec_capacity};
     ghost use Rattle.play_types.specs.declared.geometry.TheConstants.{MAX_PAIRS};
     ghost use Rattle.play_scene.specs.Frames.{FrameView};
     ghost use Rattle.band_render.specs.Rendered.{sizes};
@@ -52,7 +54,8 @@ impl Model for Renderer {
 
     ghost invariant = { λ r. (sizes r.next ≡ sizes r.shown) × (length r.sound.items ≡ 4 * MAX_PAIRS)
         × (length r.pixels.items ≡ byte_count (rows_of_frames 1 (sizes r.shown)))
-        × (length r.pixels.items < 2 ^ 64) × CanCut (sizes r.shown) (vec_capacity r.bands) r.rooms.items };
+        × (length r.pixels.items < 2 ^ 64) × (1 ≤ r.workers) × (r.workers ≤ 64)
+        × CanCut (sizes r.shown) (vec_capacity r.bands) r.rooms.items };
 }
 
 impl Renderer {
@@ -69,6 +72,7 @@ impl Renderer {
         Ok(Renderer {
             shown: Frames::new(alloc, config)?,
             next: Frames::new(alloc, config)?,
+            workers: workers as u16,
             bands,
             rooms,
             pixels,
@@ -83,9 +87,9 @@ impl Renderer {
     /// channel has fewer. A channel has the more bands, and a band the fewer rows, the more layers these show, so that bands take
     /// about as long. Bands are numbered from 0 over all channels, and each enters the gate once with its number before its first
     /// row. They are parted in order into as many groups as there are workers, whose numbers of bands differ by at most one, and
-    /// each group is made by a thread, one band after another. There are no more groups than rows. With one worker, and if all
-    /// frames together have fewer than 64 pixels, each channel is one band, and the caller's thread makes all of them. The sound is
-    /// made after the bands.
+    /// each group is made by a thread, one band after another. There are no more groups than rows. With one worker each channel is
+    /// one band. With one worker, and if all frames together have fewer than 64 pixels, the caller's thread makes all bands. The
+    /// sound is made after the bands.
     pub fn render<R: Threads + Sync, G: Gate>(
         &mut self,
         rt: &R,
@@ -102,7 +106,7 @@ impl Renderer {
             prev: &self.shown,
             media,
         };
-        cut_frames(&tick, self.rooms.len() as u16, &mut self.bands);
+        cut_frames(&tick, self.workers, &mut self.bands);
         draw_all(
             rt,
             gate,

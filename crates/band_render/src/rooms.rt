@@ -1,5 +1,5 @@
 //! The rooms of the threads that make bands.
-ghost use Rattle.std.specs.Prelude.{◌*◌, ◌≤◌, All, IfOk};
+ghost use Rattle.std.specs.Prelude.{◌*◌, ◌≤◌, All, IfOk, length};
 ghost use Rattle.band_render.specs.inner.Rooms.{AreRooms};
 
 use play_types::{ChannelList, Config};
@@ -19,7 +19,8 @@ pub(crate) fn rooms(
 ) -> Result<Vec<RowRoom>, AllocError>
     requires some { 1 ≤ workers }
     requires few { workers ≤ 64 }
-    ensures { IfOk result (λ rooms. AreRooms config.now.channels rooms.items) }
+    ensures rooms { IfOk result (λ rooms. AreRooms config.now.channels rooms.items) }
+    ensures few { IfOk result (λ rooms. length rooms.items ≤ workers) }
 {
     let channels = config.channels();
     let width = widest(channels);
@@ -46,7 +47,7 @@ fn widest(channels: &ChannelList) -> u16
 fn thread_count(channels: &ChannelList, workers: usize) -> usize
     requires some { 1 ≤ workers }
     requires few { workers ≤ 64 }
-    ensures { (1 ≤ result) × (result ≤ 64) }
+    ensures { (1 ≤ result) × (result ≤ workers) }
 {
     let mut rows = 0;
     let mut pixels = 0;

@@ -86,17 +86,18 @@ fn add(scenes: &mut Scenes, still: Still, is_inset: bool)
     }
 }
 
-/// Renders two ticks by this number of workers, and returns the renderer.
+/// Renders two ticks of frames of this width by this number of workers, and returns the renderer.
 fn two_ticks<R: Threads + Sync, G: Gate>(
     rt: &R,
     alloc: Global,
+    width: u16,
     workers: u32,
     gate: &G,
 ) -> Result<Renderer, Fail>
     requires { (1 ≤ workers) × (workers ≤ 64) }
     ensures { IfOk result (λ renderer. length renderer ≡ 1) }
 {
-    let config = config(alloc, 16, 9)?;
+    let config = config(alloc, width, 9)?;
     let media = MediaTable::empty(alloc)?;
     let mut scenes = Scenes::new(alloc, &config)?;
     let mut renderer = Renderer::new(alloc, &config, workers)?;
@@ -121,7 +122,7 @@ fn makes_the_same<R: Threads + Sync>(
     requires workers { (1 ≤ workers) × (workers ≤ 64) }
     requires other { length other.now ≡ 1 }
 {
-    let more = two_ticks(rt, alloc, workers, &OpenGate)?;
+    let more = two_ticks(rt, alloc, 16, workers, &OpenGate)?;
     Ok(other.frame(1) == more.frame(1))
 }
 
@@ -130,7 +131,7 @@ fn makes_the_same<R: Threads + Sync>(
 #[test]
 fn workers_make_equal_frames(rt: HostRuntime) -> Result<(), Fail> {
     let alloc = rt.alloc();
-    let one = two_ticks(&rt, alloc, 1, &OpenGate)?;
+    let one = two_ticks(&rt, alloc, 16, 1, &OpenGate)?;
     assert_eq!(rt; one.frame(1).get(0..4), Some([0, 0, 128, 128].as_slice()));
     assert_eq!(rt;
         one.frame(1).get(264..268),
@@ -146,30 +147,38 @@ fn workers_make_equal_frames(rt: HostRuntime) -> Result<(), Fail> {
     Ok(())
 }
 
-/// Renders two ticks by this number of workers, and returns how often bands entered the gate, and the numbers of those that did,
-/// a bit for each.
-fn entered<R: Threads + Sync>(rt: &R, alloc: Global, workers: u32) -> Result<(u32, u64), Fail>
+/// Renders two ticks of frames of this width by this number of workers, and returns how often bands entered the gate, and the
+/// numbers of those that did, a bit for each.
+fn entered<R: Threads + Sync>(
+    rt: &R,
+    alloc: Global,
+    width: u16,
+    workers: u32,
+) -> Result<(u32, u64), Fail>
     requires { (1 ≤ workers) × (workers ≤ 64) }
 {
     let gate = CountingGate {
         count: AtomicU32::new(0),
         numbers: AtomicU64::new(0),
     };
-    two_ticks(rt, alloc, workers, &gate)?;
+    two_ticks(rt, alloc, width, workers, &gate)?;
     Ok((
         gate.count.load(Ordering::SeqCst),
         gate.numbers.load(Ordering::SeqCst),
     ))
 }
 
-/// Each band enters the gate once a tick, with a number of its own from 0 on: as many as there are workers, but no more than rows.
+/// Each band enters the gate once a tick, with a number of its own from 0 on: as many as there are workers, but no more than rows,
+/// also if a frame is so small that the caller's thread makes all of it.
 #[test]
 fn each_band_enters_once(rt: HostRuntime) -> Result<(), Fail> {
     let alloc = rt.alloc();
-    assert_eq!(rt; entered(&rt, alloc, 1)?, (2, 0b1));
-    assert_eq!(rt; entered(&rt, alloc, 2)?, (4, 0b11));
-    assert_eq!(rt; entered(&rt, alloc, 7)?, (14, 0b111_1111));
-    assert_eq!(rt; entered(&rt, alloc, 64)?, (18, 0b1_1111_1111));
+    assert_eq!(rt; entered(&rt, alloc, 16, 1)?, (2, 0b1));
+    assert_eq!(rt; entered(&rt, alloc, 16, 2)?, (4, 0b11));
+    assert_eq!(rt; entered(&rt, alloc, 16, 7)?, (14, 0b111_1111));
+    assert_eq!(rt; entered(&rt, alloc, 16, 64)?, (18, 0b1_1111_1111));
+    assert_eq!(rt; entered(&rt, alloc, 4, 2)?, (4, 0b11));
+    assert_eq!(rt; entered(&rt, alloc, 4, 64)?, (18, 0b1_1111_1111));
     Ok(())
 }
 
@@ -180,7 +189,7 @@ fn two_bands_meet(rt: HostRuntime) -> Result<(), Fail> {
         came: AtomicU32::new(0),
         alone: AtomicU32::new(0),
     };
-    two_ticks(&rt, rt.alloc(), 2, &gate)?;
+    two_ticks(&rt, rt.alloc(), 16, 2, &gate)?;
     assert_eq!(rt; gate.came.load(Ordering::SeqCst), 4);
     assert_eq!(rt; gate.alone.load(Ordering::SeqCst), 0);
     Ok(())

@@ -7,8 +7,7 @@ use Rattle.band_render.specs.declared.band.Band.{Band}
 abbrev pub AreWide : List Band → List ℕ → Type 0
 AreWide bands rooms = All (λ room. All (λ band. band.size.width ≤ room) bands) rooms
 
--- rooms for 1 to 64 threads that make the frames of these channels
+-- rooms for threads that make the frames of these channels, one at least
 pub record AreRooms (channels : List ChannelView) (rooms : List ℕ) : Type 0 where
   pub some : 0 < length rooms
-  pub few : length rooms ≤ 64
   pub wide : All (λ room. All (λ channel. channel.width ≤ room) channels) rooms

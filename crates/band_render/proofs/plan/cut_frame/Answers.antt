@@ -42,6 +42,11 @@ loop-y-preserved c =
       | then-made-cut+else-ends w ↦ omega (arith, w.made-is, above.made)
       | else-made-cut w ↦ omega (arith, w.made-is, above.made)
     ] in
+    let left : c.args.cut.count + (y + 1) ≤ c.if-made-cut.made + 1 + c.args.size.height = elim c.if-made-cut.branch [
+      | then-made-cut+then-ends w ↦ omega (arith, w.made-is, above.left)
+      | then-made-cut+else-ends w ↦ omega (arith, w.made-is, w.ends.ensures w.if-ends.false, c.loop-y-test.true)
+      | else-made-cut w ↦ omega (arith, w.made-is, w.if-made-cut.false, above.made, c.loop-y-test.true)
+    ] in
     let row : c.if-made-cut.row ≤ MOST_WEIGHT = elim c.if-made-cut.branch [
       | then-made-cut+then-ends w ↦ elim w.if-y-eq0.branch [
         | then-y-eq0 v ↦ omega (arith, w.row-is, v.row-is, v.row_weight-row.ensures.most)
@@ -69,7 +74,7 @@ loop-y-preserved c =
       | then-made-cut+else-ends w ↦ λ old. subst (λ b. AreNumbered b.items) (sym w.bands-is) (above.numbers old)
       | else-made-cut w ↦ λ old. subst (λ b. AreNumbered b.items) (sym w.bands-is) (above.numbers old)
     ] in
-    record { first = first; made = made; above = weighed; row = row; many = many; room = room; numbers = numbers; rows = rows }
+    record { first = first; made = made; left = left; above = weighed; row = row; many = many; room = room; numbers = numbers; rows = rows }
 
 pub returns-clause-rows : goal.returns-clause-rows
 returns-clause-rows c =

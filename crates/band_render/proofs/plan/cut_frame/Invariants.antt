@@ -9,6 +9,7 @@ abbrev pub invariant-loop-y : goal.invariant-loop-y
 invariant-loop-y l = record {
   first : l.first + 1 ≤ l.y;
   made : l.made + 1 ≤ l.cut.count;
+  left : l.cut.count + l.y ≤ l.made + 1 + l.size.height;
   above : l.above ≤ MOST_WEIGHT * l.y;
   row : l.row ≤ MOST_WEIGHT;
   many : l.bands.len ≡ l.initial.bands.len + l.made;

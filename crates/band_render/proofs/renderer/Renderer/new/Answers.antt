@@ -19,10 +19,11 @@ invariant_of-result c =
       search rules,
       long ∙ c.bytes_of_bands.ensures ∙ same ∙ ap byte_count (c.in_ok-bands.ensures.rows ∙ ap (rows_of_frames 1) (sym shown)),
       omega (arith, long, c.bytes_of_bands.type_inv),
+      omega (arith, c.requires.some_workers, c.requires.few_workers),
+      omega (arith, c.requires.few_workers),
       record {
         room = omega (arith, c.in_ok-bands.ensures.room, many, ap length shown);
-        some = c.in_ok-rooms.ensures.some;
-        few = c.in_ok-rooms.ensures.few;
-        wide = rooms_of_sizes channels c.in_ok-rooms.rooms.items _ shown c.in_ok-rooms.ensures.wide;
+        some = c.in_ok-rooms.ensures.rooms.some;
+        wide = rooms_of_sizes channels c.in_ok-rooms.rooms.items _ shown c.in_ok-rooms.ensures.rooms.wide;
       },
     )

@@ -18,7 +18,7 @@ draw_all-requires-after_bounds g c κs within =
     let each = length-map frames (λ (frame : FrameView). frame.size) in
     let long = ap length c.deref_mut-2.ensures.value in
     let are = c.deref_mut.ensures.value in
-    let can = c.self.invariant.4 in
+    let can = c.self.invariant.6 in
     record {
       same = many;
       channels = bands_of_channels (length c.args.scenes.now) (sizes frames) bands rows (each ∙ many);

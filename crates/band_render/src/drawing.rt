@@ -75,7 +75,8 @@ fn draw_bands<G: Gate>(
 }
 
 /// Writes the rows of all bands. They are parted in order into as many groups as there are rooms, whose numbers of bands differ by
-/// at most one, and each group is made in a thread of its own. One group is made by the caller's.
+/// at most one. A single group is made by the caller's thread. Of more, each is made in a thread that is started, and the caller's
+/// waits.
 #[cycle(groups)]
 pub(crate) fn draw_all<R: Threads + Sync, G: Gate>(
     rt: &R,
@@ -149,13 +150,41 @@ fn draw_both<R: Threads + Sync, G: Gate>(
         &mut ||
             requires { IsSync R.row × CanDraw tick.now last_bands.now last.now last_bytes.now }
             ensures { HasDrawn tick.entry.now last_bands.entry.now last.entry.now last.exit.now last_bytes.exit.now }
-        { draw_all(rt, gate, tick, last_bands, last, last_bytes) },
+        { draw_started(rt, gate, tick, last_bands, last, last_bytes) },
+    );
+}
+
+/// Writes the rows of all bands as `draw_all` does, but starts a thread for a single group too. The caller's thread makes none: a
+/// thread that is started often begins on the processor of the one that starts it, and waits until that one sleeps.
+#[cycle(groups)]
+fn draw_started<R: Threads + Sync, G: Gate>(
+    rt: &R,
+    gate: &G,
+    tick: &Tick<'_>,
+    bands: &[Band],
+    rooms: &mut [RowRoom],
+    bytes: &mut [u8],
+)
+    requires { CanDraw tick.now bands.now rooms.old bytes.old }
+    ensures { HasDrawn tick.now bands.now rooms.old rooms.new bytes.new }
+{
+    if rooms.len() > 1 {
+        draw_all(rt, gate, tick, bands, rooms, bytes);
+        return;
+    }
+    join_mut(
+        rt,
+        &mut ||
+            requires { IsSync R.row × CanDraw tick.now bands.now rooms.now bytes.now }
+            ensures { HasDrawn tick.entry.now bands.entry.now rooms.entry.now rooms.exit.now bytes.exit.now }
+        { draw_all(rt, gate, tick, bands, rooms, bytes) },
+        &mut || {},
     );
 }
 
 /// Returns how many of some groups, from the first on, are given to a thread that is started, while the caller's sees to the
-/// others. Up to eight groups are given away one by one, so that the caller starts all threads: if a thread starts another as soon
-/// as it runs, that one often waits for its processor until it ends.
+/// others. Up to eight groups are given away one by one, so that the caller starts all threads: a thread that begins late starts
+/// others later still.
 fn given_groups(groups: usize) -> usize
     requires { 2 ≤ groups }
     ensures { (0 < result) × (result < groups) }

@@ -13,12 +13,19 @@ use Rattle.stage_lock.specs.Views.{PassView}
 use Rattle.stage_lock.specs.Calls.{Adds, IsStopped, Looks, stop_tag}
 use Rattle.std.specs.Prelude.{MatchResult}
 use Rattle.conn_worker.specs.Explained.{IsExplained}
-use Rattle.conn_worker.specs.Work.{AtDoor, Came, GoesOnAfter, IsServed, LooksOn, NoneYet, Setting, StopsAfter, Takes, TakesAll, Turn, LinkRun, links_come, number_came, service_of}
+use Rattle.conn_worker.specs.Work.{AtDoor, Came, FindsEnd, GoesOnAfter, IsServed, LooksOn, NoneYet, Setting, StopsAfter, Takes, TakesAll, Turn, LinkRun, links_come, number_came, service_of}
 use Rattle.conn_worker.specs.inner.Door.{GivesBack, LooksAtStage, PassesOn, TakesTurn}
 use Rattle.conn_worker.specs.declared.link_end.LinkEnd.{LinkEnd}
 use Rattle.conn_worker.specs.declared.link_end.LinkEnd.TheVariants as ends
 use Rattle.conn_worker.specs.declared.work_end.WorkEnd.{WorkEnd}
 use Rattle.conn_worker.specs.declared.work_end.WorkEnd.TheVariants.{Closed, Ended, DoorFault, SessionsOver}
+
+-- the serving of a link was not ended by a stop of another call
+abbrev pub IsUnstopped : LinkEnd → Type 0
+IsUnstopped ends.Over = Unit {0}
+IsUnstopped ends.Killed = Unit {0}
+IsUnstopped ends.LinkFault = Unit {0}
+IsUnstopped (ends.Ended at) = ⊥
 
 -- a look leaves the number of the pass, and tells that it has seen no stop
 looks_number : (before after : PassView) → LooksOn before after → after.number ≡ before.number
@@ -27,16 +34,30 @@ looks_number before after looks = ap (λ (p : PassView). p.number) looks.after
 looks_running : (before after : PassView) → LooksOn before after → stop_at after.seen ≡ None
 looks_running before after looks = ap (λ (p : PassView). stop_at p.seen) looks.after ∙ sym looks.told
 
-goes_on_number : (end : LinkEnd) (before after : PassView) → GoesOnAfter end before after → after.number ≡ before.number
-goes_on_number ends.Over before after same = ap (λ (p : PassView). p.number) same
-goes_on_number ends.Killed before after looks = looks_number before after looks
-goes_on_number ends.LinkFault before after same = ap (λ (p : PassView). p.number) same
-goes_on_number (ends.Ended at) before after none = absurd none
+-- if the work goes on after a link, a look found no stop
+goes_on_looks : (end : LinkEnd) (before after : PassView) → GoesOnAfter end before after → LooksOn before after
+goes_on_looks ends.Over before after looks = looks
+goes_on_looks ends.Killed before after looks = looks
+goes_on_looks ends.LinkFault before after looks = looks
+goes_on_looks (ends.Ended at) before after none = absurd none
+
+-- a look after such a link found no stop, or one
+looked_on : (end : LinkEnd) (before after : PassView) → IsUnstopped end → LooksOn before after → GoesOnAfter end before after
+looked_on ends.Over before after other looks = looks
+looked_on ends.Killed before after other looks = looks
+looked_on ends.LinkFault before after other looks = looks
+looked_on (ends.Ended at) before after other looks = absurd other
+
+looked_ended : (at : ℕ) (end : LinkEnd) (before after : PassView) → IsUnstopped end → FindsEnd at before after → StopsAfter at end before after
+looked_ended at ends.Over before after other looks = looks
+looked_ended at ends.Killed before after other looks = looks
+looked_ended at ends.LinkFault before after other looks = looks
+looked_ended at (ends.Ended position) before after other looks = absurd other
 
 module _ {L : Type 0} where
   -- after a turn the pass has its number, and no more links are away than before
   pub takes_number : (setting : Setting L) (number : ℕ) (turn : Turn L) (before after : AtDoor L) → Takes setting number turn before after → after.pass.number ≡ before.pass.number
-  takes_number setting number (Came link_run) before after takes = goes_on_number link_run.end link_run.pass after.pass takes.1 ∙ takes.0.explained.made.number
+  takes_number setting number (Came link_run) before after takes = looks_number link_run.pass after.pass (goes_on_looks link_run.end link_run.pass after.pass takes.1) ∙ takes.0.explained.made.number
   takes_number setting number NoneYet before after takes = looks_number before.pass after.pass takes.0
 
   pub takes_away : (setting : Setting L) (number : ℕ) (turn : Turn L) (before after : AtDoor L) → Takes setting number turn before after → after.door.away ≡ before.door.away
@@ -63,22 +84,6 @@ module _ {L : Type 0} where
   pub number_came-more : (turns : List (Turn L)) (turn : Turn L) → number_came (turns ++ turn ∷ []) ≡ number_came turns + links_come turn
   number_came-more turns turn = sum_by_push links_come turns turn
 
-  -- after a link was served the work goes on if no stop was seen
-  goes_on_running : (setting : Setting L) (number : ℕ) (link_run : LinkRun L) (before after : AtDoor L) → IsServed setting number link_run before after
-      → (end : LinkEnd) → link_run.end ≡ end → GoesOnAfter end link_run.pass after.pass → stop_at after.pass.seen ≡ None
-  goes_on_running setting number link_run before after served ends.Over is same =
-      ap (λ (p : PassView). stop_at p.seen) same
-      ∙ (let e : IsExplained (service_of setting number) ends.Over (record { pass = before.pass; link = link_run.came }) (record { pass = link_run.pass; link = setting.tells link_run.line }) =
-      subst (λ (x : LinkEnd). IsExplained (service_of setting number) x (record { pass = before.pass; link = link_run.came }) (record { pass = link_run.pass; link = setting.tells link_run.line })) is served.explained in
-      e.ending.running)
-  goes_on_running setting number link_run before after served ends.Killed is looks = looks_running link_run.pass after.pass looks
-  goes_on_running setting number link_run before after served ends.LinkFault is same =
-      ap (λ (p : PassView). stop_at p.seen) same
-      ∙ (let e : IsExplained (service_of setting number) ends.LinkFault (record { pass = before.pass; link = link_run.came }) (record { pass = link_run.pass; link = setting.tells link_run.line }) =
-      subst (λ (x : LinkEnd). IsExplained (service_of setting number) x (record { pass = before.pass; link = link_run.came }) (record { pass = link_run.pass; link = setting.tells link_run.line })) is served.explained in
-      e.ending.running)
-  goes_on_running setting number link_run before after served (ends.Ended at) is none = absurd none
-
   -- a link was served between these moments
   served_at : (setting : Setting L) (served : ℕ) (came : SinkState) (result : Result (Unit {0}) WorkEnd) (before middle after : AtDoor L)
       → stop_at before.pass.seen ≡ None → IsNewSink came → middle.pass ≡ before.pass → middle.door ≡ after_came before.door
@@ -99,7 +104,7 @@ module _ {L : Type 0} where
       → TakesTurn setting served (Ok (served + 1)) before after
   turn_served setting served came done before middle after running new same door gives =
       let is : IsServed setting (served + 1) gives.link_run before after = served_at setting served came (Ok done) before middle after running new same door gives in
-      (Came gives.link_run, ((is, gives.pass), (refl, goes_on_running setting (served + 1) gives.link_run before after is gives.link_run.end refl gives.pass)))
+      (Came gives.link_run, ((is, gives.pass), (refl, looks_running gives.link_run.pass after.pass (goes_on_looks gives.link_run.end gives.link_run.pass after.pass gives.pass))))
 
   -- a link came and was given back, and the history holds a stop
   pub turn_stopped : (setting : Setting L) (served : ℕ) (came : SinkState) (end : WorkEnd) (before middle after : AtDoor L)
@@ -137,14 +142,14 @@ module _ {L : Type 0} where
   turn_failed setting served before after (Ok at) running adds door = record { running = running; door = door; stops = inl (at, adds) }
   turn_failed setting served before after (Err refusal) running looks door = record { running = running; door = door; stops = inr (refusal.at, looks) }
 
-  -- after a kill the history was looked at
-  pub looked_after_kill : (result : Result (Unit {0}) WorkEnd) (link_run : LinkRun L) (after : PassView) → link_run.end ≡ ends.Killed
+  -- after a link that no stop of another call ended the history was looked at
+  pub looked_after_link : (result : Result (Unit {0}) WorkEnd) (link_run : LinkRun L) (after : PassView) → IsUnstopped link_run.end
       → LooksAtStage result link_run.pass after → PassesOn result link_run after
-  looked_after_kill (Ok done) link_run after is looks = subst (λ (e : LinkEnd). GoesOnAfter e link_run.pass after) (sym is) looks
-  looked_after_kill (Err Closed) link_run after is looks = absurd looks
-  looked_after_kill (Err (Ended at)) link_run after is looks = subst (λ (e : LinkEnd). StopsAfter at e link_run.pass after) (sym is) looks
-  looked_after_kill (Err DoorFault) link_run after is looks = absurd looks
-  looked_after_kill (Err SessionsOver) link_run after is looks = absurd looks
+  looked_after_link (Ok done) link_run after other looks = looked_on link_run.end link_run.pass after other looks
+  looked_after_link (Err Closed) link_run after other looks = absurd looks
+  looked_after_link (Err (Ended at)) link_run after other looks = looked_ended at link_run.end link_run.pass after other looks
+  looked_after_link (Err DoorFault) link_run after other looks = absurd looks
+  looked_after_link (Err SessionsOver) link_run after other looks = absurd looks
 
   one_at_most : (turn : Turn L) → links_come turn ≤ 1
   one_at_most (Came link_run) = omega arith

@@ -25,18 +25,20 @@ LooksOn before after = Looks before (λ history. None ≡ stop_at history) after
 abbrev pub FindsEnd : ℕ → PassView → PassView → Type 0
 FindsEnd at before after = Looks before (λ history. Some at ≡ stop_at history) after
 
--- after the serving of a link ended so the work goes on; after a kill the worker looks at the history first
+-- after the serving of a link ended so the work goes on: the link is over or failed, or its client stopped the stage, and a look at
+-- the history found no stop
 abbrev pub GoesOnAfter : link.LinkEnd → PassView → PassView → Type 0
-GoesOnAfter ends.Over before after = after ≡ before
+GoesOnAfter ends.Over before after = LooksOn before after
 GoesOnAfter ends.Killed before after = LooksOn before after
-GoesOnAfter ends.LinkFault before after = after ≡ before
+GoesOnAfter ends.LinkFault before after = LooksOn before after
 GoesOnAfter (ends.Ended at) before after = ⊥
 
--- after the serving of a link ended so the history holds a stop at this position
+-- after the serving of a link ended so the history holds a stop at this position: a look after the link found it, or it came to light
+-- while the link was served
 abbrev pub StopsAfter : ℕ → link.LinkEnd → PassView → PassView → Type 0
-StopsAfter at ends.Over before after = ⊥
+StopsAfter at ends.Over before after = FindsEnd at before after
 StopsAfter at ends.Killed before after = FindsEnd at before after
-StopsAfter at ends.LinkFault before after = ⊥
+StopsAfter at ends.LinkFault before after = FindsEnd at before after
 StopsAfter at (ends.Ended position) before after = (position ≡ at) × (after ≡ before)
 
 module _ (L : Type 0) where
@@ -79,8 +81,8 @@ module _ {L : Type 0} where
         (record { pass = before.pass; link = link_run.came }) (record { pass = link_run.pass; link = setting.tells link_run.line })
     pub door : after.door ≡ after_give_back (after_came before.door) link_run.line
 
-  -- the door was asked once, and the work goes on: a link was served as the session of this number, or there was none yet, and a
-  -- look at the history found no stop
+  -- the door was asked once, and the work goes on: a link was served as the session of this number, or there was none yet, and in
+  -- either case a look at the history after that found no stop
   abbrev pub Takes : Setting L → ℕ → Turn L → AtDoor L → AtDoor L → Type 0
   Takes setting number (Came link_run) before after = IsServed setting number link_run before after × GoesOnAfter link_run.end link_run.pass after.pass
   Takes setting number NoneYet before after = LooksOn before.pass after.pass × (after.door ≡ after_none_came before.door)
@@ -106,8 +108,8 @@ module _ {L : Type 0} where
     pub pass : after.pass ≡ before.pass
     pub door : after.door ≡ after_listener_closed before.door
 
-  -- the history holds a stop: a look found it after the door had no link yet, or it came to light while a link was served as the
-  -- session of this number, after which no further link is served
+  -- the history holds a stop: a look found it after the door had no link yet, or a link was served as the session of this number,
+  -- and it came to light while that was served, or by the look after it. No further link is served
   abbrev pub IsStopFound : Setting L → ℕ → ℕ → AtDoor L → AtDoor L → Type 0
   IsStopFound setting number at before after =
       (FindsEnd at before.pass after.pass × (after.door ≡ after_none_came before.door))
@@ -135,7 +137,7 @@ module _ {L : Type 0} where
   EndsWork setting number SessionsOver before after = IsSessionsOver number before after
 
   -- what the work at a door did, from the pass and the door before it to those after it: links were served as the sessions 1, 2
-  -- and so on, no more than there are numbers, and then it ended
+  -- and so on, no more than there are numbers, with a look at the history between two calls of the door, and then it ended
   pub record HasWorked (setting : Setting L) (end : WorkEnd) (before after : AtDoor L) : Type 0 where
     pub turns : List (Turn L)
     pub between : AtDoor L

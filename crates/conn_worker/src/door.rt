@@ -19,8 +19,9 @@ use std::sync::Wait;
 
 /// Serves the links of a door, one after another, until the door is closed or failed, or the stage was stopped.
 ///
-/// Each link is served as the next session, from 1 on, and given back. If the door has no link yet, the worker checks whether the
-/// stage was stopped. If the door fails, it stops the stage with tag 0.0, unless a stop came before.
+/// Each link is served as the next session, from 1 on, and given back. After each link, and if the door has no link yet, the worker
+/// checks whether the stage was stopped, before it asks the door again. So links that come and go do not keep it from ending. If the
+/// door fails, it stops the stage with tag 0.0, unless a stop came before.
 pub fn work<R: Wait, D: Listener>(
     rt: &R,
     alloc: Global,
@@ -82,8 +83,8 @@ impl Server<'_> {
         unreachable!()
     }
 
-    /// Asks the door once, after `served` links were served, and returns how many were served then. A link that came is served; if
-    /// there is none yet, the worker checks whether the stage was stopped.
+    /// Asks the door once, after `served` links were served, and returns how many were served then. A link that came is served. Then,
+    /// and if there is none yet, the worker checks whether the stage was stopped.
     fn ask_door<R: Wait, D: Listener>(
         &self,
         rt: &R,
@@ -118,7 +119,8 @@ impl Server<'_> {
         }
     }
 
-    /// Serves a link as the session of this number, gives it back, and checks the history if the link stopped the stage.
+    /// Serves a link as the session of this number, gives it back, and checks whether the stage was stopped, unless that came to light
+    /// while the link was served.
     fn serve_line<R: Wait, D: Listener>(
         &self,
         rt: &R,
@@ -141,8 +143,7 @@ impl Server<'_> {
         let end = Connection { server, number }.serve(rt, pass, session, &mut line);
         door.give_back(line);
         match end {
-            LinkEnd::Over | LinkEnd::LinkFault => Ok(()),
-            LinkEnd::Killed => self.look(rt, pass),
+            LinkEnd::Over | LinkEnd::Killed | LinkEnd::LinkFault => self.look(rt, pass),
             LinkEnd::Ended { at } => Err(WorkEnd::Ended { at }),
         }
     }

@@ -8,6 +8,7 @@
 
 mod connection;
 mod door;
+pub mod examples;
 pub mod laws;
 mod link_end;
 mod serve;

@@ -5,13 +5,13 @@ use Rattle.play_types.specs.History.{stop_at}
 use Rattle.play_types.specs.declared.event.Event.{Event}
 use Rattle.stage_lock.specs.Views.{PassView}
 use Rattle.stage_lock.specs.Calls.{Looks}
-use Rattle.conn_worker.specs.Work.{FindsEnd, GoesOnAfter}
+use Rattle.conn_worker.specs.Work.{FindsEnd, GoesOnAfter, LooksOn}
 use Rattle.conn_worker.specs.declared.link_end.LinkEnd as link
 use Rattle.conn_worker.specs.declared.link_end.LinkEnd.TheVariants as ends
 use Rattle.play_server.specs.Doors.{is_stopped}
-use Rattle.play_server.proofs.PassView.{PassOn, pass_looked, pass_same}
+use Rattle.play_server.proofs.PassView.{PassOn, pass_looked}
 
--- after a link was served the work goes on, or a stop was found
+-- after a link was served the work goes on
 pub record GoesOn (end : link.LinkEnd) (before after : PassView) : Type 0 where
   pub pass : PassOn [] before after
   pub ends : after.ends ≡ before.ends
@@ -20,10 +20,14 @@ pub record GoesOn (end : link.LinkEnd) (before after : PassView) : Type 0 where
 pub looks_ends : (IsTold : List Event → Type 0) (before after : PassView) → Looks before IsTold after → after.ends ≡ before.ends
 looks_ends IsTold before after looks = ap (λ (p : PassView). p.ends) looks.after
 
+-- a look after a link found no stop
+looked_on : (end : link.LinkEnd) (before after : PassView) → is_stopped end ≡ false → LooksOn before after → GoesOn end before after
+looked_on end before after other looks = record { pass = pass_looked _ before after looks; ends = looks_ends _ before after looks; other = other }
+
 pub goes_on : (end : link.LinkEnd) (before after : PassView) → GoesOnAfter end before after → GoesOn end before after
-goes_on ends.Over before after same = record { pass = pass_same before after same; ends = ap (λ (p : PassView). p.ends) same; other = refl }
-goes_on ends.Killed before after looks = record { pass = pass_looked _ before after looks; ends = looks_ends _ before after looks; other = refl }
-goes_on ends.LinkFault before after same = record { pass = pass_same before after same; ends = ap (λ (p : PassView). p.ends) same; other = refl }
+goes_on ends.Over before after looks = looked_on ends.Over before after refl looks
+goes_on ends.Killed before after looks = looked_on ends.Killed before after refl looks
+goes_on ends.LinkFault before after looks = looked_on ends.LinkFault before after refl looks
 goes_on (ends.Ended at) before after none = absurd none
 
 pub looked_stop : (at : ℕ) (before after : PassView) → FindsEnd at before after → stop_at after.seen ≡ Some at
@@ -34,3 +38,11 @@ pub record StopSeen (at : ℕ) (end : link.LinkEnd) (before after : PassView) : 
   pub pass : PassOn [] before after
   pub ends : after.ends ≡ before.ends
   pub stop : stop_at after.seen ≡ Some at
+
+-- a look after a link found a stop
+pub looked_ended : (at : ℕ) (end : link.LinkEnd) (before after : PassView) → FindsEnd at before after → StopSeen at end before after
+looked_ended at end before after looks = record {
+  pass = pass_looked _ before after looks;
+  ends = looks_ends _ before after looks;
+  stop = looked_stop at before after looks;
+}

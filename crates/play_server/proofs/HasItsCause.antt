@@ -1,6 +1,6 @@
 -- What the exit status of the program tells.
 use Rattle.std.proofs.Common.{◌≡◌, ◌≢◌, ◌⊎◌, ℕ, ◌≤◌, List, [], refl, sym, ap, ◌∙◌, subst, arith, inl, inr}
-use Rattle.std.specs.Prelude.{Option, Some, None, Result, Ok, Err, string_bytes}
+use Rattle.std.specs.Prelude.{true, Option, Some, None, Result, Ok, Err, option_map, string_bytes}
 use Rattle.std.proofs.lemmas.Option.{none-some}
 use Rattle.clap.specs.Words.{fault_of}
 use Rattle.play_outside.specs.Faults.{Rose}
@@ -15,12 +15,14 @@ use Rattle.play_types.specs.declared.clip_fault.ClipFault.TheVariants as clip
 use Rattle.server_setup.specs.declared.fault.RunFault.{RunFault}
 use Rattle.server_setup.specs.declared.fault.RunFault.TheVariants.{Usage, ConfigText, ConfigKey, BadLine, InputTooLong, Plan, PlanEnd, Record, Clip, MediaTwice, MediaTotal, Device, OutOfMemory}
 use Rattle.server_setup.specs.declared.setup.ServerSetup.{ServerSetup}
-use Rattle.play_server.specs.Program.{AtSite, RunsServer, SaysEnd, SaysLine, program_of, status_in}
+use Rattle.play_server.specs.Program.{Asked, AtSite, RunsServer, SaysEnd, SaysLine, ServesOn, asked_of, program_of, status_in}
 use Rattle.play_server.specs.ServerWords.{Accepts, playd_app}
-use Rattle.play_server.specs.Site.{DeviceStates, Says}
-use Rattle.play_server.specs.SiteState.{SiteState}
+use Rattle.play_server.specs.Site.{DeviceStates, Finishes, Says, ready_call}
+use Rattle.play_server.specs.SiteState.{SiteState, after_call, after_finish}
 use Rattle.play_server.specs.Statuses.{EndsUncalled, EndsWell, HasFirstFault, HasItsCause, IsRefused, RefusesClips, RefusesConfig, SomethingFails}
 use Rattle.play_server.specs.declared.served.ServeEnd.TheVariants as serve
+use Rattle.play_server.specs.declared.site.FinishStep.{FinishStep}
+use Rattle.play_server.specs.declared.site.FinishStep.TheVariants as finish
 use Rattle.play_server.specs.declared.words.ServerWords.{ServerWords}
 use Rattle.play_server.proofs.SaysLine.{moved_clips, moved_config, moved_failure, moved_run}
 use Rattle.play_server.proofs.ADeviceFails.{device_rose, devices_stay, stopped_by}
@@ -230,6 +232,12 @@ module _ {C D O L : Type 0} (device : DeviceStates C D O L) (tells : L → SinkS
       ]
   meets decides fault (Err OutOfMemory) moments has came = inr (inl refl)
 
+  -- the site after a run whose history got its name
+  named_after : (asked : Asked) (moments : SiteState C D O × SiteState C D O) (served : ServesOn device tells asked serve.Ended moments) → served.step ≡ finish.Done
+      → moments.1 ≡ after_finish served.finished (after_call (ready_call asked.program.config asked.path true) moments.0)
+  named_after asked moments served done =
+      subst (λ (step : FinishStep). Finishes step served.finished (after_call (ready_call asked.program.config asked.path true) moments.0) moments.1) done served.finishes
+
   -- nothing failed if the result is Ok
   ended_well : (first between last : AtSite C D O) → last.folder ≡ between.folder → last.site ≡ between.site → Came device tells line (Ok tt) (first, between) → EndsWell device tells line (first, last)
   ended_well first between last folder silent came =
@@ -238,8 +246,9 @@ module _ {C D O L : Type 0} (device : DeviceStates C D O L) (tells : L → SinkS
         run = moved_run device tells line first between last folder serve.Ended run;
         stopped = stopped_by device tells (program_of run.setup) (run.served.given, run.served.finished) run.served.serves;
         devices = devices_stay device tells (program_of run.setup) (run.served.given, run.served.finished) run.served.serves;
+        named = came.1;
         folder = folder ∙ run.set_up.1.1;
-        site = ap (λ (s : SiteState C D O). s.faults) (silent ∙ (sym came.1 ∙ run.served.after_is));
+        site = ap (λ (s : SiteState C D O). s.faults) (silent ∙ (sym came.2 ∙ named_after (asked_of run.setup (option_map string_bytes run.named.journal)) (first.site, run.site) run.served came.1));
       }
 
   only_success : (result : Result (Unit {0}) RunFault) (first between last : AtSite C D O) → last.folder ≡ between.folder → SaysEnd result between.site last.site

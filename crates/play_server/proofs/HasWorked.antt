@@ -27,7 +27,7 @@ use Rattle.play_server.specs.Links.{EachFrom}
 use Rattle.play_server.specs.Doors.{DoorRun, OnlyLastIsStopped, WasAsked, faults_after, given_back, is_closed, is_door_fault, is_stopped}
 use Rattle.play_server.proofs.ListenerState.{DoorOn, door_served, door_waited, more_returned}
 use Rattle.play_server.proofs.PassView.{PassOn, pass_looked, pass_made, pass_quiet, pass_same, pass_stopped, pass_then}
-use Rattle.play_server.proofs.GoesOnAfter.{GoesOn, StopSeen, goes_on, looked_stop, looks_ends}
+use Rattle.play_server.proofs.GoesOnAfter.{GoesOn, StopSeen, goes_on, looked_ended, looked_stop, looks_ends}
 
 -- a link that was served, and the talk with its client
 pub record Link (L : Type 0) : Type 0 where
@@ -266,13 +266,9 @@ module _ {L : Type 0} where
 
   stop_seen : (setting : Setting L) (number at : ℕ) (x : Link L) (seen : List Event) (after : PassView) (end : link.LinkEnd) → EndsBy (service_of setting number) x.talk end
       → (before : PassView) → x.talk.pass.seen ≡ before.seen → StopsAfter at end before after → StopSeen at end before after
-  stop_seen setting number at x seen after ends.Over ending before is none = absurd none
-  stop_seen setting number at x seen after ends.Killed ending before is looks = record {
-    pass = pass_looked _ before after looks;
-    ends = looks_ends _ before after looks;
-    stop = looked_stop at before after looks;
-  }
-  stop_seen setting number at x seen after ends.LinkFault ending before is none = absurd none
+  stop_seen setting number at x seen after ends.Over ending before is looks = looked_ended at ends.Over before after looks
+  stop_seen setting number at x seen after ends.Killed ending before is looks = looked_ended at ends.Killed before after looks
+  stop_seen setting number at x seen after ends.LinkFault ending before is looks = looked_ended at ends.LinkFault before after looks
   stop_seen setting number at x seen after (ends.Ended position) ending before is same = record {
     pass = pass_same before after same.1;
     ends = ap (λ (p : PassView). p.ends) same.1;

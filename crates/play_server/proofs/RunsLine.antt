@@ -1,6 +1,6 @@
 -- What came of a call by its result, before anything was said.
 use Rattle.std.proofs.Common.{◌≡◌, ◌≢◌, ◌⊎◌, ℕ, List, [], refl, sym, ap, subst, inl, inr}
-use Rattle.std.specs.Prelude.{Result, Ok, Err, option_map, string_bytes}
+use Rattle.std.specs.Prelude.{true, Result, Ok, Err, option_map, string_bytes}
 use Rattle.clap.specs.Words.{fault_of}
 use Rattle.play_outside.specs.Faults.{Rose}
 use Rattle.play_outside.specs.SinkState.{SinkState}
@@ -8,12 +8,15 @@ use Rattle.server_setup.specs.Setup.{SetsUp}
 use Rattle.server_setup.specs.declared.fault.RunFault.{RunFault}
 use Rattle.server_setup.specs.declared.fault.RunFault.TheVariants.{Usage, ConfigText, ConfigKey, BadLine, InputTooLong, Plan, PlanEnd, Record, Clip, MediaTwice, MediaTotal, Device, OutOfMemory}
 use Rattle.server_setup.specs.declared.setup.ServerSetup.{ServerSetup}
-use Rattle.play_server.specs.Program.{AtSite, RunsLine, RunsOn, RunsSetUp, RunsWords, asked_in, asked_of}
+use Rattle.play_server.specs.Program.{Asked, AtSite, RunsLine, RunsOn, RunsSetUp, RunsWords, ServesOn, asked_in, asked_of}
 use Rattle.play_server.specs.ServerWords.{Accepts, ReadsWords, playd_app}
-use Rattle.play_server.specs.Site.{DeviceStates}
-use Rattle.play_server.specs.SiteState.{SiteState, after_call_without_memory}
+use Rattle.play_server.specs.Site.{DeviceStates, Finishes, ready_call}
+use Rattle.play_server.specs.SiteState.{SiteState, after_call, after_call_without_memory}
 use Rattle.play_server.specs.Statuses.{HasServedClients, IsRefused}
+use Rattle.play_server.specs.declared.served.ServeEnd.{ServeEnd}
 use Rattle.play_server.specs.declared.served.ServeEnd.TheVariants as serve
+use Rattle.play_server.specs.declared.site.FinishStep.{FinishStep}
+use Rattle.play_server.specs.declared.site.FinishStep.TheVariants as finish
 use Rattle.play_server.specs.declared.words.ServerWords.{ServerWords}
 use Rattle.play_server.specs.declared.words.ServerWordsFault.{ServerWordsFault}
 use Rattle.play_server.specs.declared.words.ServerWordsFault.TheVariants as words
@@ -29,7 +32,7 @@ module _ {C D O L : Type 0} (device : DeviceStates C D O L) (tells : L → SinkS
 
   -- what came of a call, by its result, before anything was said
   abbrev pub Came : Result (Unit {0}) RunFault → AtSite C D O × AtSite C D O → Type 0
-  Came (Ok done) moments = (run : HasServedClients device tells line serve.Ended moments) × (run.site ≡ moments.1.site)
+  Came (Ok done) moments = (run : HasServedClients device tells line serve.Ended moments) × (run.served.step ≡ finish.Done) × (run.site ≡ moments.1.site)
   Came (Err Usage) moments = fault_of playd_app line ≢ []
   Came (Err ConfigText) moments = IsRefused line ConfigText moments
   Came (Err (ConfigKey key)) moments = IsRefused line (ConfigKey key) moments
@@ -67,19 +70,31 @@ module _ {C D O L : Type 0} (device : DeviceStates C D O L) (tells : L → SinkS
   came_of_fault named Device moments accepted sets same = (accepted.accepted, inl sets.1)
   came_of_fault named OutOfMemory moments accepted sets same = inl same
 
+  -- a history that did not get its name is a fault of the site
+  unnamed : (asked : Asked) (end : ServeEnd) (moments : SiteState C D O × SiteState C D O) (served : ServesOn device tells asked end moments) → served.step ≡ finish.Failed
+      → Rose moments.0.faults moments.1.faults
+  unnamed asked end moments served failed =
+      let called = after_call (ready_call asked.program.config asked.path true) moments.0 in
+      let done : Finishes finish.Failed served.finished called moments.1 = subst (λ (step : FinishStep). Finishes step served.finished called moments.1) failed served.finishes in
+      rises moments.0.faults moments.1.faults (ap (λ (s : SiteState C D O). s.faults) done)
+
   -- what came of a run on what was set up
   came_of_run : (named : ServerWords) (setup : ServerSetup) (result : Result (Unit {0}) RunFault) (moments : AtSite C D O × AtSite C D O) → Accepts line named
       → SetsUp (string_bytes named.config) (Ok setup) moments.0.folder moments.1.folder
       → RunsOn device tells (asked_of setup (option_map string_bytes named.journal)) result (moments.0.site, moments.1.site) → Came result moments
   came_of_run named setup (Ok done) moments accepted sets runs =
-      (record { named = named; accepted = accepted; setup = setup; set_up = sets; site = moments.1.site; served = runs }, refl)
+      (record { named = named; accepted = accepted; setup = setup; set_up = sets; site = moments.1.site; served = runs.0 }, runs.1, refl)
   came_of_run named setup (Err Device) moments accepted sets runs =
       let set_up : IsSetUp moments = record { named = named; accepted = accepted; setup = setup; set_up = sets } in
       elim runs [
         | inl served ↦
             (accepted.accepted, inr (set_up, inr (record { named = named; accepted = accepted; setup = setup; set_up = sets; site = moments.1.site; served = served })))
-        | inr unready ↦
-            (accepted.accepted, inr (set_up, inl (rises moments.0.site.faults moments.1.site.faults (ap (λ (s : SiteState C D O). s.faults) unready))))
+        | inr other ↦ elim other [
+          | inl served ↦
+              (accepted.accepted, inr (set_up, inl (unnamed (asked_of setup (option_map string_bytes named.journal)) serve.Ended (moments.0.site, moments.1.site) served.0 served.1)))
+          | inr unready ↦
+              (accepted.accepted, inr (set_up, inl (rises moments.0.site.faults moments.1.site.faults (ap (λ (s : SiteState C D O). s.faults) unready))))
+        ]
       ]
   came_of_run named setup (Err OutOfMemory) moments accepted sets runs =
       elim runs [

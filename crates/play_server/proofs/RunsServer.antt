@@ -11,26 +11,30 @@ use Rattle.server_setup.specs.declared.setup.ServerSetup.{ServerSetup}
 use Rattle.play_server.specs.Program.{Asked, AtSite, IsToldAs, RunsLine, RunsOn, RunsServer, RunsSetUp, RunsWords, ServesOn, TakesMemory, asked_in, asked_of}
 use Rattle.play_server.specs.Run.{Program, Serves}
 use Rattle.play_server.specs.ServerWords.{Accepts}
-use Rattle.play_server.specs.Site.{AreReady, DeviceStates, ready_call}
-use Rattle.play_server.specs.SiteState.{SiteState, after_call, after_finish}
+use Rattle.play_server.specs.Site.{AreReady, DeviceStates, Finishes, ready_call}
+use Rattle.play_server.specs.SiteState.{SiteState, after_call}
 use Rattle.play_server.specs.declared.served.ServeEnd.{ServeEnd}
+use Rattle.play_server.specs.declared.site.FinishStep.{FinishStep}
 use Rattle.play_server.specs.declared.words.ServerWords.{ServerWords}
 use Rattle.play_server.specs.declared.words.ServerWordsFault.{ServerWordsFault}
 use Rattle.play_server.specs.declared.words.ServerWordsFault.TheVariants as words
 use Rattle.play_server.specs.inner.Ending.{EndsWithFault}
 
 -- devices were given, served and finished
-pub served_on : {C D O L : Type 0} (device : DeviceStates C D O L) (tells : L → SinkState) (program : Program) (end told_end : ServeEnd)
+abbrev pub served_on : {C D O L : Type 0} (device : DeviceStates C D O L) (tells : L → SinkState) (program : Program) (end told_end : ServeEnd) (step : FinishStep)
     (path told_path : Option (List ℕ)) (given finished : Devices C D O) (before between after : SiteState C D O) →
     AreReady device program.config given → Serves device tells program told_end (given, finished) → told_end ≡ end →
-    between ≡ after_call (ready_call program.config told_path true) before → told_path ≡ path → after ≡ after_finish finished between →
+    between ≡ after_call (ready_call program.config told_path true) before → told_path ≡ path → Finishes step finished between after →
     ServesOn device tells (record { program = program; path = path }) end (before, after)
-served_on device tells program end told_end path told_path given finished before between after ready serves ends called same_path done = record {
+served_on {C} {D} {O} device tells program end told_end step path told_path given finished before between after ready serves ends called same_path done = record {
   given = given;
   finished = finished;
   ready = ready;
   serves = subst (λ (e : ServeEnd). Serves device tells program e (given, finished)) ends serves;
-  after_is = done ∙ ap (after_finish finished) (called ∙ ap (λ (p : Option (List ℕ)). after_call (ready_call program.config p true) before) same_path);
+  step = step;
+  finishes =
+      subst (λ (s : SiteState C D O). Finishes step finished s after)
+      (called ∙ ap (λ (p : Option (List ℕ)). after_call (ready_call program.config p true) before) same_path) done;
 }
 
 -- the words were accepted, a server was set up, and it ran

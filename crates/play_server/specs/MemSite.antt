@@ -1,10 +1,12 @@
 -- A site in memory.
-use Rattle.std.specs.Prelude.{◌==◌, ◌&&◌, Bool, false, not, Option, Some, None, length, vec_len}
+use Rattle.std.specs.Prelude.{◌==◌, ◌&&◌, Bool, true, false, not, Option, Some, None, length, vec_len}
 use Rattle.std.specs.List.{list_any}
 use Rattle.play_types.specs.Config.{ConfigView}
 use Rattle.play_outside.specs.Faults.{one_more}
 use Rattle.play_outside.specs.declared.devices.Devices.{Devices}
 use Rattle.play_outside.specs.declared.memory.planned_faults.PlannedFaults.{PlannedFaults}
+use Rattle.play_server.specs.declared.site.FinishStep.{FinishStep}
+use Rattle.play_server.specs.declared.site.FinishStep.TheVariants.{Done, Failed}
 
 -- whether the next call is planned to fail
 abbrev pub fails_next : PlannedFaults → Bool
@@ -18,3 +20,8 @@ has_devices_for config (Some devices) = (vec_len devices.doors == config.connect
 -- whether a call of `ready` with this configuration gives devices: it is not planned to fail, and they are there
 abbrev pub is_ready : {C D O : Type 0} → ConfigView → Bool → Option (Devices C D O) → Bool
 is_ready config fails devices = not fails && has_devices_for config devices
+
+-- what a call of `finish` answers, by whether it is planned to fail
+abbrev pub finish_step : Bool → FinishStep
+finish_step false = Done
+finish_step true = Failed

@@ -12,10 +12,12 @@ use Rattle.server_setup.specs.declared.fault.RunFault.TheVariants.{Usage, Config
 use Rattle.server_setup.specs.declared.setup.ServerSetup.{ServerSetup}
 use Rattle.play_server.specs.Run.{Program, Serves}
 use Rattle.play_server.specs.ServerWords.{ReadsWords}
-use Rattle.play_server.specs.Site.{AreReady, DeviceStates, IsNotReady, Says, ready_call}
-use Rattle.play_server.specs.SiteState.{SiteState, after_call, after_finish}
+use Rattle.play_server.specs.Site.{AreReady, DeviceStates, Finishes, IsNotReady, Says, ready_call}
+use Rattle.play_server.specs.SiteState.{SiteState, after_call}
 use Rattle.play_server.specs.declared.served.ServeEnd.{ServeEnd}
 use Rattle.play_server.specs.declared.served.ServeEnd.TheVariants as serve
+use Rattle.play_server.specs.declared.site.FinishStep.{FinishStep}
+use Rattle.play_server.specs.declared.site.FinishStep.TheVariants as finish
 use Rattle.play_server.specs.declared.words.ServerWords.{ServerWords}
 use Rattle.play_server.specs.declared.words.ServerWordsFault.{ServerWordsFault}
 use Rattle.play_server.specs.declared.words.ServerWordsFault.TheVariants as words
@@ -95,15 +97,19 @@ module _ {C D O L : Type 0} where
     pub finished : Devices C D O
     pub ready : AreReady device asked.program.config given
     pub serves : Serves device tells asked.program end (given, finished)
-    pub after_is : moments.1 ≡ after_finish finished (after_call (ready_call asked.program.config asked.path true) moments.0)
+    -- whether the history got its name
+    pub step : FinishStep
+    pub finishes : Finishes step finished (after_call (ready_call asked.program.config asked.path true) moments.0) moments.1
 
-  -- what a run on a configuration and clips came to: no device failed; or a device failed in the run, or the site gave no devices; or
-  -- memory ran out, before the run or for the devices
+  -- what a run on a configuration and clips came to: no device failed, and the history has its name; or a device failed in the run,
+  -- or the history did not get its name after one in which none failed, or the site gave no devices; or memory ran out, before the
+  -- run or for the devices
   abbrev pub RunsOn : DeviceStates C D O L → (L → SinkState) → Asked → Result (Unit {0}) RunFault → SiteState C D O × SiteState C D O → Type 0
-  RunsOn device tells asked (Ok done) moments = ServesOn device tells asked serve.Ended moments
+  RunsOn device tells asked (Ok done) moments = (served : ServesOn device tells asked serve.Ended moments) × (served.step ≡ finish.Done)
   RunsOn device tells asked (Err Device) moments =
       ServesOn device tells asked serve.DeviceFault moments
-      ⊎ IsNotReady file.Failed (ready_call asked.program.config asked.path false) moments.0 moments.1
+      ⊎ (((served : ServesOn device tells asked serve.Ended moments) × (served.step ≡ finish.Failed))
+      ⊎ IsNotReady file.Failed (ready_call asked.program.config asked.path false) moments.0 moments.1)
   RunsOn device tells asked (Err OutOfMemory) moments =
       ServesOn device tells asked serve.OutOfMemory moments
       ⊎ IsNotReady file.OutOfMemory (ready_call asked.program.config asked.path false) moments.0 moments.1

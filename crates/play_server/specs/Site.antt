@@ -10,7 +10,9 @@ use Rattle.play_outside.specs.declared.folder.FileFault.{FileFault}
 use Rattle.play_outside.specs.declared.folder.FileFault.TheVariants as fault
 use Rattle.play_outside.specs.declared.sink.WriteStep.{WriteStep}
 use Rattle.play_outside.specs.declared.sink.WriteStep.TheVariants.{Took, Failed}
-use Rattle.play_server.specs.SiteState.{SiteState, after_call, after_call_without_memory, after_site_fault, after_line}
+use Rattle.play_server.specs.SiteState.{SiteState, after_call, after_call_without_memory, after_finish, after_site_fault, after_line}
+use Rattle.play_server.specs.declared.site.FinishStep.{FinishStep}
+use Rattle.play_server.specs.declared.site.FinishStep.TheVariants as finish
 use Rattle.play_server.specs.declared.site.ReadyCall.{ReadyCall}
 
 -- how clocks, doors and outputs are read: what each of them tells
@@ -60,6 +62,11 @@ ready_call config history ok = record { config = config; history = history; ok =
 abbrev pub IsNotReady : {C D O : Type 0} → FileFault → ReadyCall → SiteState C D O → SiteState C D O → Type 0
 IsNotReady fault.Failed call before after = after ≡ after_site_fault (after_call call before)
 IsNotReady fault.OutOfMemory call before after = after ≡ after_call_without_memory before
+
+-- the devices were taken back; and if the history did not get its name, that is a fault of the site
+abbrev pub Finishes : {C D O : Type 0} → FinishStep → Devices C D O → SiteState C D O → SiteState C D O → Type 0
+Finishes finish.Done devices before after = after ≡ after_finish devices before
+Finishes finish.Failed devices before after = after ≡ after_site_fault (after_finish devices before)
 
 -- the whole line was said, or the site failed and said nothing of it
 abbrev pub Says : {C D O : Type 0} → WriteStep → List ℕ → SiteState C D O → SiteState C D O → Type 0

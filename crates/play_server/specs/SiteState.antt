@@ -13,7 +13,7 @@ pub record SiteTold (C D O : Type 0) : Type 0 where
   pub finishes : ℕ
   pub said : List ℕ
 
--- what was told, if the site tells it, and how often `ready` or `say` has failed
+-- what was told, if the site tells it, and how often `ready`, `finish` or `say` has failed
 pub record SiteState (C D O : Type 0) : Type 0 where
   pub told : Option (SiteTold C D O)
   pub faults : ℕ

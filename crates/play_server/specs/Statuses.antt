@@ -21,6 +21,7 @@ use Rattle.play_server.specs.Site.{DeviceStates}
 use Rattle.play_server.specs.SiteState.{SiteState, after_call_without_memory}
 use Rattle.play_server.specs.declared.served.ServeEnd.{ServeEnd}
 use Rattle.play_server.specs.declared.served.ServeEnd.TheVariants as serve
+use Rattle.play_server.specs.declared.site.FinishStep.TheVariants as finish
 use Rattle.play_server.specs.declared.words.ServerWords.{ServerWords}
 
 -- the count of one of these rose
@@ -102,11 +103,12 @@ module _ {C D O L : Type 0} where
       ⊎ (Rose moments.0.site.faults moments.1.site.faults
       ⊎ ((run : HasServedClients device tells line serve.DeviceFault moments) × ADeviceFails device run.served.given run.served.finished))
 
-  -- a run ended without a fault of anything
+  -- a run ended without a fault of anything, and the history has its name
   pub record EndsWell (device : DeviceStates C D O L) (tells : L → SinkState) (line : List (List ℕ)) (moments : AtSite C D O × AtSite C D O) : Type 0 where
     pub run : HasServedClients device tells line serve.Ended moments
     pub stopped : IsStopped run.served.serves
     pub devices : NoDeviceFails device run.served.given run.served.finished
+    pub named : run.served.step ≡ finish.Done
     pub folder : moments.1.folder ≡ moments.0.folder
     pub site : moments.1.site.faults ≡ moments.0.site.faults
 
@@ -128,11 +130,12 @@ module _ {C D O L : Type 0} where
     -- 2 comes only if the configuration is refused, and 3 only if the clips are
     pub config : status ≡ 2 → RefusesConfig line moments
     pub clips : status ≡ 3 → RefusesClips line moments
-    -- 4 comes only if a count of faults rose: of the folder, of the site, or of a device in the run
+    -- 4 comes only if a count of faults rose: of the folder, of the site, which has that of a history without its name, or of a
+    -- device in the run
     pub device : status ≡ 4 → SomethingFails words tells line moments
     -- 5 comes only if memory ran out, and no call was made on a device
     pub memory : status ≡ 5 → EndsUncalled words tells line moments
-    -- 0 comes only after a run in which nothing failed
+    -- 0 comes only after a run in which nothing failed, and whose history has its name
     pub success : status ≡ 0 → EndsWell words tells line moments
     -- if the words are accepted and the folder tells its files, in which there is no fault, the status is 0, or 5, or a count rose
     pub valid : HasFirstFault line None moments.0.folder → (status ≡ 0) ⊎ ((status ≡ 5) ⊎ ((status ≡ 4) × SomethingFails words tells line moments))

@@ -23,5 +23,5 @@ pub use in_memory::{MemSite, PlainSite};
 pub use program::serve_main;
 pub use served::{ServeEnd, Served};
 pub use serving::serve;
-pub use site::{ReadyCall, Site};
+pub use site::{FinishStep, ReadyCall, Site};
 pub use words::{ServerWords, ServerWordsFault};

@@ -7,7 +7,7 @@ ghost use Rattle.play_server.specs.Statuses.{HasItsCause};
 use crate::ending::end_with;
 use crate::served::{ServeEnd, Served};
 use crate::serving::serve;
-use crate::site::Site;
+use crate::site::{FinishStep, Site};
 use crate::words::{ServerWords, ServerWordsFault};
 use server_setup::{RunFault, ServerSetup, laws, set_up};
 use std::alloc::Global;
@@ -27,10 +27,11 @@ use std::thread::Threads;
 /// | 1 | the words are no command line | `E usage` |
 /// | 2 | the configuration is not TOML, or a key of it is refused | `E config text`, `E config key KEY` |
 /// | 3 | two clip files have one name, or the clip files are too large | `E media twice NAME`, `E media total n` |
-/// | 4 | a read of the folder, the site, or a device of the run failed | `E device` |
+/// | 4 | a read of the folder, the site, or a device of the run failed, or the history did not get its name | `E device` |
 /// | 5 | memory ran out before a call was made on a device | `E memory` |
 ///
-/// The devices are finished whatever the end of the run was. If memory runs out for a line that has a name, the status is 5
+/// The devices are finished whatever the end of the run was; a history that does not get its name changes the status of a run
+/// that ended with 0 alone. If memory runs out for a line that has a name, the status is 5
 /// and the line is `E memory`, which takes no memory. A line that could not be said changes no status.
 pub fn serve_main<R: Threads + Wait + Sync, E: Site>(
     rt: &R,
@@ -98,11 +99,12 @@ fn serve_setup<R: Threads + Wait + Sync, E: Site>(
         devices,
     );
     let Served { devices, end } = served;
-    site.finish(devices);
-    match end {
-        ServeEnd::Ended => Ok(()),
-        ServeEnd::DeviceFault => Err(RunFault::Device),
-        ServeEnd::OutOfMemory => Err(RunFault::OutOfMemory),
+    let step = site.finish(devices);
+    match (end, step) {
+        (ServeEnd::Ended, FinishStep::Done) => Ok(()),
+        (ServeEnd::Ended, FinishStep::Failed) => Err(RunFault::Device),
+        (ServeEnd::DeviceFault, _) => Err(RunFault::Device),
+        (ServeEnd::OutOfMemory, _) => Err(RunFault::OutOfMemory),
     }
 }
 

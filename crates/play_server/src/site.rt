@@ -1,8 +1,8 @@
 //! Where the devices of a run come from.
 ghost use Rattle.std.specs.Prelude.{◌≡◌, Option, true, false, IfOk, MatchResult, option_map};
 ghost use Rattle.std.specs.Borrow.{sem, Lends};
-ghost use Rattle.play_server.specs.SiteState.{SiteState, after_call, after_finish};
-ghost use Rattle.play_server.specs.Site.{AreReady, IsNotReady, Says, device_states, ready_call};
+ghost use Rattle.play_server.specs.SiteState.{SiteState, after_call};
+ghost use Rattle.play_server.specs.Site.{AreReady, Finishes, IsNotReady, Says, device_states, ready_call};
 
 use play_outside::{Clock, Devices, FileFault, Listener, MediaDir, Sink, WriteStep};
 use play_types::{ByteList, Config};
@@ -19,6 +19,15 @@ pub struct ReadyCall {
     pub ok: bool,
 }
 
+/// What came of a call of [`Site::finish`].
+#[derive(Clone, Copy, Debug, PartialEq, Eq)]
+pub enum FinishStep {
+    /// The history is where it is to be, or there is none to keep.
+    Done,
+    /// The history did not get its name.
+    Failed,
+}
+
 /// A folder of configuration and media, and the devices of a run.
 pub trait Site {
     /// The folder.
@@ -33,7 +42,7 @@ pub trait Site {
     /// The output of a channel, and the one of the history's text.
     type Out: Sink + Send;
 
-    /// The calls, if the site tells them, and how many faults of `ready` and `say` there were.
+    /// The calls, if the site tells them, and how many faults of `ready`, `finish` and `say` there were.
     ghost state: { Self → SiteState Self.Clock Self.Door Self.Out };
 
     /// The folder as it is now.
@@ -65,9 +74,10 @@ pub trait Site {
             (λ fault. IsNotReady fault (ready_call config.now (option_map (λ path. path.now) history.entry) false) (state self.old) (state self.new)) }
         ensures folder { folder self.new ≡ folder self.old };
 
-    /// Takes the devices of a run back.
-    fn finish(&mut self, devices: Devices<Self::Clock, Self::Door, Self::Out>)
-        ensures told { state self.new ≡ after_finish devices (state self.old) }
+    /// Takes the devices of a run back, and gives the history its name. A failed call takes them back all the same, and raises
+    /// the count of faults by one.
+    fn finish(&mut self, devices: Devices<Self::Clock, Self::Door, Self::Out>) -> FinishStep
+        ensures told { Finishes result devices (state self.old) (state self.new) }
         ensures folder { folder self.new ≡ folder self.old };
 
     /// Says a line, which is given without its line feed. A failed call raises the count of faults by one, and says

@@ -35,7 +35,7 @@ fn devices(
 {
     let alloc = rt.alloc();
     let mut doors = Vec::new(alloc);
-    let group = DoorGroup::new(alloc)?;
+    let group = DoorGroup::new(alloc, 1)?;
     doors.push(TcpDoor::new(listener, rt, group, 1)?)?;
     let mut outs = Vec::new(alloc);
     outs.push(PlainSink::new(1))?;

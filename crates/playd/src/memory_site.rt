@@ -41,7 +41,7 @@ fn site(alloc: Global) -> Result<MemSite<PlainClock, PlainDoor, PlainSink>, Fail
 fn doors<S: Site>(site: &mut S, alloc: Global, config: &Config) -> Result<usize, FileFault> {
     let devices = site.ready(alloc, config, Some("j"))?;
     let doors = devices.doors.len();
-    site.finish(devices);
+    let _ = site.finish(devices);
     Ok(doors)
 }
 

@@ -1,12 +1,12 @@
 //! The site of a server over the system.
 ghost use Rattle.std.specs.Prelude.{◌≡◌, None, refl};
 ghost use Rattle.play_outside.specs.Faults.{one_more};
-ghost use Rattle.play_server.specs.SiteState.{after_finish};
+ghost use Rattle.play_server.specs.Site.{Finishes};
 
 use crate::said::{PROGRAM, USAGE_FAULT, say_listening, say_usage};
 use host_system::{FolderMedia, ProgramFile, Progress, words_of};
 use play_outside::{FileFault, MediaDir, WriteStep};
-use play_server::Site;
+use play_server::{FinishStep, Site};
 use play_types::Config;
 use real_devices::{FileSink, RateClock, RealDevices, TcpDoor, try_threads};
 use std::alloc::Global;
@@ -105,11 +105,17 @@ impl<
     }
 
     /// Closes the listening socket and the files. The file of the history gets its name, if the history was written.
-    fn finish(&mut self, devices: RealDevices<R>)
-        ensures told { ⟦<RealSite<R> as Site>⟧.state self.new ≡ after_finish devices (⟦<RealSite<R> as Site>⟧.state self.old) }
+    fn finish(&mut self, devices: RealDevices<R>) -> FinishStep
+        ensures told { Finishes result devices (⟦<RealSite<R> as Site>⟧.state self.old) (⟦<RealSite<R> as Site>⟧.state self.new) }
         ensures folder { self.new.media ≡ self.old.media }
     {
-        real_devices::finish(devices);
+        match real_devices::finish(devices) {
+            Ok(()) => FinishStep::Done,
+            Err(_) => {
+                self.raise();
+                FinishStep::Failed
+            }
+        }
     }
 
     /// Says a line on standard error. Before the line of words that are no command line it says which words there are.

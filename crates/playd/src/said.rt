@@ -26,7 +26,8 @@ with N from 1 to 64, as in
   playd --config studio.toml --journal evening.script";
 
 /// Says where the server listens, on how many channels it plays, how many connections it serves at once, and from which
-/// sources the program was built. If the system does not tell the address, it is that of the configuration.
+/// sources the program was built. If the system does not tell the address, it is that of the configuration. Before that it
+/// says if other machines can reach the address.
 pub fn say_listening<E: Eprint>(
     errors: &E,
     config: &Config,
@@ -34,9 +35,21 @@ pub fn say_listening<E: Eprint>(
     program: &ProgramFile,
 ) {
     match address {
-        Some(address) => say_ready(errors, config, &address, program),
+        Some(address) => {
+            if !address.ip().is_loopback() {
+                say_open(errors, &address);
+            }
+            say_ready(errors, config, &address, program)
+        }
         None => say_ready(errors, config, &config.listen().as_str(), program),
     }
+}
+
+/// Says that other machines can reach this address.
+fn say_open<E: Eprint>(errors: &E, address: &SocketAddr) {
+    let _ = errors.eprintln(format_args!(
+        "{PROGRAM}: {address} is not an address of this machine alone: whoever reaches it can do everything, and end the server; see \"Who may reach it\" in docs/OPERATING.md"
+    ));
 }
 
 /// Says that the server is ready, at this address.

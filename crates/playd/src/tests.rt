@@ -1,7 +1,7 @@
 //! A site over files and a socket of the system.
 use super::*;
 use play_outside::{FileFault, MediaDir, WriteStep};
-use play_server::Site;
+use play_server::{FinishStep, Site};
 use play_types::{Channel, ChannelList, Config, Text};
 use std::alloc::Global;
 use std::fs;
@@ -43,9 +43,9 @@ fn gives_devices_again(rt: HostRuntime) -> Result<(), Fail> {
         site.ready(alloc, &config, None).err(),
         Some(FileFault::Failed)
     );
-    site.finish(devices);
+    assert_eq!(rt; site.finish(devices), FinishStep::Done);
     let devices = site.ready(alloc, &config, None)?;
-    site.finish(devices);
+    assert_eq!(rt; site.finish(devices), FinishStep::Done);
     for path in [FILES[0], FILES[1]] {
         assert_eq!(rt; fs::read_to_string(&rt, path)?.as_str(), "");
     }

@@ -1,5 +1,6 @@
 -- What the devices tell of themselves: their counts and their marks, and no content.
-use Rattle.std.specs.Prelude.{Option, None}
+use Rattle.std.specs.Prelude.{ℕ, List, Option, None}
+use Rattle.std.specs.Io.KnownBytes.{prepend_known}
 use Rattle.std.specs.declared.net.tcp.TcpStream.{TcpStream}
 use Rattle.play_outside.specs.ClockState.{ClockState}
 use Rattle.play_outside.specs.ListenerState.{ListenerState}
@@ -24,6 +25,14 @@ link_state link = record { taken = None; faults = link.faults; mark = link.mark;
 -- the stream of a connection
 abbrev pub stream_of : {S E : Type 0} → TcpLink S E → S
 stream_of link = link.stream
+
+-- the bytes of a connection that were read and not handed on yet
+abbrev pub held_of : {S E : Type 0} → TcpLink S E → List ℕ
+held_of link = link.held
+
+-- the bytes that reads of a connection have still to give, if its stream tells them: those that are held, and then those of the stream
+abbrev pub unread_by : {S E : Type 0} → (S → Option (List ℕ)) → TcpLink S E → Option (List ℕ)
+unread_by remaining link = prepend_known link.held (remaining link.stream)
 
 -- a door
 abbrev pub door_state : {R : Type 0} → TcpDoor R → ListenerState (TcpLink TcpStream R)

@@ -41,6 +41,11 @@ pub(crate) fn say_kept<E: Eprint>(errors: &E, path: &str, kept: &str) {
     let _ = errors.eprintln(format_args!("playd: {path}: what stood here is {kept} now"));
 }
 
+/// Says that another server has the file of a history.
+pub(crate) fn say_taken<E: Eprint>(errors: &E, path: &str) {
+    let _ = errors.eprintln(format_args!("playd: {path}: another server writes its history there"));
+}
+
 /// Says why a file keeps the name that it has until it is whole.
 pub(crate) fn say_stays<E: Eprint, D: Display>(errors: &E, part: &str, why: &D) {
     let _ = errors.eprintln(format_args!("playd: {part}: keeps this name: {why}"));

@@ -4,17 +4,17 @@ ghost use Rattle.std.specs.List.{range_with_len};
 ghost use Rattle.real_devices.specs.Fresh.{quiet_clock, quiet_door, quiet_sink};
 ghost use Rattle.real_devices.specs.State.{clock_state, door_state, file_of, file_state};
 
-use crate::complaint::{complain, say_waits_for_reader};
+use crate::complaint::{complain, say_taken, say_waits_for_reader};
 use crate::door_group::DoorGroup;
 use crate::file_limit::{FileRoom, largest_file};
 use crate::file_sink::FileSink;
-use crate::journal_names::JournalNames;
+use crate::journal_names::{JournalNames, PartFault};
 use crate::rate_clock::RateClock;
 use crate::tcp_door::TcpDoor;
-use crate::used_files::{Use, UsedFiles};
+use crate::used_files::{Use, UsedFiles, files_in_use};
 use play_outside::{Devices, FileFault};
 use play_types::Config;
-use std::alloc::Global;
+use std::alloc::{AllocError, Global};
 use std::fs::{self, File, Metadata, OpenOptions};
 use std::io::{self, Eprint, ErrorKind};
 use std::net::{Net, TcpListener, TcpStream};
@@ -23,8 +23,8 @@ use std::os::unix::fs::FileTypeExt;
 use std::rt::Files;
 use std::time::Clock;
 
-/// How the name of a clip's file ends, in upper or lower case.
-const CLIP_ENDING: &[u8] = b".rclp";
+/// How many links are followed from one to the next, as the system does.
+const MOST_LINKS: u32 = 40;
 
 /// The real devices of a server, over a runtime of this type.
 pub type RealDevices<R> = Devices<RateClock<R>, TcpDoor<R>, FileSink<File, R>>;
@@ -35,11 +35,12 @@ pub type RealDevices<R> = Devices<RateClock<R>, TcpDoor<R>, FileSink<File, R>>;
 ///
 /// `source` is the path of the configuration's own file, if it has one. Each output is made, or emptied if all devices
 /// could be made. The history is written beside the file of its path, and [`finish`] gives it the name; only what is no
-/// regular file is written as it is. Without a path for the history its output takes every byte and keeps none.
+/// regular file is written as it is. Without a path for the history its output takes every byte and keeps none. The file
+/// beside it is made before any output is opened, and stays locked until the devices are finished.
 ///
-/// `Failed` comes if the address cannot be read or listened on, a file cannot be written, or an output has a file that is
-/// the configuration, a clip of the media folder or another output, by whatever path. Standard error says which.
-/// Character devices may be written by any number of outputs.
+/// `Failed` comes if the address cannot be read or listened on, a file cannot be written, another server writes its
+/// history to that path, or an output has a file that is the configuration, a clip of the media folder, the history or
+/// another output, by whatever path. Standard error says which. Character devices may be written by any number of outputs.
 pub fn ready<
     R: Net<Listener = TcpListener, Stream = TcpStream>
         + Files<File = File>
@@ -63,7 +64,7 @@ pub fn ready<
     ensures history { IfOk result (λ devices. file_state devices.history ≡ quiet_sink 0) }
     ensures kept { IfOk result (λ devices. IsNone history.entry → file_of devices.history ≡ None) }
 {
-    let Ok(group) = DoorGroup::new(alloc) else {
+    let Ok(group) = DoorGroup::new(alloc, config.connections()) else {
         return Err(FileFault::OutOfMemory);
     };
     let address = config.listen().as_str();
@@ -76,26 +77,32 @@ pub fn ready<
         largest: largest_file(&rt),
         group,
     };
-    let outs = make_outs(rt, alloc, config, &mut run)?;
     let history = make_history(rt, alloc, history, &mut run)?;
-    empty_all(&rt, config, &outs)?;
-    let clock = RateClock::new(rt, config.rate(), config.journal_limit());
-    Ok(Devices {
-        clock,
-        doors,
-        outs,
-        history,
-    })
+    match make_empty_outs(rt, alloc, config, history.path_when_whole(), &mut run) {
+        Ok(outs) => Ok(Devices {
+            clock: RateClock::new(rt, config.rate(), config.journal_limit()),
+            doors,
+            outs,
+            history,
+        }),
+        Err(fault) => {
+            let _ = history.finish();
+            Err(fault)
+        }
+    }
 }
 
 /// Ends the devices of a run. The history gets its name, if it was written and no write of it failed; what stood there
-/// is kept under a name with a number. The listening socket and all files are closed.
-pub fn finish<R: Files<File = File> + Clock + Eprint + Copy + Drop>(devices: RealDevices<R>) {
+/// is kept under a name with a number. The listening socket and all files are closed. `Failed` comes if the history did not
+/// get its name, and standard error says why.
+pub fn finish<R: Files<File = File> + Clock + Eprint + Copy + Drop>(
+    devices: RealDevices<R>,
+) -> Result<(), FileFault> {
     let Devices { doors, history, .. } = devices;
     if let Some(door) = doors.first() {
         door.say_left_out();
     }
-    history.finish();
+    history.finish()
 }
 
 /// What the outputs of a run share while they are made.
@@ -107,56 +114,6 @@ struct RunFiles {
     largest: Option<u64>,
     /// The doors that serve the run.
     group: DoorGroup,
-}
-
-/// Returns the files that no output may have: the configuration and the clips of its media folder, as far as the system
-/// tells them.
-fn files_in_use<R: Files<File = File> + AllocGlobal + Copy + Drop>(
-    rt: R,
-    alloc: Global,
-    config: &Config,
-    source: Option<&str>,
-) -> Result<UsedFiles, FileFault> {
-    let mut used = UsedFiles::new(alloc);
-    if let Some(source) = source {
-        if let Ok(found) = fs::metadata(&rt, source) {
-            used.add(&found, Use::Config)?;
-        }
-    }
-    add_clips(rt, config.media().as_str(), &mut used)?;
-    Ok(used)
-}
-
-/// Adds the clips of a folder.
-fn add_clips<R: Files<File = File> + AllocGlobal + Copy + Drop>(
-    rt: R,
-    folder: &str,
-    used: &mut UsedFiles,
-) -> Result<(), FileFault> {
-    let Ok(entries) = fs::read_dir(&rt, folder) else {
-        return Ok(());
-    };
-    for entry in entries {
-        let Ok(entry) = entry else {
-            continue;
-        };
-        if !is_clip(entry.file_name()) {
-            continue;
-        }
-        if let Ok(found) = fs::metadata(&rt, entry.path()) {
-            used.add(&found, Use::Clip)?;
-        }
-    }
-    Ok(())
-}
-
-/// Returns whether a file has the name of a clip.
-fn is_clip(name: &str) -> bool {
-    let name = name.as_bytes();
-    match name.len().checked_sub(CLIP_ENDING.len()) {
-        Some(at) => name[at..].eq_ignore_ascii_case(CLIP_ENDING),
-        None => false,
-    }
 }
 
 /// Makes so many doors of a group on one socket, which listens on an address. The first has the mark 1.
@@ -200,6 +157,25 @@ fn make_outs<R: Files<File = File> + Clock + Eprint + Copy + Drop>(
     Ok(outs)
 }
 
+/// Makes the output of each channel, and empties it if it is a regular file, once all are made. None of them may have the
+/// file that the history gets when it is whole.
+fn make_empty_outs<R: Files<File = File> + Clock + Eprint + Copy + Drop>(
+    rt: R,
+    alloc: Global,
+    config: &Config,
+    history: Option<&str>,
+    run: &mut RunFiles,
+) -> Result<Vec<FileSink<File, R>>, FileFault>
+    ensures { IfOk result (λ outs. map file_state outs.items ≡ map quiet_sink (range_with_len 1 (length config.now.channels))) }
+{
+    let outs = make_outs(rt, alloc, config, run)?;
+    if let Some(path) = history {
+        refuse_used(&rt, path, &run.used)?;
+    }
+    empty_all(&rt, config, &outs)?;
+    Ok(outs)
+}
+
 /// Makes the output of the history. If the path is that of a regular file, or of none yet, it is written beside it.
 fn make_history<R: Files<File = File> + Clock + Eprint + Copy + Drop>(
     rt: R,
@@ -219,7 +195,7 @@ fn make_history<R: Files<File = File> + Clock + Eprint + Copy + Drop>(
     }
 }
 
-/// Makes the file that a history is written to until it is whole.
+/// Makes the file that a history is written to until it is whole, unless another server has it.
 fn make_part<R: Files<File = File> + Clock + Eprint + Copy + Drop>(
     rt: R,
     alloc: Global,
@@ -230,11 +206,28 @@ fn make_part<R: Files<File = File> + Clock + Eprint + Copy + Drop>(
 {
     refuse_used(&rt, path, &run.used)?;
     let mut names = JournalNames::new(alloc, path)?;
-    if let Err(error) = names.keep_part(&rt) {
-        return Err(not_made(&rt, names.part(), &error));
+    let name = String::from_str(alloc, names.part())?;
+    let Ok(group) = run.group.try_clone() else {
+        return Err(FileFault::OutOfMemory);
+    };
+    let (file, found) = match names.make_part(&rt) {
+        Ok(made) => made,
+        Err(PartFault::Taken) => {
+            say_taken(&rt, names.path());
+            return Err(FileFault::Failed);
+        }
+        Err(PartFault::Failed(error)) => return Err(not_made(&rt, names.part(), &error)),
+    };
+    let sink = FileSink::new(name, Some(file), rt, 0)
+        .of_run(FileRoom::new(run.largest), group)
+        .with_names(names);
+    match run.used.add(&found, Use::Output) {
+        Ok(()) => Ok(sink),
+        Err(AllocError) => {
+            let _ = sink.finish();
+            Err(FileFault::OutOfMemory)
+        }
     }
-    let sink = make_sink(rt, alloc, names.part(), 0, run)?;
-    Ok(sink.with_names(names))
 }
 
 /// What is at the path of a history.
@@ -247,7 +240,7 @@ enum FileAt {
 }
 
 /// Returns what is at a path, and follows links.
-fn file_at<R: Files>(rt: &R, alloc: Global, path: &str) -> Result<FileAt, FileFault> {
+fn file_at<R: Files + Eprint>(rt: &R, alloc: Global, path: &str) -> Result<FileAt, FileFault> {
     if path.is_empty() {
         return Ok(FileAt::Special);
     }
@@ -256,12 +249,27 @@ fn file_at<R: Files>(rt: &R, alloc: Global, path: &str) -> Result<FileAt, FileFa
             return Ok(FileAt::Special);
         }
     }
-    match fs::symlink_metadata(rt, path) {
-        Ok(found) if found.is_symlink() => match rt.canonicalize(alloc, path) {
-            Ok(target) => Ok(FileAt::Regular(target.into_string())),
-            Err(_) => Ok(FileAt::Special),
-        },
-        _ => Ok(FileAt::Regular(String::from_str(alloc, path)?)),
+    let mut path = String::from_str(alloc, path)?;
+    for _ in 0..MOST_LINKS {
+        match fs::symlink_metadata(rt, path.as_str()) {
+            Ok(found) if found.is_symlink() => match target_of(rt, alloc, path.as_str()) {
+                Ok(target) => path = target,
+                Err(error) => return Err(not_made(rt, path.as_str(), &error)),
+            },
+            _ => return Ok(FileAt::Regular(path)),
+        }
+    }
+    Ok(FileAt::Special)
+}
+
+/// Returns the path that a link stands for, which may have nothing yet.
+fn target_of<R: Files>(rt: &R, alloc: Global, link: &str) -> io::Result<String> {
+    let target = rt.read_link(alloc, link)?.into_string();
+    match link.rsplit_once('/') {
+        Some((folder, _)) if !target.as_str().starts_with('/') => {
+            Ok(format!(in alloc; "{folder}/{}", target.as_str())?)
+        }
+        _ => Ok(target),
     }
 }
 

@@ -1,12 +1,16 @@
 //! What the doors on one listening socket share.
 use crate::pace::Pace;
+use crate::place::{BUSY, FREE, Place};
 use std::alloc::Global;
-use std::io;
+use std::io::{self, Error, ErrorKind};
 use std::sync::Arc;
-use std::sync::atomic::{AtomicU64, Ordering};
+use std::sync::atomic::{AtomicU64, AtomicUsize, Ordering};
 
-/// The doors on one listening socket, and the links that came from them: how many doors are free, how many calls are under
-/// way, and how often failures are said.
+/// Why a door gets no place.
+const FULL: &str = "each place of the group has a door";
+
+/// The doors on one listening socket, and the links that came from them: which places are free and whose clients are silent, how
+/// many calls are under way, and how often failures are said.
 #[derive(Drop)]
 pub struct DoorGroup {
     shared: Arc<Shared, Global>,
@@ -14,25 +18,55 @@ pub struct DoorGroup {
 
 #[derive(Drop)]
 struct Shared {
-    free: AtomicU64,
+    places: Vec<AtomicU64>,
+    /// How many places were given to doors.
+    given: AtomicUsize,
     calls: AtomicU64,
     clients: Pace,
     socket: Pace,
 }
 
 impl DoorGroup {
-    /// Returns a group without doors. If memory ran out the error says so.
-    pub fn new(alloc: Global) -> io::Result<DoorGroup> {
+    /// Returns a group with room for this many doors. If memory ran out the error says so.
+    pub fn new(alloc: Global, doors: u32) -> io::Result<DoorGroup> {
+        let mut places = Vec::with_capacity(alloc, doors as usize)?;
+        for _ in 0..doors {
+            places.push(AtomicU64::new(BUSY))?;
+        }
         let shared = Arc::new(
             alloc,
             Shared {
-                free: AtomicU64::new(0),
+                places,
+                given: AtomicUsize::new(0),
                 calls: AtomicU64::new(0),
                 clients: Pace::new(),
                 socket: Pace::new(),
             },
         )?;
         Ok(DoorGroup { shared })
+    }
+
+    /// Returns the next place, for one more door. It is not free before the door waits for a connection. It fails if each has a door,
+    /// and takes no memory.
+    pub fn place(&self) -> io::Result<Place> {
+        let at = self.shared.given.fetch_add(1, Ordering::SeqCst);
+        if at >= self.shared.places.len() {
+            return Err(Error::new(ErrorKind::InvalidInput, FULL));
+        }
+        Ok(Place::new(self.try_clone()?, at))
+    }
+
+    /// Returns how many places are free.
+    pub fn free(&self) -> usize {
+        let places = self.shared.places.iter();
+        places
+            .filter(|place| place.load(Ordering::SeqCst) == FREE)
+            .count()
+    }
+
+    /// Returns the states of the places.
+    pub(crate) fn places(&self) -> &[AtomicU64] {
+        self.shared.places.as_slice()
     }
 
     /// Returns the same group, for one more door or link. It takes no memory.
@@ -65,29 +99,5 @@ impl DoorGroup {
     /// the run ends.
     pub(crate) fn is_quiet(&self) -> bool {
         self.shared.calls.load(Ordering::SeqCst) == 0
-    }
-
-    /// Counts a door that waits for a connection.
-    pub(crate) fn add_free(&self) {
-        self.shared.free.fetch_add(1, Ordering::SeqCst);
-    }
-
-    /// Counts a door less, which took a connection.
-    pub(crate) fn take_free(&self) {
-        self.shared.free.fetch_sub(1, Ordering::SeqCst);
-    }
-
-    /// Returns how many doors wait for a connection.
-    pub(crate) fn free(&self) -> u64 {
-        self.shared.free.load(Ordering::SeqCst)
-    }
-
-    /// Counts the door of a link that is about to end as free, if no door is. Returns whether it did, which only one of
-    /// several links can do at once.
-    pub(crate) fn frees_first(&self) -> bool {
-        self.shared
-            .free
-            .compare_exchange(0, 1, Ordering::SeqCst, Ordering::SeqCst)
-            .is_ok()
     }
 }

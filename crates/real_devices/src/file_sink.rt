@@ -9,7 +9,7 @@ use crate::door_group::DoorGroup;
 use crate::file_limit::FileRoom;
 use crate::journal_names::JournalNames;
 use crate::output::Output;
-use play_outside::{Sink, WriteStep};
+use play_outside::{FileFault, Sink, WriteStep};
 use std::fs::File;
 use std::io::{self, Eprint, Write};
 use std::rt::Files;
@@ -70,40 +70,54 @@ impl<W: Write + Drop, E: Clock + Eprint + Drop> FileSink<W, E> {
     pub(crate) fn file(&self) -> Option<&W> {
         self.file.as_ref()
     }
+
+    /// Returns the path of a file that gets another name when it is whole.
+    pub(crate) fn path_when_whole(&self) -> Option<&str> {
+        self.names.as_ref().map(|names| names.path())
+    }
 }
 
 impl<R: Files<File = File> + Clock + Eprint + Drop> FileSink<File, R> {
     /// Ends the writing of a file that gets another name when it is whole: gives it the name if something was written and no
-    /// write failed. If nothing was written, it is removed. Else it keeps its name, and standard error says so.
-    pub(crate) fn finish(self) {
+    /// write failed. If nothing was written, it is removed. Else it keeps its name, standard error says so, and `Failed` is
+    /// returned.
+    pub(crate) fn finish(self) -> Result<(), FileFault> {
         let (Some(file), Some(names)) = (self.file, self.names) else {
-            return;
+            return Ok(());
         };
         let mut names = names;
         let rt = self.output.errors();
         if self.faults > 0 {
             names.say_stays(rt, &"the history is not whole");
-            return;
+            return Err(FileFault::Failed);
         }
         match settle(rt, &file, &mut names) {
-            Ok(()) => {}
-            Err(error) => names.say_stays(rt, &error),
+            Ok(true) => Ok(()),
+            Ok(false) => Err(FileFault::Failed),
+            Err(error) => {
+                names.say_stays(rt, &error);
+                Err(FileFault::Failed)
+            }
         }
     }
 }
 
-/// Gives a file without a failed write its name, or removes it if nothing was written.
+/// Gives a file without a failed write its name, or removes it if nothing was written. Returns whether it was still there.
 fn settle<R: Files<File = File> + Eprint>(
     rt: &R,
     file: &File,
     names: &mut JournalNames,
-) -> io::Result<()> {
+) -> io::Result<bool> {
+    if !names.are_of(rt, file)? {
+        return Ok(false);
+    }
     if file.metadata()?.len() == 0 {
-        names.remove(rt);
-        return Ok(());
+        names.remove(rt)?;
+        return Ok(true);
     }
     file.sync_all()?;
-    names.give(rt)
+    names.give(rt)?;
+    Ok(true)
 }
 
 impl<W: Write + Drop, E: Clock + Eprint + Drop> Sink for FileSink<W, E> {

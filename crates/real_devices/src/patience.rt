@@ -1,7 +1,7 @@
 //! Writes that are tried again.
 ghost use Rattle.std.specs.Prelude.{◌≡◌, ◌↔◌, ◌-◌, ◌<◌, ◌≤◌, length, take, IfOk, IsTrue, MatchResult};
 ghost use Rattle.std.specs.Io.KnownBytes.{Appends, Keeps};
-ghost use Rattle.real_devices.specs.inner.Patience.{after_write};
+ghost use Rattle.real_devices.specs.inner.Patience.{Counts, Restores};
 
 use std::io::{self, Error, ErrorKind, Write};
 
@@ -46,12 +46,19 @@ impl Patience {
 
     /// Counts a write of `asked` bytes that took `count` of them.
     pub(crate) fn count(&mut self, count: usize, asked: usize)
-        ensures { self.new ≡ after_write count asked self.old }
+        ensures { Counts count asked self.old self.new }
+    {
+        self.restore(count);
+        self.waits = self.waits.saturating_sub(u32::from(count < asked));
+    }
+
+    /// Gives waits back for bytes that were taken.
+    fn restore(&mut self, count: usize)
+        ensures { Restores count self.old self.new }
     {
         let taken = u128::from(self.taken) + count as u128;
         let restored = u128::from(RESTORED_WAITS) * (taken / u128::from(RESTORING_BYTES));
-        let waits = (u128::from(self.waits) + restored).min(u128::from(WRITE_WAITS)) as u32;
-        self.waits = waits.saturating_sub(u32::from(count < asked));
+        self.waits = (u128::from(self.waits) + restored).min(u128::from(WRITE_WAITS)) as u32;
         self.taken = (taken % u128::from(RESTORING_BYTES)) as u32;
     }
 

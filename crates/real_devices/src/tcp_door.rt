@@ -9,6 +9,7 @@ ghost use Rattle.real_devices.specs.inner.Accepting.{HasFailed};
 
 use crate::complaint::{complain, complain_of_client, complain_of_socket, say_left_out};
 use crate::door_group::DoorGroup;
+use crate::place::Place;
 use crate::tcp_link::{TcpLink, is_pause};
 use play_outside::{Arrival, Listener};
 use std::io::{self, Eprint, ErrorKind};
@@ -38,9 +39,7 @@ const NOT_A_SOCKET: i32 = 88;
 pub struct TcpDoor<R> {
     listener: TcpListener,
     rt: R,
-    group: DoorGroup,
-    /// Whether the door is counted as free.
-    is_free: bool,
+    place: Place,
     away: u32,
     faults: u64,
     idles: u64,
@@ -48,8 +47,8 @@ pub struct TcpDoor<R> {
 }
 
 impl<R: Clock + Eprint + Copy + Drop> TcpDoor<R> {
-    /// Takes a listening socket, in whose calls it waits for half a second from then on. The door is of this group,
-    /// in which all doors of the socket are. It has this mark, and no call of it was made yet. An error of the system is
+    /// Takes a listening socket, in whose calls it waits for a second from then on. The door takes a place of this
+    /// group, in which all doors of the socket are. It has this mark, and no call of it was made yet. An error of the system is
     /// handed on.
     pub fn new(listener: TcpListener, rt: R, group: DoorGroup, mark: u64) -> io::Result<TcpDoor<R>>
         ensures { IfOk result (λ door. door_state door ≡ quiet_door mark) }
@@ -59,8 +58,7 @@ impl<R: Clock + Eprint + Copy + Drop> TcpDoor<R> {
         Ok(TcpDoor {
             listener,
             rt,
-            group,
-            is_free: false,
+            place: group.place()?,
             away: 0,
             faults: 0,
             idles: 0,
@@ -75,26 +73,12 @@ impl<R: Clock + Eprint + Copy + Drop> TcpDoor<R> {
 
     /// Says how many lines about the doors of the group and their connections were left out since the last ones.
     pub fn say_left_out(&self) {
-        say_left_out(&self.rt, "connections", self.group.clients().take());
-        say_left_out(&self.rt, "listening socket", self.group.socket().take());
-    }
-
-    /// Counts the door as free if it is not.
-    fn be_free(&mut self)
-        ensures { door_state self.new ≡ door_state self.old }
-    {
-        if !self.is_free {
-            self.is_free = true;
-            self.group.add_free();
-        }
-    }
-
-    /// Counts the door as free no longer.
-    fn be_taken(&mut self)
-        ensures { door_state self.new ≡ door_state self.old }
-    {
-        self.is_free = false;
-        self.group.take_free();
+        say_left_out(&self.rt, "connections", self.place.group().clients().take());
+        say_left_out(
+            &self.rt,
+            "listening socket",
+            self.place.group().socket().take(),
+        );
     }
 
     /// Makes a link of a connection that was accepted, unless its client has reset it since.
@@ -104,25 +88,24 @@ impl<R: Clock + Eprint + Copy + Drop> TcpDoor<R> {
         if let Some(error) = stream.take_error()? {
             return Err(error);
         }
-        TcpLink::new(stream, client, self.rt, self.group.try_clone()?, self.mark)
+        TcpLink::new(stream, client, self.rt, self.place.try_clone()?, self.mark)
     }
 
-    /// Takes a connection that waits, if one comes in half a second.
+    /// Takes a connection that waits, if one comes within a second. The door is free until its link is made.
     fn look(&mut self) -> Arrival<TcpLink<TcpStream, R>>
         requires { self.old.away < MOST_AWAY }
         ensures arrives { Arrives result (door_state self.old) (door_state self.new) }
         ensures fresh { IfCame result (λ line. link_state line ≡ quiet_sink self.old.mark) }
     {
-        self.be_free();
+        self.place.be_free();
         match self.listener.accept() {
             Ok((stream, client)) => match self.link(stream, client) {
                 Ok(line) => {
-                    self.be_taken();
                     self.away += 1;
                     Arrival::Came(line)
                 }
                 Err(error) => {
-                    complain_of_client(&self.rt, self.group.clients(), &client, &error);
+                    complain_of_client(&self.rt, self.place.group().clients(), &client, &error);
                     self.idles = self.idles.saturating_add(1);
                     Arrival::Again
                 }
@@ -145,7 +128,7 @@ impl<R: Clock + Eprint + Copy + Drop> TcpDoor<R> {
         if is_pause(error.kind()) || is_of_client(error.kind()) {
             return;
         }
-        complain_of_socket(&self.rt, self.group.socket(), error);
+        complain_of_socket(&self.rt, self.place.group().socket(), error);
         thread::sleep(&self.rt, Duration::from_millis(PAUSE_MILLIS));
     }
 }
@@ -155,25 +138,22 @@ impl<R: Clock + Eprint + Copy + Drop + Send> Listener for TcpDoor<R> {
 
     ghost state = { door_state };
 
-    /// Takes a connection that waits. If none comes in half a second there is none yet. Nor is there one if the
+    /// Takes a connection that waits. If none comes within a second there is none yet. Nor is there one if the
     /// client has ended it before it was taken, or the system is short of something that may come back.
     fn next(&mut self) -> Arrival<TcpLink<TcpStream, R>> {
-        self.group.begin_call();
+        self.place.group().begin_call();
         let arrival = self.look();
-        self.group.end_call();
+        self.place.group().end_call();
         arrival
     }
 
     /// Closes the connection. The door is free from then on.
     fn give_back(&mut self, line: TcpLink<TcpStream, R>) {
-        self.group.begin_call();
-        if line.has_freed() {
-            self.is_free = true;
-        }
-        self.be_free();
+        self.place.group().begin_call();
+        self.place.be_free();
         line.close(&self.rt);
         self.away -= 1;
-        self.group.end_call();
+        self.place.group().end_call();
     }
 }
 

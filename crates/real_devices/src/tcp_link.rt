@@ -1,15 +1,16 @@
 //! A connection over TCP.
-ghost use Rattle.std.specs.Prelude.{◌≡◌, ◌<◌, IfOk, length};
+ghost use Rattle.std.specs.Prelude.{◌≡◌, ◌<◌, ℕ, List, IfOk, length};
 ghost use Rattle.play_outside.specs.Sink.{Writes};
 ghost use Rattle.play_outside.specs.Link.{LinkReads, after_failed_read, after_idle};
 ghost use Rattle.real_devices.specs.Fresh.{quiet_sink};
-ghost use Rattle.real_devices.specs.State.{link_state, stream_of};
+ghost use Rattle.real_devices.specs.State.{held_of, link_state, stream_of, unread_by};
 ghost use Rattle.real_devices.specs.Stream.{AddsTo, GivesFrom};
 
 use crate::complaint::complain_of_client;
-use crate::door_group::DoorGroup;
+use crate::held_bytes::HeldBytes;
 use crate::patience::{Patience, write_some};
-use crate::watch::Watch;
+use crate::place::{Place, Seat};
+use crate::watch::{Watch, moment};
 use play_outside::{Link, LinkStep, Sink, WriteStep};
 use std::io::{self, Eprint, Error, ErrorKind, Read, Write};
 use std::net::{OpenStream, Shutdown, SocketAddr};
@@ -29,7 +30,7 @@ const FAREWELL_PIECES: u32 = 256;
 const SLOW: &str = "kept its replies waiting for ten seconds";
 
 /// Why a connection is ended for another client.
-const SILENT: &str = "said nothing for ten minutes while no connection was free";
+const SILENT: &str = "said no command for ten minutes while no connection was free";
 
 /// A connection to a client. It says on standard error why a call failed. It does not tell what was read or taken.
 #[derive(Drop)]
@@ -37,25 +38,26 @@ pub struct TcpLink<S, R> {
     stream: S,
     client: SocketAddr,
     rt: R,
-    group: DoorGroup,
-    /// How long the replies since the last read may still wait.
+    seat: Seat,
+    /// What was read and not handed on yet.
+    held: HeldBytes,
+    /// How long the replies to what was read last may still wait.
     patience: Patience,
     watch: Watch,
-    /// Whether the door of this connection is counted as free already.
-    freed: bool,
     faults: u64,
     idles: u64,
     mark: u64,
 }
 
 impl<S: Read + Write + OpenStream + Drop, R: Clock + Eprint + Drop> TcpLink<S, R> {
-    /// Takes a connection, whose calls wait for the client a tenth of a second each. It came from a door of this group. The
-    /// link has this mark, and no call of it was made yet. An error of the system is handed on.
+    /// Takes a connection, whose calls wait for the client a tenth of a second each. It takes this place, which is
+    /// free no longer. The link has this mark, and no call of it was made yet. An error of the system is handed on, and leaves the place
+    /// as it is.
     pub fn new(
         stream: S,
         client: SocketAddr,
         rt: R,
-        group: DoorGroup,
+        place: Place,
         mark: u64,
     ) -> io::Result<TcpLink<S, R>>
         ensures { IfOk result (λ link. link_state link ≡ quiet_sink mark) }
@@ -64,15 +66,15 @@ impl<S: Read + Write + OpenStream + Drop, R: Clock + Eprint + Drop> TcpLink<S, R
         let wait = Some(Duration::from_millis(WAIT_MILLIS));
         stream.set_read_timeout(wait)?;
         stream.set_write_timeout(wait)?;
-        let watch = Watch::begin(Instant::now(&rt)?);
+        let now = moment(&rt)?;
         Ok(TcpLink {
             stream,
             client,
             rt,
-            group,
+            seat: Seat::take(place, now),
+            held: HeldBytes::new(),
             patience: Patience::CLIENT,
-            watch,
-            freed: false,
+            watch: Watch::begin(now),
             faults: 0,
             idles: 0,
             mark,
@@ -88,33 +90,54 @@ impl<S: Read + Write + OpenStream + Drop, R: Clock + Eprint + Drop> TcpLink<S, R
         }
     }
 
-    /// Returns whether the door of this connection is counted as free already.
-    pub(crate) fn has_freed(&self) -> bool {
-        self.freed
-    }
-
     /// Notes that nothing has come yet.
-    fn find_nothing(&mut self, now: Instant) -> LinkStep
+    fn find_nothing(&mut self, now: u64) -> LinkStep
         ensures again { result ≡ LinkStep.Again }
         ensures state { link_state self.new ≡ after_idle (link_state self.old) }
         ensures stream { stream_of self.new ≡ stream_of self.old }
+        ensures held { held_of self.new ≡ held_of self.old }
     {
         self.watch.look(now);
         self.idles = self.idles.saturating_add(1);
         LinkStep::Again
     }
 
-    /// Ends the connection if its client was silent for long and no other door is free: returns why it failed then.
-    fn give_way(&mut self, now: Instant) -> Option<Error>
+    /// Finds nothing; or fails, if the client has said no command for ten minutes, no place is free, and no other client has said
+    /// none for longer.
+    fn rest(&mut self, now: u64) -> LinkStep
+        ensures reads { (buffer : List ℕ) → LinkReads result buffer (link_state self.old) (link_state self.new) }
+        ensures stream { (buffer : List ℕ)
+            → GivesFrom result buffer (unread_by S.remaining self.old) (unread_by S.remaining self.new) }
+    {
+        if self.watch.is_silent(now) && self.seat.gives_way(self.watch.spoke()) {
+            self.fail(&Error::new(ErrorKind::TimedOut, SILENT));
+            return LinkStep::Failed;
+        }
+        self.find_nothing(now)
+    }
+
+    /// Makes a read that does not look at the stream. If the last read brought a command, more may wait.
+    fn pass_over(&mut self, now: u64) -> LinkStep
+        ensures reads { (buffer : List ℕ) → LinkReads result buffer (link_state self.old) (link_state self.new) }
+        ensures stream { (buffer : List ℕ)
+            → GivesFrom result buffer (unread_by S.remaining self.old) (unread_by S.remaining self.new) }
+    {
+        if self.watch.has_asked() {
+            return self.find_nothing(now);
+        }
+        self.rest(now)
+    }
+
+    /// Notes what was read of the stream. While a command is being answered its client is not silent.
+    fn hear(&mut self, now: u64)
         ensures state { link_state self.new ≡ link_state self.old }
         ensures stream { stream_of self.new ≡ stream_of self.old }
+        ensures held { held_of self.new ≡ held_of self.old }
     {
-        let must_go = self.watch.must_go(now, self.group.free());
-        if must_go && self.group.frees_first() {
-            self.freed = true;
-            return Some(Error::new(ErrorKind::TimedOut, SILENT));
+        self.watch.hear(self.held.as_slice(), now);
+        if self.watch.has_asked() {
+            self.seat.be_busy();
         }
-        None
     }
 
     /// Writes a prefix of the piece, if the patience allows.
@@ -144,35 +167,34 @@ impl<S: Read + Write + OpenStream + Drop, R: Clock + Eprint + Drop> TcpLink<S, R
     }
 
     /// Reads what has come, or finds that nothing has.
+    #[tactic(auto, using(crate::proofs::Held::held_at_end))]
     fn look(&mut self, buf: &mut [u8]) -> LinkStep
         requires { 0 < length buf.old }
         ensures reads { LinkReads result buf.new (link_state self.old) (link_state self.new) }
-        ensures stream { GivesFrom result buf.new (S.remaining (stream_of self.old)) (S.remaining (stream_of self.new)) }
+        ensures stream { GivesFrom result buf.new (unread_by S.remaining self.old) (unread_by S.remaining self.new) }
     {
-        self.patience = Patience::CLIENT;
-        let now = match Instant::now(&self.rt) {
+        let now = match moment(&self.rt) {
             Ok(now) => now,
             Err(error) => {
                 self.fail(&error);
                 return LinkStep::Failed;
             }
         };
+        self.seat.be_silent(self.watch.spoke());
         if self.watch.is_look_due(now) {
-            return self.find_nothing(now);
+            return self.pass_over(now);
         }
-        match self.stream.read(buf) {
+        if !self.held.is_empty() {
+            return self.hand_on(buf);
+        }
+        self.patience = Patience::CLIENT;
+        match self.held.fill(&mut self.stream) {
             Ok(0) => LinkStep::End,
-            Ok(count) => {
-                self.watch.hear(now);
-                LinkStep::Got(count)
+            Ok(_) => {
+                self.hear(now);
+                self.hand_on(buf)
             }
-            Err(error) if is_pause(error.kind()) => match self.give_way(now) {
-                None => self.find_nothing(now),
-                Some(error) => {
-                    self.fail(&error);
-                    LinkStep::Failed
-                }
-            },
+            Err(error) if is_pause(error.kind()) => self.rest(now),
             Err(error) => {
                 self.fail(&error);
                 LinkStep::Failed
@@ -180,12 +202,23 @@ impl<S: Read + Write + OpenStream + Drop, R: Clock + Eprint + Drop> TcpLink<S, R
         }
     }
 
+    /// Hands on the first line of what is held.
+    fn hand_on(&mut self, buf: &mut [u8]) -> LinkStep
+        requires room { 0 < length buf.old }
+        requires some { 0 < length (held_of self.old) }
+        ensures reads { LinkReads result buf.new (link_state self.old) (link_state self.new) }
+        ensures stream { GivesFrom result buf.new (unread_by S.remaining self.old) (unread_by S.remaining self.new) }
+    {
+        LinkStep::Got(self.held.give_line(buf))
+    }
+
     /// Counts a failed call, and says why it failed.
     fn fail(&mut self, error: &Error)
         ensures state { link_state self.new ≡ after_failed_read (link_state self.old) }
         ensures stream { stream_of self.new ≡ stream_of self.old }
+        ensures held { held_of self.new ≡ held_of self.old }
     {
-        complain_of_client(&self.rt, self.group.clients(), &self.client, error);
+        complain_of_client(&self.rt, self.seat.group().clients(), &self.client, error);
         self.faults = self.faults.saturating_add(1);
     }
 }
@@ -229,26 +262,27 @@ impl<S: Read + Write + OpenStream + Drop, R: Clock + Eprint + Drop> Sink for Tcp
         ensures writes { Writes result piece.now (link_state self.old) (link_state self.new) }
         ensures stream { AddsTo result piece.now (S.contents (stream_of self.old)) (S.contents (stream_of self.new)) }
     {
-        self.group.begin_call();
+        self.seat.group().begin_call();
         let step = self.send(piece);
-        self.group.end_call();
+        self.seat.group().end_call();
         step
     }
 }
 
 impl<S: Read + Write + OpenStream + Drop + Send, R: Clock + Eprint + Drop + Send> Link
     for TcpLink<S, R> {
-    /// Reads what has come, and waits a tenth of a second if nothing has. A wait that ends and an interruption are no
-    /// failure. Once a second it says that nothing has come yet without a look at the stream. If the client was silent for
-    /// ten minutes and no door is free, the read fails.
+    /// Reads the next line of what has come, or the beginning of one that has not ended, and waits a tenth of a second if nothing has. A wait that ends and an interruption are no
+    /// failure. Once a second it says that nothing has come yet without a look at the stream. If the client has said no command for
+    /// `SILENT_SECONDS`, no place is free, and no other client has said none for longer, the read fails: where it finds nothing, or
+    /// where it does not look at the stream and the last read brought no command.
     fn read(&mut self, buf: &mut [u8]) -> LinkStep
         requires { 0 < length buf.old }
         ensures reads { LinkReads result buf.new (link_state self.old) (link_state self.new) }
-        ensures stream { GivesFrom result buf.new (S.remaining (stream_of self.old)) (S.remaining (stream_of self.new)) }
+        ensures stream { GivesFrom result buf.new (unread_by S.remaining self.old) (unread_by S.remaining self.new) }
     {
-        self.group.begin_call();
+        self.seat.group().begin_call();
         let step = self.look(buf);
-        self.group.end_call();
+        self.seat.group().end_call();
         step
     }
 }

@@ -4,7 +4,7 @@ use play_types::Config;
 use std::alloc::{AllocError, Global};
 use std::io::Eprint;
 use std::sync::Arc;
-use std::sync::atomic::{AtomicBool, Ordering};
+use std::sync::atomic::{AtomicBool, AtomicUsize, Ordering};
 use std::thread::{self, Builder, Threads};
 
 /// How often a thread of a trial looks whether it may end, before it ends anyway.
@@ -29,33 +29,49 @@ pub fn try_threads<R: Threads + Eprint>(
     Ok(())
 }
 
-/// Starts this many threads, all beside one another, and ends them. Returns how many could be started.
-fn start_threads<R: Threads>(rt: &R, alloc: Global, count: u32) -> Result<usize, AllocError> {
-    let over = Arc::new(alloc, AtomicBool::new(false))?;
+/// What the threads of a trial share.
+#[derive(Drop)]
+struct Trial {
+    /// How many threads have begun.
+    begun: AtomicUsize,
+    is_over: AtomicBool,
+}
+
+/// Starts this many threads, all beside one another, and ends them. Returns how many could be started, as they counted themselves.
+pub fn start_threads<R: Threads>(rt: &R, alloc: Global, count: u32) -> Result<usize, AllocError> {
+    let trial = Arc::new(
+        alloc,
+        Trial {
+            begun: AtomicUsize::new(0),
+            is_over: AtomicBool::new(false),
+        },
+    )?;
     let mut handles = Vec::with_capacity(alloc, count as usize)?;
     for _ in 0..count {
-        let theirs = Arc::try_clone(&over)?;
-        let Ok(handle) = Builder::new().spawn(rt, move || wait_until(&theirs)) else {
+        let theirs = Arc::try_clone(&trial)?;
+        let Ok(handle) = Builder::new().spawn(rt, move || theirs.wait()) else {
             break;
         };
         let Ok(()) = handles.push(handle) else {
             break;
         };
     }
-    over.store(true, Ordering::SeqCst);
-    let started = handles.len();
+    trial.is_over.store(true, Ordering::SeqCst);
     for handle in handles {
         handle.join(rt);
     }
-    Ok(started)
+    Ok(trial.begun.load(Ordering::SeqCst))
 }
 
-/// Waits until the trial is over.
-fn wait_until(over: &AtomicBool) {
-    for _ in 0..LOOKS {
-        if over.load(Ordering::SeqCst) {
-            return;
+impl Trial {
+    /// Counts a thread, and waits until the trial is over.
+    fn wait(&self) {
+        self.begun.fetch_add(1, Ordering::SeqCst);
+        for _ in 0..LOOKS {
+            if self.is_over.load(Ordering::SeqCst) {
+                return;
+            }
+            thread::yield_now();
         }
-        thread::yield_now();
     }
 }

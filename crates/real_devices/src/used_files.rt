@@ -1,8 +1,14 @@
 //! Which files have a use already.
+use play_outside::FileFault;
+use play_types::Config;
 use std::alloc::{AllocError, Global};
 use std::fmt::{self, Display, Formatter, Write};
-use std::fs::Metadata;
+use std::fs::{self, File, Metadata};
 use std::os::unix::fs::{FileTypeExt, MetadataExt};
+use std::rt::Files;
+
+/// How the name of a clip's file ends, in upper or lower case.
+const CLIP_ENDING: &[u8] = b".rclp";
 
 /// What a file is used for.
 #[derive(Clone, Copy, Debug, PartialEq, Eq)]
@@ -24,6 +30,11 @@ impl Display for Use {
             Use::Output => f.write_str("more than one output has this file"),
         }
     }
+}
+
+/// Returns whether two answers of the system are of one file.
+pub(crate) fn is_same_file(one: &Metadata, other: &Metadata) -> bool {
+    one.dev() == other.dev() && one.ino() == other.ino()
 }
 
 /// A file of the system, by the device that it is on and its number there. All paths and links to it have the same.
@@ -72,5 +83,55 @@ impl UsedFiles {
             }
         }
         None
+    }
+}
+
+/// Returns the files that no output may have: the configuration and the clips of its media folder, as far as the system
+/// tells them.
+pub(crate) fn files_in_use<R: Files<File = File> + AllocGlobal + Copy + Drop>(
+    rt: R,
+    alloc: Global,
+    config: &Config,
+    source: Option<&str>,
+) -> Result<UsedFiles, FileFault> {
+    let mut used = UsedFiles::new(alloc);
+    if let Some(source) = source {
+        if let Ok(found) = fs::metadata(&rt, source) {
+            used.add(&found, Use::Config)?;
+        }
+    }
+    add_clips(rt, config.media().as_str(), &mut used)?;
+    Ok(used)
+}
+
+/// Adds the clips of a folder.
+fn add_clips<R: Files<File = File> + AllocGlobal + Copy + Drop>(
+    rt: R,
+    folder: &str,
+    used: &mut UsedFiles,
+) -> Result<(), FileFault> {
+    let Ok(entries) = fs::read_dir(&rt, folder) else {
+        return Ok(());
+    };
+    for entry in entries {
+        let Ok(entry) = entry else {
+            continue;
+        };
+        if !is_clip(entry.file_name()) {
+            continue;
+        }
+        if let Ok(found) = fs::metadata(&rt, entry.path()) {
+            used.add(&found, Use::Clip)?;
+        }
+    }
+    Ok(())
+}
+
+/// Returns whether a file has the name of a clip.
+fn is_clip(name: &str) -> bool {
+    let name = name.as_bytes();
+    match name.len().checked_sub(CLIP_ENDING.len()) {
+        Some(at) => name[at..].eq_ignore_ascii_case(CLIP_ENDING),
+        None => false,
     }
 }

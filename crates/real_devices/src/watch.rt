@@ -1,60 +1,92 @@
-//! When a connection was last heard and left alone.
-ghost use Rattle.std.specs.Prelude.{◌≡◌, ◌↔◌, IsTrue};
-ghost use Rattle.std.specs.Time.{instant_nanos};
-ghost use Rattle.real_devices.specs.inner.Watch.{IsLookDue, MustGo};
+//! When a connection was last left alone, and since when its client has said no command.
+ghost use Rattle.std.specs.Prelude.{◌≡◌, ◌↔◌, IsTrue, false};
+ghost use Rattle.real_devices.specs.inner.Watch.{IsLookDue, IsSilent, heard};
 
-use std::time::{Duration, Instant};
+use crate::open_line::OpenLine;
+use std::io;
+use std::time::Clock;
 
 /// After how many seconds of reads that gave bytes a read says that nothing has come yet, so that its caller looks at
 /// what else there is.
 const LOOK_SECONDS: u64 = 1;
 
-/// After how many seconds without a byte of its client a connection may be ended if no door is free.
+/// After how many seconds without a command of its client a connection may be ended if no place is free.
 pub const SILENT_SECONDS: u64 = 600;
 
-/// When a connection last said that nothing has come yet, and when its client was last heard.
+const NANOS_PER_SECOND: u64 = 1_000_000_000;
+
+/// When a connection last said that nothing has come yet, and when its client last said a command: when a line of it that
+/// has a word ended. Moments are nanoseconds of one clock.
 #[derive(Clone, Copy)]
 pub(crate) struct Watch {
-    looked: Instant,
-    heard: Instant,
+    looked: u64,
+    spoke: u64,
+    line: OpenLine,
+    /// Whether the last read brought a command.
+    has_asked: bool,
 }
 
 impl Watch {
-    /// Begins now.
-    pub(crate) fn begin(now: Instant) -> Watch
-        ensures { result ≡ record { looked = now; heard = now } }
+    /// Begins now, as if the client had just said a command and got its reply.
+    pub(crate) fn begin(now: u64) -> Watch
+        ensures { result ≡ record { looked = now; spoke = now; line = record { has_word = false }; has_asked = false } }
     {
         Watch {
             looked: now,
-            heard: now,
+            spoke: now,
+            line: OpenLine::new(),
+            has_asked: false,
         }
     }
 
-    /// Notes that the client was heard.
-    pub(crate) fn hear(&mut self, now: Instant)
-        ensures { self.new ≡ record self.old { heard = now } }
+    /// Notes which bytes a read gave.
+    pub(crate) fn hear(&mut self, bytes: &[u8], now: u64)
+        ensures { self.new ≡ heard bytes.now now self.old }
     {
-        self.heard = now;
+        self.has_asked = self.line.take(bytes);
+        if self.has_asked {
+            self.spoke = now;
+        }
     }
 
     /// Notes that nothing has come yet.
-    pub(crate) fn look(&mut self, now: Instant)
+    pub(crate) fn look(&mut self, now: u64)
         ensures { self.new ≡ record self.old { looked = now } }
     {
         self.looked = now;
     }
 
-    /// Returns whether it is a second or longer since nothing had come.
-    pub(crate) fn is_look_due(&self, now: Instant) -> bool
-        ensures { IsTrue result ↔ IsLookDue self.now now }
+    /// Returns whether the last read brought a command.
+    pub(crate) fn has_asked(&self) -> bool
+        ensures { result ≡ self.now.has_asked }
     {
-        now.duration_since(self.looked) >= Duration::from_secs(LOOK_SECONDS)
+        self.has_asked
     }
 
-    /// Returns whether the client was silent for so long that it must go, with so many doors free.
-    pub(crate) fn must_go(&self, now: Instant, free: u64) -> bool
-        ensures { IsTrue result ↔ MustGo self.now now free }
+    /// Returns when the client last said a command.
+    pub(crate) fn spoke(&self) -> u64
+        ensures { result ≡ self.now.spoke }
     {
-        free == 0 && now.duration_since(self.heard) >= Duration::from_secs(SILENT_SECONDS)
+        self.spoke
     }
+
+    /// Returns whether it is a second or longer since nothing had come.
+    pub(crate) fn is_look_due(&self, now: u64) -> bool
+        ensures { IsTrue result ↔ IsLookDue self.now now }
+    {
+        now.saturating_sub(self.looked) >= LOOK_SECONDS * NANOS_PER_SECOND
+    }
+
+    /// Returns whether the client has said no command for so long that its connection may be ended.
+    pub(crate) fn is_silent(&self, now: u64) -> bool
+        ensures { IsTrue result ↔ IsSilent self.now now }
+    {
+        now.saturating_sub(self.spoke) >= SILENT_SECONDS * NANOS_PER_SECOND
+    }
+}
+
+/// Returns the nanoseconds of a clock, of which a word holds 584 years.
+pub(crate) fn moment<T: Clock>(time: &T) -> io::Result<u64> {
+    let since = time.monotonic()?;
+    Ok(u64::try_from(since.as_nanos()).unwrap_or(u64::MAX))
 }

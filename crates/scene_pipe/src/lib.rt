@@ -9,6 +9,7 @@
 //! Only [`ScenePipe::new`] takes memory. A side that waits sleeps until the other side has done something.
 #![tactic(auto)]
 
+pub mod examples;
 mod item;
 pub mod laws;
 mod pipe;

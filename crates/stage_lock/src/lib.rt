@@ -6,6 +6,7 @@
 //! passes are handed back, the stage comes out with that history as its journal.
 #![tactic(auto)]
 
+pub mod examples;
 mod note;
 mod pass;
 mod rule;

@@ -1,12 +1,12 @@
 //! A site in memory.
 ghost use Rattle.std.specs.Prelude.{◌≡◌, Some, None, true, false, [], refl, option_map, IfOk, MatchResult, ◌-◌, vec_len, vec_capacity};
-ghost use Rattle.play_server.specs.Site.{AreNew, AreReady, IsNotReady, Says, device_states, ready_call};
-ghost use Rattle.play_server.specs.SiteState.{after_call, after_finish};
-ghost use Rattle.play_server.specs.MemSite.{fails_next, is_ready};
+ghost use Rattle.play_server.specs.Site.{AreNew, AreReady, Finishes, IsNotReady, Says, device_states, ready_call};
+ghost use Rattle.play_server.specs.SiteState.{after_call};
+ghost use Rattle.play_server.specs.MemSite.{fails_next, finish_step, is_ready};
 
 use super::copies::{new_call, push_line};
 use super::kept_devices::KeptDevices;
-use crate::site::{ReadyCall, Site};
+use crate::site::{FinishStep, ReadyCall, Site};
 use play_outside::{Clock, Devices, FileFault, Listener, MemMedia, PlannedFaults, Sink, WriteStep};
 use play_types::Config;
 use std::alloc::{AllocError, Global};
@@ -27,7 +27,7 @@ pub struct MemSite<C: Clock, D: Listener, O: Sink> {
 
 impl<C: Clock, D: Listener, O: Sink + Send> MemSite<C, D, O> {
     /// Creates a site with this folder and these devices, and with room for `room` bytes of lines that are said. The calls
-    /// of `ready` and `say` whose numbers, counted from 1 over both, are in `fails` return `Failed`.
+    /// of `ready`, `finish` and `say` whose numbers, counted from 1 over all three, are in `fails` return `Failed`.
     ///
     /// So does each call of `ready` for another number of doors or outputs or after the devices were handed out, and each
     /// call of `say` that finds no room for the line and its line feed.
@@ -92,7 +92,7 @@ impl<C: Clock, D: Listener, O: Sink + Send> MemSite<C, D, O> {
         self.said.as_slice()
     }
 
-    /// Returns how often a call of `ready` or `say` has failed.
+    /// Returns how often a call of `ready`, `finish` or `say` has failed.
     pub fn faults(&self) -> u64
         ensures { result ≡ (⟦<MemSite<C, D, O> as Site>⟧.state self.now).faults }
     {
@@ -159,12 +159,19 @@ impl<C: Clock, D: Listener, O: Sink + Send> Site for MemSite<C, D, O> {
         }
     }
 
-    fn finish(&mut self, devices: Devices<C, D, O>)
-        ensures told { ⟦<MemSite<C, D, O> as Site>⟧.state self.new ≡ after_finish devices (⟦<MemSite<C, D, O> as Site>⟧.state self.old) }
+    fn finish(&mut self, devices: Devices<C, D, O>) -> FinishStep
+        ensures told { Finishes result devices (⟦<MemSite<C, D, O> as Site>⟧.state self.old) (⟦<MemSite<C, D, O> as Site>⟧.state self.new) }
         ensures folder { self.new.media ≡ self.old.media }
+        ensures exact { result ≡ finish_step (fails_next self.old.planned) }
     {
         self.finished = Some(devices);
         self.finishes = self.finishes.saturating_add(1);
+        if self.planned.fails_now() {
+            self.planned.raise();
+            FinishStep::Failed
+        } else {
+            FinishStep::Done
+        }
     }
 
     fn say(&mut self, line: &str) -> WriteStep {

@@ -1,10 +1,9 @@
 //! A site that never fails.
 ghost use Rattle.std.specs.Prelude.{◌≡◌, None, refl, IfOk, All, vec_len};
-ghost use Rattle.play_server.specs.Site.{AreNumbered, AreReady, IsNewDoor};
-ghost use Rattle.play_server.specs.SiteState.{after_finish};
+ghost use Rattle.play_server.specs.Site.{AreNumbered, AreReady, Finishes, IsNewDoor};
 ghost use Rattle.play_outside.specs.Fresh.{IsNewSink};
 
-use crate::site::Site;
+use crate::site::{FinishStep, Site};
 use play_outside::{
     Devices, FileFault, Listener, PlainClock, PlainDoor, PlainMedia, PlainSink, Sink, WriteStep,
 };
@@ -68,11 +67,13 @@ impl Site for PlainSite {
         })
     }
 
-    fn finish(&mut self, devices: Devices<PlainClock, PlainDoor, PlainSink>)
-        ensures told { ⟦<PlainSite as Site>⟧.state self.new ≡ after_finish devices (⟦<PlainSite as Site>⟧.state self.old) }
+    fn finish(&mut self, devices: Devices<PlainClock, PlainDoor, PlainSink>) -> FinishStep
+        ensures told { Finishes result devices (⟦<PlainSite as Site>⟧.state self.old) (⟦<PlainSite as Site>⟧.state self.new) }
         ensures folder { self.new.media ≡ self.old.media }
+        ensures done { result ≡ FinishStep.Done }
     {
         drop(devices);
+        FinishStep::Done
     }
 
     fn say(&mut self, line: &str) -> WriteStep {

@@ -19,7 +19,7 @@ struct End {
     /// The calls of the folder that fail: the first reads the configuration, the second the names of the clip files, and each
     /// further one the bytes of a clip.
     folder_fails: &'static [u64],
-    /// The calls of `ready` and `say` that fail.
+    /// The calls of `ready`, `finish` and `say` that fail.
     fails: &'static [u64],
     plan: Plan,
     status: u8,
@@ -106,7 +106,7 @@ const WHOLE_RUN: End = End {
 };
 
 // (a constant would be built anew in the test that names it)
-static ENDS: [End; 18] = [
+static ENDS: [End; 20] = [
     End {
         name: "no words",
         words: &[],
@@ -207,6 +207,22 @@ static ENDS: [End; 18] = [
     },
     End {
         name: "the history cannot be written",
+        plan: Plan {
+            history: FAILS,
+            ..PLAN
+        },
+        run: Some((&[""], &[20])),
+        ..NO_RUN
+    },
+    End {
+        name: "the history does not get its name",
+        fails: &[2],
+        run: Some((&["T 5\nX\n"], &[20])),
+        ..NO_RUN
+    },
+    End {
+        name: "neither is the history written nor does it get its name",
+        fails: &[2],
         plan: Plan {
             history: FAILS,
             ..PLAN

@@ -1,13 +1,22 @@
--- When a connection is left alone, and when it must go.
-use Rattle.std.specs.Prelude.{◌≡◌, ◌+◌, ◌≤◌, ℕ}
-use Rattle.std.specs.Time.{instant_nanos}
-use Rattle.std.specs.declared.time.Instant.{Instant}
+-- When a connection is left alone, and for how long its client has said no command.
+use Rattle.std.specs.Prelude.{◌+◌, ◌*◌, ◌≤◌, ℕ, List, if◌then◌else◌}
+use Rattle.real_devices.specs.declared.watch.TheConstants.{LOOK_SECONDS, SILENT_SECONDS}
 use Rattle.real_devices.specs.declared.watch.Watch.{Watch}
+use Rattle.real_devices.specs.inner.OpenLine.{ends_word, leaves_word}
 
--- it is a second or longer since the link last found nothing
-abbrev pub IsLookDue : Watch → Instant → Type 0
-IsLookDue watch now = instant_nanos watch.looked + 1_000_000_000 ≤ instant_nanos now
+-- at this nanosecond it is a second or longer since the link last found nothing
+abbrev pub IsLookDue : Watch → ℕ → Type 0
+IsLookDue watch now = watch.looked + LOOK_SECONDS * 1_000_000_000 ≤ now
 
--- the client said nothing for ten minutes or longer, and no door is free
-abbrev pub MustGo : Watch → Instant → ℕ → Type 0
-MustGo watch now free = (instant_nanos watch.heard + 600_000_000_000 ≤ instant_nanos now) × (free ≡ 0)
+-- at this nanosecond the client has said no command for ten minutes or longer
+abbrev pub IsSilent : Watch → ℕ → Type 0
+IsSilent watch now = watch.spoke + SILENT_SECONDS * 1_000_000_000 ≤ now
+
+-- the watch after a read that gave these bytes at this nanosecond: the client has said a command if they end a line that has a word
+abbrev pub heard : List ℕ → ℕ → Watch → Watch
+heard bytes now watch =
+    record watch {
+      spoke = if ends_word watch.line.has_word bytes then now else watch.spoke;
+      line = record { has_word = leaves_word watch.line.has_word bytes };
+      has_asked = ends_word watch.line.has_word bytes;
+    }

@@ -1,5 +1,7 @@
 //! What is said on standard error, for a person. If that cannot be written, nothing is said.
 
+use config_file::{explain, read_config};
+use std::alloc::Global;
 use std::fmt::Display;
 use std::io::Eprint;
 
@@ -17,4 +19,20 @@ pub(crate) fn complain_of_file<E: Eprint, D: Display>(
     why: &D,
 ) {
     let _ = errors.eprintln(format_args!("{program}: {folder}/{name}: {why}"));
+}
+
+/// Says why the bytes of a configuration are refused, if they are. If memory runs out for that, nothing is said.
+pub(crate) fn complain_of_config<E: Eprint>(
+    errors: &E,
+    alloc: Global,
+    program: &str,
+    path: &str,
+    bytes: &[u8],
+) {
+    let Some(fault) = read_config(alloc, bytes).err() else {
+        return;
+    };
+    if let Some(why) = explain(alloc, bytes, &fault) {
+        complain(errors, program, path, &why);
+    }
 }

@@ -3,8 +3,9 @@ ghost use Rattle.std.specs.Prelude.{◌≡◌, None};
 ghost use Rattle.play_outside.specs.Folder.{Misses};
 ghost use Rattle.host_system.specs.inner.Faults.{fault_of};
 
+use crate::clip_bytes::ClipBytes;
 use crate::clip_count::{ClipCount, Progress};
-use crate::complaint::{complain, complain_of_file};
+use crate::complaint::{complain, complain_of_config, complain_of_file};
 use crate::read_fault::ReadFault;
 use crate::unreadable::Unreadable;
 use play_outside::{FileFault, MediaDir};
@@ -14,12 +15,14 @@ use std::io::{Eprint, Error, ErrorKind, Read};
 use std::rt::Files;
 
 /// Reads configurations and media from the regular files of the system, and says on standard error which file or folder
-/// could not be read, why a file is no clip, and how many clips are read. It does not tell what it holds.
+/// could not be read, why a configuration is refused, why a file is no clip, with which file the clips have too many bytes,
+/// and how many clips are read. It does not tell what it holds.
 #[derive(Drop)]
 pub struct FolderMedia<R> {
     rt: R,
     program: &'static str,
     clips: ClipCount,
+    clip_bytes: ClipBytes,
     faults: u64,
 }
 
@@ -33,6 +36,7 @@ impl<R: Files + Eprint + AllocGlobal + Clone + Drop> FolderMedia<R> {
             rt,
             program,
             clips: ClipCount::new(progress),
+            clip_bytes: ClipBytes::new(),
             faults: 0,
         }
     }
@@ -53,10 +57,13 @@ impl<R: Files + Eprint + AllocGlobal + Clone + Drop> FolderMedia<R> {
 impl<R: Files + Eprint + AllocGlobal + Clone + Drop> MediaDir for FolderMedia<R> {
     ghost state = { λ m. record { files = None; faults = m.faults } };
 
-    /// Reads the file of a configuration.
+    /// Reads the file of a configuration. If it is refused as one, standard error says why.
     fn config(&mut self, alloc: Global, path: &str) -> Result<Vec<u8>, FileFault> {
         match read_file(&self.rt, alloc, path) {
-            Ok(bytes) => Ok(bytes),
+            Ok(bytes) => {
+                complain_of_config(&self.rt, alloc, self.program, path, bytes.as_slice());
+                Ok(bytes)
+            }
             Err(fault) => {
                 complain(&self.rt, self.program, path, &fault);
                 Err(self.missed(fault))
@@ -70,6 +77,7 @@ impl<R: Files + Eprint + AllocGlobal + Clone + Drop> MediaDir for FolderMedia<R>
             Ok(names) => {
                 self.clips
                     .begin(&self.rt, self.program, folder, names.as_slice());
+                self.clip_bytes = ClipBytes::new();
                 Ok(names)
             }
             Err(fault) => {
@@ -79,7 +87,8 @@ impl<R: Files + Eprint + AllocGlobal + Clone + Drop> MediaDir for FolderMedia<R>
         }
     }
 
-    /// Reads a file of a folder. If it is no clip, standard error says why.
+    /// Reads a file of a folder. If it is no clip, standard error says why, and if with it the clips have more bytes than all
+    /// together may have, how many.
     fn bytes(&mut self, alloc: Global, folder: &str, name: &str) -> Result<Vec<u8>, FileFault> {
         match read_file_in(&self.rt, alloc, folder, name) {
             Ok(bytes) => {
@@ -88,6 +97,10 @@ impl<R: Files + Eprint + AllocGlobal + Clone + Drop> MediaDir for FolderMedia<R>
                     complain_of_file(&self.rt, self.program, folder, name, &why);
                 }
                 self.clips.add(&self.rt, self.program, folder);
+                if let Some(sum) = self.clip_bytes.add(bytes.len()) {
+                    self.clips.end_line(&self.rt);
+                    complain_of_file(&self.rt, self.program, folder, name, &sum);
+                }
                 Ok(bytes)
             }
             Err(fault) => {

@@ -7,7 +7,7 @@ const GROUPS: u32 = 7;
 
 /// A number that is written with a comma between each three digits and the next, as `92,160,020`.
 #[derive(Clone, Copy)]
-pub(crate) struct Grouped(pub(crate) u64);
+pub struct Grouped(pub u64);
 
 impl fmt::Display for Grouped {
     fn fmt<W: fmt::Write>(&self, f: &mut fmt::Formatter<W>) -> fmt::Result {

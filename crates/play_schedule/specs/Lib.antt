@@ -1,4 +1,5 @@
 pub mod Time
+pub mod Timecode
 pub mod Line
 pub mod SheetView
 pub mod Due

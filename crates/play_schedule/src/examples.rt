@@ -4,6 +4,7 @@ ghost use Rattle.std.specs.Prelude.{◌≡◌, ◌∷◌, [], Some, None, Ok, Er
 ghost use Rattle.play_schedule.specs.declared.sheet.SheetFault.TheVariants.{Line, NoEnd};
 ghost use Rattle.play_schedule.specs.declared.line_fault.LineFault.TheVariants as fault;
 ghost use Rattle.play_schedule.specs.Worked.{fault_in, moment, says, script, second_says, sheet, tick};
+ghost use Rattle.play_schedule.specs.declared.limits.TheConstants.{MAX_COPIES, MAX_LINE_COPIES, MAX_MOMENT, MAX_SHEET_BYTES};
 
 /// A time is a whole number or a timecode, whose frame has two or three digits and is below the rate.
 pub fn times()
@@ -65,4 +66,12 @@ pub fn faults_of_lines()
     ensures cue { fault_in "AT 0 1.1 INFO" ≡ Some fault.CuePlace }
     ensures end { fault_in "END 3" ≡ Some fault.EndPlace }
     ensures comment { fault_in "# AT" ≡ None }
+{}
+
+/// The limits of a sheet, as numbers: its latest moment in ticks, the copies of all lines and of one, and its bytes.
+pub fn limits()
+    ensures moment { MAX_MOMENT ≡ 20736000 }
+    ensures copies { MAX_COPIES ≡ 1000000 }
+    ensures line_copies { MAX_LINE_COPIES ≡ 100000 }
+    ensures bytes { MAX_SHEET_BYTES ≡ 268435456 }
 {}

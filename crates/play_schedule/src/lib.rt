@@ -3,7 +3,7 @@
 //! [`read_sheet`] reads a sheet, or returns the first fault that it has. [`Sheet::steps`] orders the copies of its
 //! lines, and [`SheetSteps::next`] returns them one by one, with the ticks between them. What they return is the
 //! unfolding of the sheet: for each moment its lines, and then one tick. [`fault_at`] says of a faulty line what is wrong
-//! with it. [`parts_at`] and [`tag_of`] read the words of lines of other kinds too.
+//! with it, [`SheetSteps::place`] which line a copy has, and [`Timecode::of`] how its moment is written. [`parts_at`] and [`tag_of`] read the words of lines of other kinds too.
 //!
 //! The definitions of times, lines, sheets and unfoldings stand in `specs/`. The modules `examples` and `laws` show
 //! what they say.
@@ -22,11 +22,13 @@ mod reading_lines;
 mod sheet;
 mod steps;
 mod time;
+mod timecode;
 mod words;
 
 pub use limits::{MAX_COPIES, MAX_LINE_COPIES, MAX_MOMENT, MAX_SHEET_BYTES};
 pub use line::tag_of;
 pub use line_fault::{LineFault, fault_at};
 pub use sheet::{Sheet, SheetFault, read_sheet};
-pub use steps::{SheetStep, SheetSteps};
+pub use steps::{CuePlace, SheetStep, SheetSteps};
+pub use timecode::Timecode;
 pub use words::parts_at;

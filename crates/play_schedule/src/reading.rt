@@ -9,6 +9,8 @@ use crate::cue::Cue;
 #[derive(Drop)]
 pub struct Reading {
     pub cues: Vec<Cue>,
+    /// The number of the line of each cue, from 1.
+    pub numbers: Vec<u32>,
     /// The number of the copies of all cues.
     pub copies: u32,
     /// The latest moment of a copy, and 0 if there is none.

@@ -21,6 +21,7 @@ impl Reading {
     {
         Reading {
             cues: Vec::new(alloc),
+            numbers: Vec::new(alloc),
             copies: 0,
             latest: 0,
             ticks: None,
@@ -80,6 +81,7 @@ impl Reading {
         match self.ticks {
             Some(ticks) => Ok(Sheet {
                 cues: self.cues,
+                numbers: self.numbers,
                 ticks,
             }),
             None => Err(SheetFault::NoEnd),
@@ -114,6 +116,7 @@ impl Reading {
         let moment = first_moment(self.cues.as_slice(), line.start);
         let last = last_moment(moment, line.copies);
         let text = ByteList::new(line.text.to_vec(alloc)?);
+        self.numbers.push(self.lines.saturating_add(1))?;
         self.cues.reserve(1)?;
         self.cues.push_reserved(Cue {
             moment: moment as u32,

@@ -19,6 +19,8 @@ use std::marker::Model;
 #[derive(Debug, Drop)]
 pub struct Sheet {
     pub(crate) cues: Vec<Cue>,
+    /// The number of the line of each cue, from 1.
+    pub(crate) numbers: Vec<u32>,
     pub(crate) ticks: u32,
 }
 

@@ -20,10 +20,20 @@ pub enum SheetStep {
     Line(Tag, ByteList),
 }
 
+/// Where a copy of a cue line stands.
+#[derive(Clone, Copy, Debug, PartialEq, Eq)]
+pub struct CuePlace {
+    /// The number of its line in the sheet, from 1.
+    pub line: u32,
+    /// The moment at which it is due.
+    pub moment: u32,
+}
+
 /// The steps of a sheet that are left. Contracts see the lines of its script that are left, with a line for each tick.
 #[derive(Drop)]
 pub struct SheetSteps<'a> {
     cues: &'a [Cue],
+    numbers: &'a [u32],
     cursor: Cursor,
 }
 
@@ -47,6 +57,7 @@ impl Sheet {
         let later = order_of(alloc, self.cues.as_slice(), self.ticks)?;
         Ok(SheetSteps {
             cues: self.cues.as_slice(),
+            numbers: self.numbers.as_slice(),
             cursor: Cursor::new(later, self.ticks),
         })
     }
@@ -70,6 +81,15 @@ impl<'a> SheetSteps<'a> {
         let text = copied(alloc, &cue.text)?;
         self.cursor.copies -= 1;
         Ok(Some(SheetStep::Line(cue.tag, text)))
+    }
+
+    /// Returns where the copy that was taken last stands, for a person who is told of it. Before the first copy it is no place of a
+    /// copy.
+    pub fn place(&self) -> CuePlace {
+        CuePlace {
+            line: self.numbers.get(self.cursor.cue).copied().unwrap_or(0),
+            moment: self.cursor.taken,
+        }
     }
 }
 

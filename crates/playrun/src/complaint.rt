@@ -1,7 +1,9 @@
 //! What is said on standard error, for a person. If that cannot be written, nothing is said.
 
-use host_system::ProgramFile;
+use clip_store::MAX_MEDIA_BYTES;
+use host_system::{Grouped, ProgramFile};
 use play_schedule::LineFault;
+use run_script::{MAX_TOLD_CUES, RefusedCue};
 use std::io::Eprint;
 use std::rt::Files;
 
@@ -43,6 +45,60 @@ pub fn say_film<E: Eprint>(errors: &E, ticks: u64, all: u64, frames: u32) {
     let _ = errors.eprint(format_args!(
         "\r{PROGRAM}: {ticks} of {all} ticks made again, {frames} frames written{end}"
     ));
+}
+
+/// Says that a cue of a sheet was refused: its line, counted from 1, its time, the reply and its text. If it was refused for a word of
+/// the text, the number of the word is said too, counted from 1.
+pub fn say_refused_cue<E: Eprint>(errors: &E, cue: RefusedCue<'_>) {
+    let (line, time, reply) = (cue.line, cue.time, cue.reply);
+    let text = str::from_utf8(cue.text).unwrap_or("");
+    let _ = match cue.word {
+        Some(word) => {
+            let number = word.saturating_add(1);
+            errors.eprintln(format_args!(
+                "{PROGRAM}: line {line} of the cue sheet, at {time}: {reply} for word {number} of {text:?}"
+            ))
+        }
+        None => errors.eprintln(format_args!(
+            "{PROGRAM}: line {line} of the cue sheet, at {time}: {reply} for {text:?}"
+        )),
+    };
+}
+
+/// Says how many of the cues that were played were refused, if one was.
+pub fn say_cues<E: Eprint>(errors: &E, refused: u64, played: u64) {
+    if refused == 0 {
+        return;
+    }
+    let rest = refused.saturating_sub(MAX_TOLD_CUES);
+    let _ = if rest == 0 {
+        errors.eprintln(format_args!("{PROGRAM}: {refused} of {played} cues were refused"))
+    } else {
+        errors.eprintln(format_args!(
+            "{PROGRAM}: {refused} of {played} cues were refused, the last {rest} of them are not listed"
+        ))
+    };
+}
+
+/// Says how many bytes the file of a film has, and whether it fits beside the clips of a folder, which have `held` bytes.
+pub fn say_recorded<E: Eprint>(errors: &E, bytes: u64, folder: &str, held: u64) {
+    let (clip, most) = (Grouped(bytes), Grouped(MAX_MEDIA_BYTES));
+    let left = MAX_MEDIA_BYTES.saturating_sub(held);
+    let _ = if bytes > MAX_MEDIA_BYTES {
+        errors.eprintln(format_args!(
+            "{PROGRAM}: the clip has {clip} bytes; a server takes {most} bytes of clips in all, so it starts with none of this size"
+        ))
+    } else if bytes > left {
+        let (held, left) = (Grouped(held), Grouped(left));
+        errors.eprintln(format_args!(
+            "{PROGRAM}: the clip has {clip} bytes; the clips of {folder} have {held} of {most}, so it does not fit: {left} bytes are left"
+        ))
+    } else {
+        let held = Grouped(held);
+        errors.eprintln(format_args!(
+            "{PROGRAM}: the clip has {clip} bytes; the clips of {folder} have {held} of {most}, so it fits"
+        ))
+    };
 }
 
 /// Returns what is wrong with a line of a cue sheet, in words.

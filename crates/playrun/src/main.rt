@@ -2,6 +2,7 @@
 #![tactic(auto)]
 
 mod complaint;
+mod counted_media;
 mod play;
 mod std_sink;
 mod std_source;
@@ -10,9 +11,11 @@ mod std_teller;
 mod tests;
 
 use complaint::PROGRAM;
+use counted_media::CountedMedia;
 use host_system::{FolderMedia, Progress, words_of};
 use play::play;
 use std::alloc::AllocError;
+use std::cell::Cell;
 use std::env;
 use std::io::IsTerminal;
 use std::process::ExitCode;
@@ -25,9 +28,11 @@ fn main(rt: HostRuntime) -> Result<ExitCode, AllocError> {
     let alloc = rt.alloc();
     let words = words_of(alloc, env::args(&rt));
     let mut input = StdSource::new(rt.stdin(), rt.clone()?);
-    let mut media = FolderMedia::new(rt.clone()?, PROGRAM, Progress::Silent);
+    let held = Cell::new(0);
+    let folder = FolderMedia::new(rt.clone()?, PROGRAM, Progress::Silent);
+    let mut media = CountedMedia::new(folder, &held);
     let mut output = StdSink::new(rt.stdout(), rt.clone()?);
-    let mut teller = StdTeller::new(rt.clone()?, rt.stderr().is_terminal());
+    let mut teller = StdTeller::new(rt.clone()?, rt.stderr().is_terminal(), &held);
     let status = play(
         &rt,
         alloc,

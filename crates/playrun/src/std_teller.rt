@@ -1,35 +1,43 @@
 //! Telling a person on standard error.
 
-use super::complaint::{say_faulty_cue, say_film, say_no_end, say_refused_word};
+use super::complaint::{
+    say_cues, say_faulty_cue, say_film, say_no_end, say_recorded, say_refused_cue, say_refused_word,
+};
 use play_schedule::LineFault;
-use run_script::Teller;
+use run_script::{RefusedCue, Teller};
+use std::cell::Cell;
 use std::io::Eprint;
 
 /// After how many ticks a terminal is told how far the writing of a film is.
 const TICKS_BETWEEN_WORDS: u64 = 1000;
 
-/// Tells on standard error what is wrong with a cue sheet, and, if a person listens, for which words lines are refused and how far
-/// the writing of a film is. If that cannot be written, nothing is told.
+/// Tells on standard error what is wrong with a cue sheet, which of its cues are refused, and whether a film fits beside the clips of
+/// the media folder. If a person listens, it tells too for which words lines of a script are refused, and how far the writing of a film
+/// is. If that cannot be written, nothing is told.
 #[derive(Drop)]
-pub struct StdTeller<E> {
+pub struct StdTeller<'a, E> {
     errors: E,
     listens: bool,
+    /// The number of bytes of the clips of the media folder.
+    held: &'a Cell<u64>,
     /// The number of ticks of which a person was told last.
     told: u64,
 }
 
-impl<E: Eprint + Drop> StdTeller<E> {
-    /// Returns a teller over what prints to standard error, to which a person listens if it is a terminal.
-    pub fn new(errors: E, is_terminal: bool) -> StdTeller<E> {
+impl<'a, E: Eprint + Drop> StdTeller<'a, E> {
+    /// Returns a teller over what prints to standard error, to which a person listens if it is a terminal. `held` has the number of
+    /// bytes of the clips of the media folder once they were read.
+    pub fn new(errors: E, is_terminal: bool, held: &'a Cell<u64>) -> StdTeller<'a, E> {
         StdTeller {
             errors,
             listens: is_terminal,
+            held,
             told: 0,
         }
     }
 }
 
-impl<E: Eprint + Drop> Teller for StdTeller<E> {
+impl<'a, E: Eprint + Drop> Teller for StdTeller<'a, E> {
     fn listens(&self) -> bool {
         self.listens
     }
@@ -44,6 +52,18 @@ impl<E: Eprint + Drop> Teller for StdTeller<E> {
 
     fn tell_no_end(&mut self) {
         say_no_end(&self.errors);
+    }
+
+    fn tell_refused_cue(&mut self, cue: RefusedCue<'_>) {
+        say_refused_cue(&self.errors, cue);
+    }
+
+    fn tell_cues(&mut self, refused: u64, played: u64) {
+        say_cues(&self.errors, refused, played);
+    }
+
+    fn tell_recorded(&mut self, bytes: u64, folder: &str) {
+        say_recorded(&self.errors, bytes, folder, self.held.get());
     }
 
     fn tell_film(&mut self, ticks: u64, all: u64, frames: u32) {

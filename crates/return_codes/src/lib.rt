@@ -14,4 +14,4 @@ mod reply;
 mod status;
 mod value;
 
-pub use reply::{send_reply, send_reply_lines};
+pub use reply::{refusal, send_reply, send_reply_lines};

@@ -169,7 +169,7 @@ fn add_cls<K: Sink>(media: &MediaNames, style: &LineStyle, text: &mut Text, to: 
 
 /// Returns the word for a command that was refused with this code: `ERROR` below 500, if the client is at fault, and
 /// from 500 on `FAILED`.
-fn refusal(code: u16) -> &'static str
+pub fn refusal(code: u16) -> &'static str
     ensures { result.now ≡ refusal_word code }
 {
     if code < 500 { "ERROR" } else { "FAILED" }

@@ -11,8 +11,10 @@ mod client_lines;
 mod clients;
 mod command_line;
 mod converting;
+mod cue_report;
 mod display;
 mod ending;
+pub mod examples;
 mod frame_options;
 mod frames;
 mod generating;
@@ -33,5 +35,7 @@ mod statuses;
 mod teller;
 mod vec_sink;
 
+pub use cue_report::{MAX_TOLD_CUES, RefusedCue};
 pub use program::{run_and_tell, run_main};
+pub use reply::RefusalLine;
 pub use teller::{Silent, Teller};

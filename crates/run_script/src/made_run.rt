@@ -6,7 +6,6 @@ ghost use Rattle.play_types.specs.History.{ticks};
 ghost use Rattle.play_types.specs.declared.event.TheConstants.{MAX_TICKS};
 ghost use Rattle.history_model.specs.declared.limits.TheConstants.{MAX_TICKS_PER_LINE};
 ghost use Rattle.history_model.specs.scripts.Line.{Rejected, meaning};
-ghost use Rattle.history_model.specs.scripts.Replies.{reply_code};
 ghost use Rattle.run_script.specs.inner.Player.{IsReady, events_in};
 ghost use Rattle.run_script.specs.inner.Made.{CountsReply, HasMade, TakesLine};
 ghost use Rattle.run_script.specs.inner.Ticks.{ticks_per_byte};
@@ -14,7 +13,7 @@ ghost use Rattle.run_script.specs.inner.Ticks.{ticks_per_byte};
 use crate::ending::Halt;
 use crate::plain::generator_setup;
 use crate::player::Player;
-use crate::reply::is_of_memory;
+use crate::reply::{code_of, is_of_memory};
 use crate::vec_sink::VecSink;
 use play_types::Reply;
 use sha2::{Digest, Sha256};
@@ -87,19 +86,5 @@ impl MadeRun {
             self.refused += 1;
         }
         Ok(())
-    }
-}
-
-/// Returns the code with which a reply begins.
-fn code_of(reply: &Reply) -> u16
-    ensures { result ≡ reply_code reply.now }
-{
-    match reply {
-        Reply::Done(_) => 202,
-        Reply::Value(_) | Reply::Version => 201,
-        Reply::Info(_) | Reply::Cls => 200,
-        Reply::Unknown(_) => 400,
-        Reply::Refused(code, _) => *code,
-        Reply::NoMemory => 500,
     }
 }

@@ -14,6 +14,7 @@ ghost use Rattle.run_script.specs.Script.{Run};
 ghost use Rattle.run_script.specs.inner.Planned.{HasPlayedLines, PlaysLines, ReadsSheet, SheetEnds, fault_of_lines, fault_of_sheet, step_lines, step_ticks};
 ghost use Rattle.run_script.specs.inner.Player.{IsReady, events_in};
 
+use crate::cue_report::CueReport;
 use crate::ending::Halt;
 use crate::frame_options::FrameOptions;
 use crate::player::Player;
@@ -28,7 +29,7 @@ use std::alloc::Global;
 use std::thread::Threads;
 
 /// Reads a cue sheet to the end of the input, and plays each of its lines at its moment. The teller is told what is wrong with a
-/// sheet that is refused.
+/// sheet that is refused, and which cues are refused.
 pub fn plan<R: Threads + Sync, I: Source, K: Sink, T: Teller>(
     rt: &R,
     alloc: Global,
@@ -45,7 +46,7 @@ pub fn plan<R: Threads + Sync, I: Source, K: Sink, T: Teller>(
         (record { input = I.state input.new; out = K.state out.new }) }
 {
     let sheet = sheet_in(alloc, setup.config.rate(), input, teller)?;
-    play_sheet(rt, alloc, setup, options, &sheet, out)
+    play_sheet(rt, alloc, setup, options, &sheet, out, teller)
 }
 
 /// Reads an input to its end as a cue sheet, with `rate` frames a second.
@@ -91,14 +92,15 @@ fn refusal(fault: SheetFault) -> RunFault
     }
 }
 
-/// Plays the lines of a cue sheet, each at its moment, to the end of the sheet or to a kill.
-fn play_sheet<R: Threads + Sync, K: Sink>(
+/// Plays the lines of a cue sheet, each at its moment, to the end of the sheet or to a kill. The teller is told which cues are refused.
+fn play_sheet<R: Threads + Sync, K: Sink, T: Teller>(
     rt: &R,
     alloc: Global,
     setup: ServerSetup,
     options: FrameOptions,
     sheet: &Sheet,
     out: &mut K,
+    teller: &mut T,
 ) -> Result<(), RunFault>
     requires some_workers { 1 ≤ options.workers }
     requires few_workers { options.workers ≤ 64 }
@@ -108,7 +110,10 @@ fn play_sheet<R: Threads + Sync, K: Sink>(
 {
     let mut player = Player::new(alloc, setup, options.digests, options.workers)?;
     let mut steps = sheet.steps(alloc)?;
-    outcome(play_steps(rt, alloc, &mut player, &mut steps, out))
+    let mut report = CueReport::new(teller);
+    let played = play_steps(rt, alloc, &mut player, &mut steps, out, &mut report);
+    report.end();
+    outcome(played)
 }
 
 /// Returns the fault with which the lines of a cue sheet end, if they have one. A kill is a good end too.
@@ -125,12 +130,13 @@ fn outcome(played: Result<(), Halt>) -> Result<(), RunFault>
 }
 
 /// Plays the steps of a cue sheet that are left. It stops at the first line that ends the run.
-fn play_steps<R: Threads + Sync, K: Sink>(
+fn play_steps<R: Threads + Sync, K: Sink, T: Teller>(
     rt: &R,
     alloc: Global,
     player: &mut Player,
     steps: &mut SheetSteps<'_>,
     out: &mut K,
+    report: &mut CueReport<'_, T>,
 ) -> Result<(), Halt>
     requires ready { IsReady player.old }
     requires time { ticks (events_in player.old) + ticks_in steps.old ≤ MAX_TICKS }
@@ -138,19 +144,21 @@ fn play_steps<R: Threads + Sync, K: Sink>(
     ensures { (run : Run) → HasPlayedLines run [] player.old (K.state out.old) → PlaysLines run steps.old result player.new (K.state out.new) }
 {
     while let Some(step) = steps.next(alloc)? {
-        player.take_step(rt, alloc, step, out)?;
+        report.come_to(steps.place());
+        player.take_step(rt, alloc, step, out, report)?;
     }
     Ok(())
 }
 
 impl Player {
-    /// Plays a step of a cue sheet.
-    fn take_step<R: Threads + Sync, K: Sink>(
+    /// Plays a step of a cue sheet. The report takes the reply to a line.
+    fn take_step<R: Threads + Sync, K: Sink, T: Teller>(
         &mut self,
         rt: &R,
         alloc: Global,
         step: SheetStep,
         out: &mut K,
+        report: &mut CueReport<'_, T>,
     ) -> Result<(), Halt>
         requires ready { IsReady self.old }
         requires time { ticks (events_in self.old) + step_ticks step ≤ MAX_TICKS }
@@ -163,7 +171,9 @@ impl Player {
         match step {
             SheetStep::Ticks(count) => self.tick_singly(rt, count, out),
             SheetStep::Line(tag, text) => {
-                let _reply = self.take_client_line(alloc, tag, text.as_slice(), out)?;
+                report.count();
+                let reply = self.take_client_line(alloc, tag, text.as_slice(), out)?;
+                report.take(alloc, &self.setup, text.as_slice(), reply);
                 Ok(())
             }
         }

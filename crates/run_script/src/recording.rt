@@ -13,11 +13,14 @@ use crate::run::play_script;
 use crate::script::Script;
 use crate::teller::{FilmWatcher, Teller};
 use play_outside::{PlainSink, Sink, Source};
-use play_recorder::{FilmSource, Recorded, find_film};
-use play_types::{RecName, Text};
+use play_recorder::{Film, FilmSource, Recorded, find_film};
+use play_types::{ChannelList, Config, RecName, Text};
 use server_setup::{RunFault, ServerSetup};
 use std::alloc::{AllocError, Global};
 use std::thread::Threads;
+
+/// The bytes of a clip file before its frames.
+const HEADER_BYTES: u64 = 20;
 
 /// Which film is written, and how many threads make its frames, 1 to 64.
 #[derive(Clone, Copy, Debug)]
@@ -27,7 +30,8 @@ pub struct FilmOptions {
 }
 
 /// Reads a script to its end and does what its lines say, with nothing written, and then writes the clip file of the film that was
-/// recorded under a name. The teller is told for which words lines are refused, and how far the writing of the film is.
+/// recorded under a name. The teller is told for which words lines are refused, how far the writing of the film is, and how long its
+/// file is.
 ///
 /// A line that would be answered with 500 or 501 ends the run for want of memory.
 pub fn record<R: Threads + Sync, I: Source, K: Sink, T: Teller>(
@@ -67,7 +71,7 @@ fn replayed<R: Threads + Sync, I: Source, T: Teller>(
 }
 
 /// Writes the clip file of the film that was recorded under a name, if the history of a player has one. The teller is told how far
-/// the writing is.
+/// the writing is, and how long the file is.
 fn write_recording<R: Threads + Sync, K: Sink, T: Teller>(
     rt: &R,
     alloc: Global,
@@ -93,9 +97,33 @@ fn write_recording<R: Threads + Sync, K: Sink, T: Teller>(
                 film: &film,
                 workers: options.workers,
             };
-            outcome(source.write_watched(rt, alloc, out, &mut FilmWatcher { teller }))
+            let recorded = source.write_watched(rt, alloc, out, &mut FilmWatcher { teller });
+            tell_length(recorded, &setup.config, &film, teller);
+            outcome(recorded)
         }
         None => Err(RunFault::Record(text_of(alloc, &options.name)?)),
+    }
+}
+
+/// Tells how long the file of a film is, if all of it was written.
+fn tell_length<T: Teller>(recorded: Recorded, config: &Config, film: &Film, teller: &mut T) {
+    match recorded {
+        Recorded::All => {
+            let bytes = file_len(config.channels(), film);
+            teller.tell_recorded(bytes, config.media().as_str());
+        }
+        Recorded::Failed | Recorded::OutOfMemory => {}
+    }
+}
+
+/// Returns the length of the file of a film, in bytes.
+fn file_len(channels: &ChannelList, film: &Film) -> u64 {
+    match channels.get(usize::from(film.channel.saturating_sub(1))) {
+        Some(channel) => {
+            let frame = channel.geometry().frame_bytes();
+            HEADER_BYTES.saturating_add(u64::from(film.frames).saturating_mul(frame))
+        }
+        None => 0,
     }
 }
 

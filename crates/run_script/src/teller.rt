@@ -1,5 +1,6 @@
 //! What is told of a run beside its output.
 
+use crate::cue_report::RefusedCue;
 use play_recorder::Watcher;
 use play_schedule::LineFault;
 
@@ -21,6 +22,15 @@ pub trait Teller {
     /// Takes how far the writing of a film is: `ticks` ticks of the history were made again, of `all` up to the last recorded one, and
     /// `frames` frames of the film were written.
     fn tell_film(&mut self, _ticks: u64, _all: u64, _frames: u32) {}
+
+    /// Takes that the whole file of a film was written. It has `bytes` bytes, and `folder` is the media folder of the configuration.
+    fn tell_recorded(&mut self, _bytes: u64, _folder: &str) {}
+
+    /// Takes that a cue of a sheet was refused. Only the first [`MAX_TOLD_CUES`](crate::MAX_TOLD_CUES) of a sheet are told.
+    fn tell_refused_cue(&mut self, _cue: RefusedCue<'_>) {}
+
+    /// Takes how many cues of a sheet were refused, of `played` that were played. The sheet ended, or the run did before its end.
+    fn tell_cues(&mut self, _refused: u64, _played: u64) {}
 }
 
 /// A teller that watches how a film is written.

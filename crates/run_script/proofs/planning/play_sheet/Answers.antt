@@ -16,11 +16,11 @@ returns-in_err-steps g c = sheet_unplayed _ _ c.from_residual-in_err-steps.resul
 pub outcome-requires : goal.outcome-requires
 outcome-requires g c =
     let run : Run = record { playout = playout_of c.args.setup c.args.options.digests; shown = Frames; first = g.K.Sink.state c.args.out.now } in
-    never_rejected run _ c.play_steps.result c.play_steps.new.player _
-    (c.play_steps.ensures run (none_played run c.in_ok-player.player c.in_ok-player.ensures.represents))
+    never_rejected run _ c.play_steps-played.result c.play_steps-played.new.player _
+    (c.play_steps-played.ensures run (none_played run c.in_ok-player.player c.in_ok-player.ensures.represents))
 
 pub returns : goal.returns
 returns g c =
     let run : Run = record { playout = playout_of c.args.setup c.args.options.digests; shown = Frames; first = g.K.Sink.state c.args.out.now } in
-    sheet_ended run.playout c.args.sheet.now c.play_steps.result (fault_in c.outcome.result) c.play_steps.new.player _ _ c.outcome.ensures
-    (rw c.in_ok-steps.ensures at (c.play_steps.ensures run (none_played run c.in_ok-player.player c.in_ok-player.ensures.represents)))
+    sheet_ended run.playout c.args.sheet.now c.play_steps-played.result (fault_in c.outcome.result) c.play_steps-played.new.player _ _ c.outcome.ensures
+    (rw c.in_ok-steps.ensures at (c.play_steps-played.ensures run (none_played run c.in_ok-player.player c.in_ok-player.ensures.represents)))

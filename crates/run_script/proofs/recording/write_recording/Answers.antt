@@ -15,8 +15,8 @@ returns-in-Some g c =
     let name = c.args.options.name in
     let film = c.in-Some.film in
     let journal = c.journal-journal.ensures in
-    film_written player name film c.write_watched.result (fault_in c.outcome.result) _ _
+    film_written player name film c.write_watched-recorded.result (fault_in c.outcome.result) _ _
     (subst (λ (j : JournalView). film_span j.events name ≡ Some film) journal (sym c.in_ok-film.ensures ∙ c.in-Some.is)) c.outcome.ensures
     (subst
-    (λ (j : JournalView). Records c.write_watched.result (clip_bytes (filmed (setup_in player) j.events film)) (g.K.Sink.state c.args.out.now) (g.K.Sink.state c.write_watched.new.to))
-    journal c.write_watched.ensures)
+    (λ (j : JournalView). Records c.write_watched-recorded.result (clip_bytes (filmed (setup_in player) j.events film)) (g.K.Sink.state c.args.out.now) (g.K.Sink.state c.write_watched-recorded.new.to))
+    journal c.write_watched-recorded.ensures)

@@ -1,6 +1,7 @@
 pub mod Writing
 pub mod Rows
 pub mod Bands
+pub mod LetIn
 pub mod Numbers
 pub mod Plans
 pub mod Drawn

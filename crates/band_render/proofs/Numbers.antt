@@ -3,7 +3,7 @@ use Rattle.std.proofs.Common.{◌≡◌, ℕ, ◌+◌, ◌<◌, ◌≤◌, List,
 use Rattle.std.proofs.lemmas.Bool.{cases_lt}
 use Rattle.std.proofs.lemmas.List.{get_or-append-add, get_or_append_left}
 use Rattle.band_render.specs.declared.band.Band.{Band}
-use Rattle.band_render.specs.inner.Numbers.{AreNumbered}
+use Rattle.band_render.specs.Bands.{AreNumbered}
 
 -- one band more, whose number is how many there were
 pub numbered_more : (bands : List Band) (band : Band) (now : List Band) → now ≡ bands ++ band ∷ [] → band.number ≡ length bands →

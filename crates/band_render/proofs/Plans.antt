@@ -8,6 +8,7 @@ use Rattle.play_types.specs.Config.{ChannelView, IsChannel}
 use Rattle.play_types.specs.declared.geometry.Geometry.{Geometry}
 use Rattle.play_scene.specs.Frames.{FrameView, frame_at, no_frame, zero_frame}
 use Rattle.play_scene.proofs.Rows.{picture_small}
+use Rattle.band_render.specs.Plans.{pixel_count, row_count}
 use Rattle.band_render.specs.Rendered.{sizes}
 use Rattle.band_render.specs.Rows.{Row, byte_count, rows_from, rows_of_frames, size_of}
 use Rattle.band_render.specs.inner.Numbers.{fewest_bands}
@@ -22,22 +23,55 @@ unwrap_get (x ∷ xs) (suc n) d = unwrap_get xs n d
 some_there : {X : Type 0} (xs : List X) (n : ℕ) (x : X) → slice_get xs n ≡ Some x → x ≡ get_or xs n x
 some_there {X = X} xs n x is = ap (λ (o : Option X). unwrap_or o x) (sym is) ∙ unwrap_get xs n x
 
+-- the sizes of one more channel
+pub channel_sizes_more : (channels : List ChannelView) (at : ℕ) (channel : ChannelView) → at < length channels → slice_get channels at ≡ Some channel →
+    map size_of (take (at + 1) channels) ≡ map size_of (take at channels) ++ size_of channel ∷ []
+channel_sizes_more channels at channel lt there =
+    let one : suc at ≡ at + 1 = omega arith in
+    ap (λ (n : ℕ). map size_of (take n channels)) (sym one)
+    ∙ ap (map size_of) (take-suc channels at channel lt ∙ ap (λ (c : ChannelView). take at channels ++ c ∷ []) (sym (some_there channels at channel there)))
+    ∙ map-append size_of (take at channels) (channel ∷ [])
+
 -- the bands of one more channel
 pub channels_more : (channels : List ChannelView) (at : ℕ) (channel : ChannelView) (before now : List Row) → at < length channels →
     slice_get channels at ≡ Some channel → before ≡ rows_of_frames 1 (map size_of (take at channels)) →
     now ≡ before ++ rows_from (at + 1) (size_of channel) 0 channel.height → now ≡ rows_of_frames 1 (map size_of (take (at + 1) channels))
 channels_more channels at channel before now lt there rows is =
-    let one : suc at ≡ at + 1 = omega arith in
     let first = map size_of (take at channels) in
     let long = length-map (take at channels) size_of ∙ length-take-le at channels (omega (arith, lt)) in
-    let more : map size_of (take (at + 1) channels) ≡ first ++ size_of channel ∷ [] =
-    ap (λ (n : ℕ). map size_of (take n channels)) (sym one)
-    ∙ ap (map size_of) (take-suc channels at channel lt ∙ ap (λ (c : ChannelView). take at channels ++ c ∷ []) (sym (some_there channels at channel there)))
-    ∙ map-append size_of (take at channels) (channel ∷ []) in
     is
     ∙ ap (λ (l : List Row). l ++ rows_from (at + 1) (size_of channel) 0 channel.height) rows
     ∙ sym (rows_of_frames-more 1 (at + 1) first (size_of channel) (omega (arith, long)))
-    ∙ ap (rows_of_frames 1) (sym more)
+    ∙ ap (rows_of_frames 1) (sym (channel_sizes_more channels at channel lt there))
+
+-- the rows and the pixels of one more frame
+row_count-more : (sizes : List Geometry) (size : Geometry) → row_count (sizes ++ size ∷ []) ≡ row_count sizes + size.height
+row_count-more [] size = omega arith
+row_count-more (other ∷ sizes) size = omega (arith, row_count-more sizes size)
+
+pixel_count-more : (sizes : List Geometry) (size : Geometry) → pixel_count (sizes ++ size ∷ []) ≡ pixel_count sizes + size.height * size.width
+pixel_count-more [] size = omega arith
+pixel_count-more (other ∷ sizes) size = omega (arith, pixel_count-more sizes size)
+
+pub rows_more : (channels : List ChannelView) (at : ℕ) (channel : ChannelView) → at < length channels → slice_get channels at ≡ Some channel →
+    row_count (map size_of (take (at + 1) channels)) ≡ row_count (map size_of (take at channels)) + channel.height
+rows_more channels at channel lt there =
+    ap row_count (channel_sizes_more channels at channel lt there) ∙ row_count-more (map size_of (take at channels)) (size_of channel)
+
+pub pixels_more : (channels : List ChannelView) (at : ℕ) (channel : ChannelView) → at < length channels → slice_get channels at ≡ Some channel →
+    pixel_count (map size_of (take (at + 1) channels)) ≡ pixel_count (map size_of (take at channels)) + channel.height * channel.width
+pixels_more channels at channel lt there =
+    ap pixel_count (channel_sizes_more channels at channel lt there) ∙ pixel_count-more (map size_of (take at channels)) (size_of channel)
+
+-- frames without rows have no pixels
+pub no_rows : (sizes : List Geometry) → row_count sizes ≡ 0 → pixel_count sizes ≡ 0
+no_rows [] is = refl
+no_rows (size ∷ sizes) is =
+    let here : size.height ≡ 0 = omega (arith, is) in
+    let rest = no_rows sizes (omega (arith, is)) in
+    let none : 0 * size.width ≡ 0 = omega arith in
+    let product : size.height * size.width ≡ 0 = ap (λ (n : ℕ). n * size.width) here ∙ none in
+    omega (arith, product, rest)
 
 -- the sizes of one more frame
 sizes_more : (frames : List FrameView) (at : ℕ) (size : Geometry) → at < length frames → size ≡ (frame_at (at + 1) frames).size →

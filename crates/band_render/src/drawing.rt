@@ -1,14 +1,15 @@
 //! The rows of bands, made in threads.
-ghost use Rattle.std.specs.Prelude.{◌≡◌, ◌-◌, ◌*◌, ◌/◌, ◌<◌, ◌≤◌, ◌^◌, All, length};
+ghost use Rattle.std.specs.Prelude.{◌≡◌, ◌-◌, ◌*◌, ◌/◌, ◌<◌, ◌≤◌, ◌^◌, All, true, length};
 ghost use Rattle.std.specs.Thread.{IsSync};
 ghost use Rattle.play_types.specs.Scene.{IsConfigured};
+ghost use Rattle.band_render.specs.Bands.{AreLetIn};
 ghost use Rattle.band_render.specs.inner.Drawing.{AreDrawn, CanDraw, HasDrawn, IsTick};
 ghost use Rattle.band_render.specs.Rows.{AreOfChannels, byte_count, rows_of, rows_of_bands};
 ghost use Rattle.band_render.specs.inner.Shares.{AreShared};
 
 use crate::band::Band;
 use crate::bytes::{bytes_of_band, bytes_of_bands};
-use crate::gate::Gate;
+use crate::gate::{Gate, LetIn};
 use clip_format::MediaTable;
 use play_scene::Frames;
 use play_types::Scenes;
@@ -29,10 +30,23 @@ fn draw_band<G: Gate>(gate: &G, tick: &Tick<'_>, band: &Band, bytes: &mut [u8], 
     requires channel { IsConfigured (length tick.now.scenes.now) band.now.channel }
     requires bytes { length bytes.old ≡ byte_count (rows_of band.now) }
     requires room { band.now.size.width ≤ room.old }
+    ensures entered { G.entered gate.now band.now.number ≡ true }
     ensures drawn { AreDrawn tick.now (rows_of band.now) bytes.new }
     ensures room { room.new ≡ room.old }
 {
-    gate.enter(band.number);
+    draw_rows(&LetIn::new(gate, band), tick, bytes, room);
+}
+
+/// Writes the rows of a band that was let in.
+fn draw_rows<G: Gate>(let_in: &LetIn<'_, G>, tick: &Tick<'_>, bytes: &mut [u8], room: &mut RowRoom)
+    requires tick { IsTick tick.now }
+    requires channel { IsConfigured (length tick.now.scenes.now) let_in.now.band.now.channel }
+    requires bytes { length bytes.old ≡ byte_count (rows_of let_in.now.band.now) }
+    requires room { let_in.now.band.now.size.width ≤ room.old }
+    ensures drawn { AreDrawn tick.now (rows_of let_in.now.band.now) bytes.new }
+    ensures room { room.new ≡ room.old }
+{
+    let band = let_in.band;
     let scene = tick.scenes.scene(band.channel);
     let row_bytes = 4 * usize::from(band.size.width);
     for at in 0..band.rows {
@@ -63,6 +77,7 @@ fn draw_bands<G: Gate>(
     requires bytes { length bytes.old ≡ byte_count (rows_of_bands bands.now) }
     requires small { length bytes.old < 2 ^ 64 }
     requires room { All (λ band. band.size.width ≤ room.old) bands.now }
+    ensures entered { AreLetIn (G.entered gate.now) bands.now }
     ensures drawn { AreDrawn tick.now (rows_of_bands bands.now) bytes.new }
     ensures room { room.new ≡ room.old }
 {
@@ -87,7 +102,8 @@ pub(crate) fn draw_all<R: Threads + Sync, G: Gate>(
     bytes: &mut [u8],
 )
     requires { CanDraw tick.now bands.now rooms.old bytes.old }
-    ensures { HasDrawn tick.now bands.now rooms.old rooms.new bytes.new }
+    ensures entered { AreLetIn (G.entered gate.now) bands.now }
+    ensures drawn { HasDrawn tick.now bands.now rooms.old rooms.new bytes.new }
 {
     match rooms {
         [] => {}
@@ -133,7 +149,9 @@ fn draw_both<R: Threads + Sync, G: Gate>(
     requires some { (0 < length first.old) × (0 < length last.old) }
     requires first { CanDraw parts.now.tick.now parts.now.first.now first.old first_bytes.old }
     requires last { CanDraw parts.now.tick.now parts.now.last.now last.old last_bytes.old }
+    ensures first_entered { AreLetIn (G.entered gate.now) parts.now.first.now }
     ensures first { HasDrawn parts.now.tick.now parts.now.first.now first.old first.new first_bytes.new }
+    ensures last_entered { AreLetIn (G.entered gate.now) parts.now.last.now }
     ensures last { HasDrawn parts.now.tick.now parts.now.last.now last.old last.new last_bytes.new }
 {
     let Parts {
@@ -145,11 +163,11 @@ fn draw_both<R: Threads + Sync, G: Gate>(
         rt,
         &mut ||
             requires { IsSync R.row × CanDraw tick.now first_bands.now first.now first_bytes.now }
-            ensures { HasDrawn tick.entry.now first_bands.entry.now first.entry.now first.exit.now first_bytes.exit.now }
+            ensures { AreLetIn (G.entered gate.entry.now) first_bands.entry.now × HasDrawn tick.entry.now first_bands.entry.now first.entry.now first.exit.now first_bytes.exit.now }
         { draw_all(rt, gate, tick, first_bands, first, first_bytes) },
         &mut ||
             requires { IsSync R.row × CanDraw tick.now last_bands.now last.now last_bytes.now }
-            ensures { HasDrawn tick.entry.now last_bands.entry.now last.entry.now last.exit.now last_bytes.exit.now }
+            ensures { AreLetIn (G.entered gate.entry.now) last_bands.entry.now × HasDrawn tick.entry.now last_bands.entry.now last.entry.now last.exit.now last_bytes.exit.now }
         { draw_started(rt, gate, tick, last_bands, last, last_bytes) },
     );
 }
@@ -166,7 +184,8 @@ fn draw_started<R: Threads + Sync, G: Gate>(
     bytes: &mut [u8],
 )
     requires { CanDraw tick.now bands.now rooms.old bytes.old }
-    ensures { HasDrawn tick.now bands.now rooms.old rooms.new bytes.new }
+    ensures entered { AreLetIn (G.entered gate.now) bands.now }
+    ensures drawn { HasDrawn tick.now bands.now rooms.old rooms.new bytes.new }
 {
     if rooms.len() > 1 {
         draw_all(rt, gate, tick, bands, rooms, bytes);
@@ -176,7 +195,7 @@ fn draw_started<R: Threads + Sync, G: Gate>(
         rt,
         &mut ||
             requires { IsSync R.row × CanDraw tick.now bands.now rooms.now bytes.now }
-            ensures { HasDrawn tick.entry.now bands.entry.now rooms.entry.now rooms.exit.now bytes.exit.now }
+            ensures { AreLetIn (G.entered gate.entry.now) bands.entry.now × HasDrawn tick.entry.now bands.entry.now rooms.entry.now rooms.exit.now bytes.exit.now }
         { draw_all(rt, gate, tick, bands, rooms, bytes) },
         &mut || {},
     );

@@ -9,6 +9,7 @@
 mod band;
 mod bytes;
 mod drawing;
+pub mod examples;
 mod gate;
 pub mod laws;
 mod plan;

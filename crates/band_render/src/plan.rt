@@ -5,7 +5,8 @@ ghost use Rattle.play_types.specs.Scene.{IsConfigured};
 ghost use Rattle.band_render.specs.Rendered.{sizes};
 ghost use Rattle.band_render.specs.Rows.{byte_count, rows_from, rows_of_bands, rows_of_frames, size_of};
 ghost use Rattle.band_render.specs.inner.Drawing.{IsTick};
-ghost use Rattle.band_render.specs.inner.Numbers.{AreNumbered, fewest_bands};
+ghost use Rattle.band_render.specs.Bands.{AreNumbered};
+ghost use Rattle.band_render.specs.inner.Numbers.{fewest_bands};
 
 use crate::band::Band;
 use crate::drawing::Tick;

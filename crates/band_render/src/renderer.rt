@@ -2,7 +2,8 @@
 ghost use Rattle.std.specs.Prelude.{◌≡◌, ◌≤◌, length, map, IfOk};
 ghost use Rattle.play_types.specs.Scene.{IsConfigured};
 ghost use Rattle.play_scene.specs.Frames.{IsFrame, frame_at, zero_frame};
-ghost use Rattle.band_render.specs.Rendered.{AreRendered};
+ghost use Rattle.band_render.specs.Rendered.{AreRendered, sizes};
+ghost use Rattle.band_render.specs.Bands.{AreAllLetIn};
 
 use crate::band::Band;
 use crate::bytes::bytes_of_bands;
@@ -55,7 +56,7 @@ impl Model for Renderer {
     ghost invariant = { λ r. (sizes r.next ≡ sizes r.shown) × (length r.sound.items ≡ 4 * MAX_PAIRS)
         × (length r.pixels.items ≡ byte_count (rows_of_frames 1 (sizes r.shown)))
         × (length r.pixels.items < 2 ^ 64) × (1 ≤ r.workers) × (r.workers ≤ 64)
-        × CanCut (sizes r.shown) (vec_capacity r.bands) r.rooms.items };
+        × CanCut r.workers (sizes r.shown) (vec_capacity r.bands) r.rooms.items };
 }
 
 impl Renderer {
@@ -100,6 +101,7 @@ impl Renderer {
         requires { length scenes.now ≡ length self.old }
         ensures rendered { AreRendered self.old media.now scenes.now self.new }
         ensures channels { length self.new ≡ length self.old }
+        ensures entered { AreAllLetIn (G.entered gate.now) (sizes self.old) }
     {
         let tick = Tick {
             scenes,

@@ -1,5 +1,7 @@
 //! The rooms of the threads that make bands.
-ghost use Rattle.std.specs.Prelude.{◌*◌, ◌≤◌, All, IfOk, length};
+ghost use Rattle.std.specs.Prelude.{◌*◌, ◌≤◌, All, IfOk, length, map};
+ghost use Rattle.band_render.specs.Plans.{AreGroups};
+ghost use Rattle.band_render.specs.Rows.{size_of};
 ghost use Rattle.band_render.specs.inner.Rooms.{AreRooms};
 
 use play_types::{ChannelList, Config};
@@ -20,7 +22,7 @@ pub(crate) fn rooms(
     requires some { 1 ≤ workers }
     requires few { workers ≤ 64 }
     ensures rooms { IfOk result (λ rooms. AreRooms config.now.channels rooms.items) }
-    ensures few { IfOk result (λ rooms. length rooms.items ≤ workers) }
+    ensures groups { IfOk result (λ rooms. AreGroups workers (map size_of config.now.channels) (length rooms.items)) }
 {
     let channels = config.channels();
     let width = widest(channels);
@@ -43,11 +45,13 @@ fn widest(channels: &ChannelList) -> u16
     widest
 }
 
-/// Returns how many threads make the frames of these channels.
+/// Returns how many threads make the frames of these channels: as many as there are workers, or as there are rows if these are
+/// fewer, and one if the frames are small.
 fn thread_count(channels: &ChannelList, workers: usize) -> usize
     requires some { 1 ≤ workers }
     requires few { workers ≤ 64 }
-    ensures { (1 ≤ result) × (result ≤ workers) }
+    ensures range { (1 ≤ result) × (result ≤ workers) }
+    ensures groups { AreGroups workers (map size_of channels.now) result }
 {
     let mut rows = 0;
     let mut pixels = 0;

@@ -1,6 +1,7 @@
 use Rattle.std.proofs.Common.{rules, ◌≡◌, ◌<◌, ◌++◌, length, ◌∙◌, arith}
 use Rattle.band_render.proofs.Bands.{bytes_of_parts}
 use Rattle.band_render.proofs.Drawn.{can_draw_parts, has_drawn_both}
+use Rattle.band_render.proofs.LetIn.{let_in_both}
 use Rattle.band_render.proofs.drawing.+groups.Goals as goal
 
 pub draw_all-bytes_of_bands-requires : goal.draw_all-bytes_of_bands-requires
@@ -43,11 +44,17 @@ draw_all-draw_both-requires-clause-last g t c κs within =
     (can_draw_parts c.args.tick.now c.args.bands.now bands.0.now bands.1.now c.args.rooms.now rooms.0.now rooms.1.now c.args.bytes.now bytes.0.now bytes.1.now c.requires
     whole are parts one two (long ∙ c.bytes_of_bands.ensures)).1
 
-pub draw_all-returns-in_default : goal.draw_all-returns-in_default
-draw_all-returns-in_default g t c =
+pub draw_all-returns-in_default-clause-drawn : goal.draw_all-returns-in_default-clause-drawn
+draw_all-returns-in_default-clause-drawn g t c =
     let bands = c.split_at.result in
     let rooms = c.split_at_mut-first.result in
     let whole : bands.0.now ++ bands.1.now ≡ c.args.bands.now = search rules in
     let are : rooms.0.now ++ rooms.1.now ≡ c.args.rooms.now = search rules in
     has_drawn_both c.args.tick.now c.args.bands.now bands.0.now bands.1.now c.args.rooms.now rooms.0.now rooms.1.now c.draw_both.new.first c.draw_both.new.last
     c.draw_both.new.first_bytes c.draw_both.new.last_bytes whole are c.draw_both.ensures.first c.draw_both.ensures.last
+
+pub draw_all-returns-in_default-clause-entered : goal.draw_all-returns-in_default-clause-entered
+draw_all-returns-in_default-clause-entered g t c =
+    let bands = c.split_at.result in
+    let whole : bands.0.now ++ bands.1.now ≡ c.args.bands.now = search rules in
+    let_in_both (g.G.Gate.entered c.args.gate.now) c.args.bands.now bands.0.now bands.1.now whole c.draw_both.ensures.first_entered c.draw_both.ensures.last_entered

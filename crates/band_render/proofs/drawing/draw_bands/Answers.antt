@@ -4,6 +4,7 @@ use Rattle.band_render.specs.inner.Drawing.{AreDrawn}
 use Rattle.band_render.specs.Rows.{Row, rows_of, rows_of_bands}
 use Rattle.band_render.proofs.Bands.{bytes_taken, flat_map-take, rows_taken}
 use Rattle.band_render.proofs.Drawn.{drawn_append, drawn_long}
+use Rattle.band_render.proofs.LetIn.{let_in_more}
 use Rattle.band_render.proofs.drawing.draw_bands.Goals as goal
 
 pub overflow_add-end : goal.overflow_add-end
@@ -35,6 +36,7 @@ loop-band-preserved g c =
     let most = rows_taken rows_of c.args.bands.now (at + 1) in
     let long = drawn_long tick (rows_of band) out c.draw_band.ensures.drawn in
     record {
+      entered = let_in_more (g.G.Gate.entered c.args.gate.now) c.args.bands.now at band lt c.band-item.is c.loop-band.invariant.entered c.draw_band.ensures.entered;
       start = omega (arith, c.loop-band.invariant.start, c.bytes_of_band.ensures, sum);
       drawn = subst (AreDrawn tick (rows_of_bands (take (at + 1) c.args.bands.now)))
           (sym (take-put_mid start (end - start) c.loop-band.bytes out end (omega (arith, long, c.bytes_of_band.ensures))

@@ -1,7 +1,7 @@
 use Rattle.std.proofs.Common.{◌≡◌, ℕ, ◌+◌, ◌*◌, ◌++◌, ◌≤◌, List, ap, sym, subst, ◌∙◌, arith}
 use Rattle.band_render.specs.declared.weights.TheConstants.{MOST_WEIGHT}
 use Rattle.band_render.specs.Rows.{Row, rows_from, rows_of_bands}
-use Rattle.band_render.specs.inner.Numbers.{AreNumbered}
+use Rattle.band_render.specs.Bands.{AreNumbered}
 use Rattle.band_render.proofs.Rows.{rows_below}
 use Rattle.band_render.proofs.plan.cut_frame.Goals as goal
 use Rattle.band_render.proofs.plan.cut_frame.Goals.{then-made-cut+then-ends, then-y-eq0, else-y-eq0, then-made-cut+else-ends, else-made-cut}

@@ -1,7 +1,7 @@
 use Rattle.std.proofs.Common.{◌≡◌, ◌+◌, ◌*◌, ◌++◌, ◌≤◌}
 use Rattle.band_render.specs.declared.weights.TheConstants.{MOST_WEIGHT}
 use Rattle.band_render.specs.Rows.{rows_from, rows_of_bands}
-use Rattle.band_render.specs.inner.Numbers.{AreNumbered}
+use Rattle.band_render.specs.Bands.{AreNumbered}
 use Rattle.band_render.proofs.plan.cut_frame.Given as goal
 
 -- the bands above this row but for the last one, which begins above it

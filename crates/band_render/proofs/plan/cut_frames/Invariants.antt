@@ -2,7 +2,8 @@ use Rattle.std.proofs.Common.{◌≡◌, ◌*◌, ◌≤◌, take}
 use Rattle.band_render.specs.declared.plan.TheConstants.{MOST_BANDS}
 use Rattle.band_render.specs.Rendered.{sizes}
 use Rattle.band_render.specs.Rows.{rows_of_bands, rows_of_frames}
-use Rattle.band_render.specs.inner.Numbers.{AreNumbered, fewest_bands}
+use Rattle.band_render.specs.Bands.{AreNumbered}
+use Rattle.band_render.specs.inner.Numbers.{fewest_bands}
 use Rattle.band_render.proofs.plan.cut_frames.Given as goal
 
 -- the bands of the channels before this one

@@ -1,7 +1,9 @@
-use Rattle.std.proofs.Common.{rules, ◌≡◌, List, length, map, sym, ap, ◌∙◌, arith}
+use Rattle.std.proofs.Common.{rules, ◌≡◌, List, length, map, sym, ap, ◌∙◌, subst, arith}
 use Rattle.play_scene.specs.Frames.{zero_frame}
 use Rattle.std.proofs.lemmas.List.{length-map}
 use Rattle.band_render.specs.declared.band.Band.{Band}
+use Rattle.play_types.specs.declared.geometry.Geometry.{Geometry}
+use Rattle.band_render.specs.Plans.{AreGroups}
 use Rattle.band_render.specs.Rendered.{sizes}
 use Rattle.band_render.specs.Rows.{byte_count, rows_of_bands, rows_of_frames, size_of}
 use Rattle.band_render.proofs.Plans.{rooms_of_sizes, sizes_of_new}
@@ -24,6 +26,7 @@ invariant_of-result c =
       record {
         room = omega (arith, c.in_ok-bands.ensures.room, many, ap length shown);
         some = c.in_ok-rooms.ensures.rooms.some;
+        groups = subst (λ (l : List Geometry). AreGroups c.args.workers l (length c.in_ok-rooms.rooms.items)) (sym shown) c.in_ok-rooms.ensures.groups;
         wide = rooms_of_sizes channels c.in_ok-rooms.rooms.items _ shown c.in_ok-rooms.ensures.rooms.wide;
       },
     )

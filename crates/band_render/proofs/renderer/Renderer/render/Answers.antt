@@ -2,8 +2,9 @@ use Rattle.std.proofs.Common.{ℕ, List, length, sym, ap, ◌∙◌, subst, arit
 use Rattle.std.proofs.lemmas.List.{length-map}
 use Rattle.play_scene.specs.Frames.{FrameView}
 use Rattle.band_render.specs.declared.band.Band.{Band}
+use Rattle.band_render.specs.Bands.{AreNumbered}
 use Rattle.band_render.specs.Rendered.{sizes}
-use Rattle.band_render.specs.Rows.{byte_count, rows_of_bands}
+use Rattle.band_render.specs.Rows.{byte_count, rows_of_bands, rows_of_frames}
 use Rattle.band_render.specs.inner.Rooms.{AreWide}
 use Rattle.band_render.proofs.Bands.{bands_in_rooms, bands_of_channels}
 use Rattle.band_render.proofs.renderer.Renderer.render.Goals as goal
@@ -26,4 +27,14 @@ draw_all-requires-after_bounds g c κs within =
       small = omega (arith, long, c.self.invariant.3);
       some = omega (arith, can.some, ap length are);
       wide = subst (AreWide bands) (sym are) (bands_in_rooms (sizes frames) bands c.self.inside.rooms.items rows can.wide);
+    }
+
+pub returns-clause-entered : goal.returns-clause-entered
+returns-clause-entered g c =
+    record {
+      bands = c.deref.result.now;
+      rows = ap (λ (l : List Band). rows_of_bands l) c.deref.ensures.value ∙ c.cut_frames.ensures.rows
+          ∙ ap (λ (l : List FrameView). rows_of_frames 1 (sizes l)) c.self.view_is;
+      numbers = subst AreNumbered (sym c.deref.ensures.value) c.cut_frames.ensures.numbers;
+      each = c.draw_all.ensures.entered;
     }

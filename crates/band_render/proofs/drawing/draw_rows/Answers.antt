@@ -6,11 +6,11 @@ use Rattle.band_render.specs.Rows.{Row, rows_from}
 use Rattle.band_render.proofs.Bands.{row_within}
 use Rattle.band_render.proofs.Drawn.{drawn_append, drawn_long, drawn_row}
 use Rattle.band_render.proofs.Rows.{byte_count-rows, rows_from-more}
-use Rattle.band_render.proofs.drawing.draw_band.Goals as goal
+use Rattle.band_render.proofs.drawing.draw_rows.Goals as goal
 
 pub slice_bounds-row-end : goal.slice_bounds-row-end
 slice_bounds-row-end g c =
-    let band = c.args.band.now in
+    let band = c.args.let_in.now.band.now in
     let width = c.from-row_bytes.result in
     let counted = c.requires.bytes ∙ byte_count-rows band.channel band.size band.first band.rows in
     let whole : 4 * width * band.rows ≡ 4 * band.size.width * band.rows = ap (λ (w : ℕ). 4 * w * band.rows) c.from-row_bytes.ensures in
@@ -22,7 +22,7 @@ slice_bounds-row-end g c =
 
 pub loop-at-preserved : goal.loop-at-preserved
 loop-at-preserved g c =
-    let band = c.args.band.now in
+    let band = c.args.let_in.now.band.now in
     let tick = c.args.tick.now in
     let at = c.loop-at.at in
     let width = c.from-row_bytes.result in
@@ -53,7 +53,7 @@ loop-at-preserved g c =
 
 pub returns-clause-drawn : goal.returns-clause-drawn
 returns-clause-drawn g c =
-    let band = c.args.band.now in
+    let band = c.args.let_in.now.band.now in
     let tick = c.args.tick.now in
     let at = c.loop-at.at in
     let width = c.from-row_bytes.result in

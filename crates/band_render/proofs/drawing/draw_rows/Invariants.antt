@@ -1,7 +1,7 @@
 use Rattle.std.proofs.Common.{◌≡◌, ◌*◌, take}
 use Rattle.band_render.specs.inner.Drawing.{AreDrawn}
 use Rattle.band_render.specs.Rows.{rows_from}
-use Rattle.band_render.proofs.drawing.draw_band.Given as goal
+use Rattle.band_render.proofs.drawing.draw_rows.Given as goal
 
 -- the rows above this one
 abbrev pub invariant-loop-at : goal.invariant-loop-at

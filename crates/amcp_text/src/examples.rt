@@ -4,6 +4,8 @@ ghost use Rattle.std.specs.Prelude.{◌≡◌, ◌∷◌, ◌++◌, [], Some, No
 ghost use Rattle.amcp_text.specs.Lines.{NotUtf8, lines_of};
 ghost use Rattle.amcp_text.specs.Micros.{printed_micro};
 ghost use Rattle.amcp_text.specs.Numbers.{number_within, plain_number_within, whole_number};
+ghost use Rattle.amcp_text.specs.declared.line_reader.TheConstants.{MAX_LINE_BYTES};
+ghost use Rattle.amcp_text.specs.declared.req_token.TheConstants.{MAX_TOKEN_BYTES};
 ghost use Rattle.amcp_text.specs.declared.token.TokenFault.TheVariants.{BadEscape, OpenQuote};
 ghost use Rattle.amcp_text.specs.Worked.{line, value, words};
 
@@ -72,4 +74,10 @@ pub fn printed_values()
     ensures whole { printed_micro (pos 1000000000) ≡ codes "1000" }
     ensures tenth { printed_micro (pos 100000) ≡ codes "0.1" }
     ensures zero { printed_micro (pos 0) ≡ codes "0" }
+{}
+
+/// The limits of a client's line and of a token, in bytes, as numbers.
+pub fn limits()
+    ensures line { MAX_LINE_BYTES ≡ 4096 }
+    ensures token { MAX_TOKEN_BYTES ≡ 64 }
 {}

@@ -2,6 +2,7 @@
 ghost use Rattle.std.specs.Prelude.{◌≡◌, ◌∷◌, [], Some, None, codes};
 ghost use Rattle.clip_store.specs.Listing.{clip_file, first_twice, sorted};
 ghost use Rattle.clip_store.specs.Scan.{first_above};
+ghost use Rattle.clip_store.specs.declared.reading.TheConstants.{MAX_MEDIA_BYTES};
 
 /// The names of clips.
 pub fn names_of_clips()
@@ -26,4 +27,9 @@ pub fn files_in_order()
 pub fn sums_of_lengths()
     ensures at_the_limit { first_above 0 (1073741823 ∷ 1 ∷ []) ≡ None }
     ensures above_the_limit { first_above 0 (1073741823 ∷ 2 ∷ 5 ∷ []) ≡ Some 1073741825 }
+{}
+
+/// The most bytes of all clip files, as a number.
+pub fn limits()
+    ensures { MAX_MEDIA_BYTES ≡ 1073741824 }
 {}

@@ -7,6 +7,7 @@ pub mod answers;
 pub mod generator;
 pub mod groups;
 pub mod histories;
+pub mod limits;
 pub mod lives;
 pub mod pictures;
 pub mod places;

@@ -16,9 +16,9 @@ use std::marker::Model;
 
 /// The events that have happened, in order.
 ///
-/// Each command takes one entry of 80 bytes, in which the number of the ticks before it stands too. The entries lie in
+/// Each command takes one entry of at most 88 bytes, in which the number of the ticks before it stands too. The entries lie in
 /// blocks of 1,024, which are never moved and of which at most one is not full, and the room for the list of the blocks
-/// is taken when the journal is created. So a journal that holds 4,194,304 commands takes at most 321 MiB, also while it
+/// is taken when the journal is created. So a journal that holds 4,194,304 commands takes at most 353 MiB, also while it
 /// grows, and each push takes a bounded number of steps. Ticks and the stop stand in the journal itself and take no
 /// further memory.
 #[derive(Debug, Drop)]

@@ -14,6 +14,16 @@ ghost use Rattle.play_types.specs.Setting.{AreValues};
 ghost use Rattle.play_types.specs.Take.{IsTake, take_of};
 ghost use Rattle.play_types.specs.Transition.{IsTrans, cut};
 ghost use Rattle.play_types.specs.Worked.{config};
+ghost use Rattle.play_types.specs.declared.clip.TheConstants.{MAX_FRAMES, MULTIPLIED, STRAIGHT};
+ghost use Rattle.play_types.specs.declared.command.TheConstants.{MAX_BATCH_COMMANDS};
+ghost use Rattle.play_types.specs.declared.config.TheConstants.{MAX_CONNECTIONS, MAX_JOURNAL_COMMANDS, MAX_RATE};
+ghost use Rattle.play_types.specs.declared.event.TheConstants.{MAX_TICKS};
+ghost use Rattle.play_types.specs.declared.geometry.TheConstants.{MAX_PAIRS, MAX_SIDE};
+ghost use Rattle.play_types.specs.declared.media.TheConstants.{MAX_MEDIA_NAMES};
+ghost use Rattle.play_types.specs.declared.place.TheConstants.{MAX_CHANNELS, MAX_LAYER, MAX_LIVE_LAYERS};
+ghost use Rattle.play_types.specs.declared.rec_name.TheConstants.{MAX_REC_NAME_BYTES};
+ghost use Rattle.play_types.specs.declared.setting.TheConstants.{MAX_MICROS, MAX_WAITING_SETTINGS, MICROS_PER_UNIT};
+ghost use Rattle.play_types.specs.declared.transition.TheConstants.{EASED_STEPS, MAX_DURATION};
 ghost use Rattle.play_types.specs.declared.transition.Curve.TheVariants.{EaseInCubic, EaseInQuad, EaseOutCubic, EaseOutQuad, Linear};
 
 use crate::command::Cmd;
@@ -232,4 +242,32 @@ pub fn names_of_recordings()
     ensures too_long { rec_name_of (replicate 33 65) ≡ None }
     ensures point { rec_name_of (codes "A.B") ≡ None }
     ensures no_ascii { rec_name_of (196 ∷ []) ≡ None }
+{}
+
+/// The limits of places, batches, settings, transitions and names, as numbers.
+pub fn limits_of_commands()
+    ensures channels { MAX_CHANNELS ≡ 16 }
+    ensures layer { MAX_LAYER ≡ 9999 }
+    ensures live_layers { MAX_LIVE_LAYERS ≡ 64 }
+    ensures batch { MAX_BATCH_COMMANDS ≡ 256 }
+    ensures waiting { MAX_WAITING_SETTINGS ≡ 1024 }
+    ensures value { MAX_MICROS ≡ pos 1000000000 }
+    ensures unit { MICROS_PER_UNIT ≡ pos 1000000 }
+    ensures duration { MAX_DURATION ≡ 1000000 }
+    ensures steps { EASED_STEPS ≡ 1000000 }
+    ensures recording { MAX_REC_NAME_BYTES ≡ 32 }
+{}
+
+/// The limits of configurations, histories and clips, as numbers, and the versions of clip files.
+pub fn limits_of_runs()
+    ensures rate { MAX_RATE ≡ 240 }
+    ensures connections { MAX_CONNECTIONS ≡ 64 }
+    ensures commands { MAX_JOURNAL_COMMANDS ≡ 16777216 }
+    ensures ticks { MAX_TICKS ≡ 281474976710656 }
+    ensures side { MAX_SIDE ≡ 4096 }
+    ensures pairs { MAX_PAIRS ≡ 4096 }
+    ensures frames { MAX_FRAMES ≡ 1000000 }
+    ensures clips { MAX_MEDIA_NAMES ≡ 4294967295 }
+    ensures multiplied { MULTIPLIED ≡ 1 }
+    ensures straight { STRAIGHT ≡ 2 }
 {}

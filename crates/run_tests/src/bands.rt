@@ -1,5 +1,5 @@
-//! Frames that several workers make, with ample memory: one channel of 16 by 9 pixels, which shows half red, blue within it, and
-//! its own frame of the tick before within both.
+//! Frames that several workers make, with ample memory: channels of 16 by 9 pixels. Channel 1 shows half red, blue within it, and
+//! its own frame of the tick before within both, and others show nothing.
 ghost use Rattle.std.specs.Prelude.{◌≡◌, ◌≤◌, IfOk, length};
 
 use crate::renderers::is_there;
@@ -32,9 +32,10 @@ impl Gate for CountingGate {
 /// The most turns for which a band waits for another one.
 const MOST_TURNS: u32 = 2_000_000_000;
 
-/// A gate at which each band waits until two have come. It keeps how many waited in vain.
+/// A gate at which each band waits until `wanted` have come. It keeps how many waited in vain.
 #[derive(Drop)]
 struct MeetingGate {
+    wanted: u32,
     came: AtomicU32,
     alone: AtomicU32,
 }
@@ -43,7 +44,7 @@ impl Gate for MeetingGate {
     fn enter(&self, _band: u32) {
         self.came.fetch_add(1, Ordering::SeqCst);
         for _ in 0..MOST_TURNS {
-            if self.came.load(Ordering::SeqCst) >= 2 {
+            if self.came.load(Ordering::SeqCst) >= self.wanted {
                 return;
             }
         }
@@ -51,11 +52,13 @@ impl Gate for MeetingGate {
     }
 }
 
-/// Returns a configuration of one channel of this size.
-fn config(alloc: Global, width: u16, height: u16) -> Result<Config, Fail> {
+/// Returns a configuration of some channels of 9 rows of this width.
+fn config(alloc: Global, width: u16, count: u8) -> Result<Config, Fail> {
     let mut channels = ChannelList::new(alloc);
-    let output = Text::copy(alloc, "o")?;
-    channels.push(Channel::new(width, height, 0, output).ok_or("a channel")?)?;
+    for _ in 0..count {
+        let output = Text::copy(alloc, "o")?;
+        channels.push(Channel::new(width, 9, 0, output).ok_or("a channel")?)?;
+    }
     let listen = Text::copy(alloc, "l")?;
     let media = Text::copy(alloc, "m")?;
     Ok(Config::new(listen, media, 25, 1, 1, channels).ok_or("a configuration")?)
@@ -86,23 +89,25 @@ fn add(scenes: &mut Scenes, still: Still, is_inset: bool)
     }
 }
 
-/// Renders two ticks of frames of this width by this number of workers, and returns the renderer.
+/// Renders two ticks of the frames of `channels` channels of this width by this number of workers, and returns the renderer.
 fn two_ticks<R: Threads + Sync, G: Gate>(
     rt: &R,
     alloc: Global,
     width: u16,
+    channels: u8,
     workers: u32,
     gate: &G,
 ) -> Result<Renderer, Fail>
-    requires { (1 ≤ workers) × (workers ≤ 64) }
-    ensures { IfOk result (λ renderer. length renderer ≡ 1) }
+    requires some { 1 ≤ channels }
+    requires workers { (1 ≤ workers) × (workers ≤ 64) }
+    ensures { IfOk result (λ renderer. length renderer ≡ channels) }
 {
-    let config = config(alloc, width, 9)?;
+    let config = config(alloc, width, channels)?;
     let media = MediaTable::empty(alloc)?;
     let mut scenes = Scenes::new(alloc, &config)?;
     let mut renderer = Renderer::new(alloc, &config, workers)?;
-    if scenes.channels() != 1 {
-        return Err(Fail::from("one channel"));
+    if scenes.channels() != channels {
+        return Err(Fail::from("as many channels"));
     }
     add(&mut scenes, Still::Colour(0x80FF_0000), false);
     add(&mut scenes, Still::Colour(0xFF00_00FF), true);
@@ -122,7 +127,7 @@ fn makes_the_same<R: Threads + Sync>(
     requires workers { (1 ≤ workers) × (workers ≤ 64) }
     requires other { length other.now ≡ 1 }
 {
-    let more = two_ticks(rt, alloc, 16, workers, &OpenGate)?;
+    let more = two_ticks(rt, alloc, 16, 1, workers, &OpenGate)?;
     Ok(other.frame(1) == more.frame(1))
 }
 
@@ -131,7 +136,7 @@ fn makes_the_same<R: Threads + Sync>(
 #[test]
 fn workers_make_equal_frames(rt: HostRuntime) -> Result<(), Fail> {
     let alloc = rt.alloc();
-    let one = two_ticks(&rt, alloc, 16, 1, &OpenGate)?;
+    let one = two_ticks(&rt, alloc, 16, 1, 1, &OpenGate)?;
     assert_eq!(rt; one.frame(1).get(0..4), Some([0, 0, 128, 128].as_slice()));
     assert_eq!(rt;
         one.frame(1).get(264..268),
@@ -147,50 +152,70 @@ fn workers_make_equal_frames(rt: HostRuntime) -> Result<(), Fail> {
     Ok(())
 }
 
-/// Renders two ticks of frames of this width by this number of workers, and returns how often bands entered the gate, and the
-/// numbers of those that did, a bit for each.
+/// Renders two ticks of the frames of `channels` channels of this width by this number of workers, and returns how often bands
+/// entered the gate, and the numbers of those that did, a bit for each.
 fn entered<R: Threads + Sync>(
     rt: &R,
     alloc: Global,
     width: u16,
+    channels: u8,
     workers: u32,
 ) -> Result<(u32, u64), Fail>
-    requires { (1 ≤ workers) × (workers ≤ 64) }
+    requires some { 1 ≤ channels }
+    requires workers { (1 ≤ workers) × (workers ≤ 64) }
 {
     let gate = CountingGate {
         count: AtomicU32::new(0),
         numbers: AtomicU64::new(0),
     };
-    two_ticks(rt, alloc, width, workers, &gate)?;
+    two_ticks(rt, alloc, width, channels, workers, &gate)?;
     Ok((
         gate.count.load(Ordering::SeqCst),
         gate.numbers.load(Ordering::SeqCst),
     ))
 }
 
-/// Each band enters the gate once a tick, with a number of its own from 0 on: as many as there are workers, but no more than rows,
-/// also if a frame is so small that the caller's thread makes all of it.
+/// Each band of each channel enters the gate once a tick, with a number of its own from 0 on: as many of a channel as there are
+/// workers, but no more than rows, also if a frame is so small that the caller's thread makes all of it.
 #[test]
 fn each_band_enters_once(rt: HostRuntime) -> Result<(), Fail> {
     let alloc = rt.alloc();
-    assert_eq!(rt; entered(&rt, alloc, 16, 1)?, (2, 0b1));
-    assert_eq!(rt; entered(&rt, alloc, 16, 2)?, (4, 0b11));
-    assert_eq!(rt; entered(&rt, alloc, 16, 7)?, (14, 0b111_1111));
-    assert_eq!(rt; entered(&rt, alloc, 16, 64)?, (18, 0b1_1111_1111));
-    assert_eq!(rt; entered(&rt, alloc, 4, 2)?, (4, 0b11));
-    assert_eq!(rt; entered(&rt, alloc, 4, 64)?, (18, 0b1_1111_1111));
+    assert_eq!(rt; entered(&rt, alloc, 16, 1, 1)?, (2, 0b1));
+    assert_eq!(rt; entered(&rt, alloc, 16, 1, 2)?, (4, 0b11));
+    assert_eq!(rt; entered(&rt, alloc, 16, 1, 7)?, (14, 0b111_1111));
+    assert_eq!(rt; entered(&rt, alloc, 16, 1, 64)?, (18, 0b1_1111_1111));
+    assert_eq!(rt; entered(&rt, alloc, 4, 1, 2)?, (4, 0b11));
+    assert_eq!(rt; entered(&rt, alloc, 4, 1, 64)?, (18, 0b1_1111_1111));
+    assert_eq!(rt; entered(&rt, alloc, 16, 3, 1)?, (6, 0b111));
+    assert_eq!(rt; entered(&rt, alloc, 16, 3, 7)?, (42, 0x1F_FFFF));
+    assert_eq!(rt; entered(&rt, alloc, 16, 5, 64)?, (90, 0x1FFF_FFFF_FFFF));
+    assert_eq!(rt; entered(&rt, alloc, 1, 2, 64)?, (36, 0x3_FFFF));
     Ok(())
 }
 
-/// Two workers make their bands beside each other.
-#[test]
-fn two_bands_meet(rt: HostRuntime) -> Result<(), Fail> {
+/// Renders two ticks of one channel by this number of workers, whose bands wait for as many, and returns how many bands came, and
+/// how many waited in vain.
+fn meet<R: Threads + Sync>(rt: &R, alloc: Global, workers: u32) -> Result<(u32, u32), Fail>
+    requires workers { (1 ≤ workers) × (workers ≤ 64) }
+{
     let gate = MeetingGate {
+        wanted: workers,
         came: AtomicU32::new(0),
         alone: AtomicU32::new(0),
     };
-    two_ticks(&rt, rt.alloc(), 16, 2, &gate)?;
-    assert_eq!(rt; gate.came.load(Ordering::SeqCst), 4);
-    assert_eq!(rt; gate.alone.load(Ordering::SeqCst), 0);
+    two_ticks(rt, alloc, 16, 1, workers, &gate)?;
+    Ok((
+        gate.came.load(Ordering::SeqCst),
+        gate.alone.load(Ordering::SeqCst),
+    ))
+}
+
+/// Workers make their bands beside one another: two, four, and nine at once.
+#[test]
+fn as_many_bands_meet_as_there_are_workers(rt: HostRuntime) -> Result<(), Fail> {
+    let alloc = rt.alloc();
+    assert_eq!(rt; meet(&rt, alloc, 2)?, (4, 0));
+    assert_eq!(rt; meet(&rt, alloc, 4)?, (8, 0));
+    assert_eq!(rt; meet(&rt, alloc, 9)?, (18, 0));
     Ok(())
 }

@@ -27,10 +27,14 @@ mod shared_stages;
 #[cfg(test)]
 mod sheets;
 #[cfg(test)]
+mod silences;
+#[cfg(test)]
 mod sockets;
 #[cfg(test)]
 mod tellers;
 #[cfg(test)]
 mod ticks;
+#[cfg(test)]
+mod wake_ups;
 #[cfg(test)]
 mod worked_runs;

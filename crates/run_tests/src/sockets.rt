@@ -3,21 +3,21 @@ ghost use Rattle.std.specs.Prelude.{◌≡◌, ◌<◌, IfSome};
 
 use play_outside::{Arrival, Beat, Clock, FileFault, Link, LinkStep, Listener, Sent, send};
 use play_types::{Channel, ChannelList, Config, Text};
-use real_devices::{DoorGroup, RateClock, RealDevices, TcpDoor, finish, ready};
+use real_devices::{DoorGroup, RateClock, RealDevices, TcpDoor, finish, ready, start_threads};
 use std::alloc::Global;
 use std::io::Write;
 use std::net::{TcpListener, TcpStream};
 use std::test::Fail;
 use std::time::{Duration, Instant};
-use std::{fs, io};
+use std::{fs, io, thread};
 
 /// How often a door is asked for a connection that has been made.
 const LOOKS: u32 = 200;
 
 /// Returns a connection that comes to a door.
-fn arrived<D: Listener>(door: &mut D) -> Option<D::Line>
+pub(crate) fn arrived<D: Listener>(door: &mut D) -> Option<D::Line>
     requires { (D.state door.old).away ≡ 0 }
-    ensures { IfSome result (λ line. 0 < (D.state door.new).away) }
+    ensures { IfSome result (λ line. (D.state door.new).away ≡ 1) }
 {
     for _ in 0..LOOKS {
         match door.next() {
@@ -45,7 +45,7 @@ fn serve<D: Listener>(door: &mut D) -> Option<(LinkStep, Sent)>
 fn answers_a_client(rt: HostRuntime) -> Result<(), Fail> {
     let listener = TcpListener::bind(&rt, "127.0.0.1:0")?;
     let port = listener.local_addr()?.port();
-    let mut door = TcpDoor::new(listener, rt, DoorGroup::new(rt.alloc())?, 1)?;
+    let mut door = TcpDoor::new(listener, rt, DoorGroup::new(rt.alloc(), 1)?, 1)?;
     let mut client = TcpStream::connect(&rt, ("127.0.0.1", port))?;
     client.write_all(b"VERSION\r\nINFO\r\n")?;
     let served = serve(&mut door);
@@ -184,14 +184,13 @@ fn leaves_files_that_have_a_use(rt: HostRuntime) -> Result<(), Fail> {
     Ok(())
 }
 
-/// Writes a history to a path, and returns whether all of it was taken.
+/// Writes a history to a path, and returns whether all of it was taken, and it got its name if it is not empty.
 fn write_history(rt: HostRuntime, history: &[u8], path: &str) -> Result<bool, Fail> {
     let alloc = rt.alloc();
     let config = config_of(alloc, "127.0.0.1:0", "m", ["/dev/null", "/dev/null"])?;
     let mut devices = ready(rt, alloc, &config, None, Some(path))?;
     let is_taken = matches!(send(history, &mut devices.history), Sent::All);
-    finish(devices);
-    Ok(is_taken)
+    Ok(finish(devices).is_ok() && is_taken)
 }
 
 /// No clause says what a file is called.
@@ -210,5 +209,40 @@ fn keeps_earlier_histories(rt: HostRuntime) -> Result<(), Fail> {
         assert!(rt; !fs::exists(&rt, name)?);
     }
     fs::remove_dir_all(&rt, "journal_test")?;
+    Ok(())
+}
+
+/// How many looks at the threads of the program, of ten milliseconds each, may still find one that has ended.
+const ENDED_LOOKS: u32 = 500;
+
+/// Returns how many threads the program has.
+fn count_threads(rt: HostRuntime) -> Result<usize, Fail> {
+    let mut count = 0;
+    for thread in fs::read_dir(&rt, "/proc/self/task")? {
+        thread?;
+        count += 1;
+    }
+    Ok(count)
+}
+
+/// Returns whether the program has this many threads at last. The system lists a thread for a moment after its end.
+fn comes_to(rt: HostRuntime, count: usize) -> Result<bool, Fail> {
+    for _ in 0..ENDED_LOOKS {
+        if count_threads(rt)? == count {
+            return Ok(true);
+        }
+        thread::sleep(&rt, Duration::from_millis(10));
+    }
+    Ok(false)
+}
+
+/// No clause says that threads are started and that they end.
+#[test]
+fn starts_and_ends_threads(rt: HostRuntime) -> Result<(), Fail> {
+    let before = count_threads(rt)?;
+    for count in [0, 1, 4, 65] {
+        assert_eq!(rt; start_threads(&rt, rt.alloc(), count)?, count as usize);
+        assert!(rt; comes_to(rt, before)?);
+    }
     Ok(())
 }

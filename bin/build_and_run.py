@@ -120,13 +120,34 @@ def lines_of(crates):
     return {name: sum(text.count("\n") for _, text in files_of(f"{TOP}/crates/{name}")) for name in crates}
 
 
+class Work:
+    """The crates that a build has to prove, by their lines and by the crates that each of them stands on."""
+
+    def __init__(self, crates):
+        self.lines = lines_of(crates)
+        self.below = {name: [it for it in line.partition(":")[2].split() if it in crates] for name, line in crates.items()}
+
+    def lines_in_turn(self, left):
+        """Returns how many lines have to be proved one after another, if `left` has the lines that are left of each crate: those of
+        the longest chain of crates, or the share of one of four processors."""
+        longest = {}
+
+        def chain(name):
+            if name not in longest:
+                longest[name] = left.get(name, 0) + max(map(chain, self.below[name]), default=0)
+            return longest[name]
+
+        return max([*map(chain, self.below), sum(left.values()) / PROCESSORS])
+
+
 def minutes(crates):
     """Returns about how many minutes the toolchain takes to prove these crates from nothing."""
-    lines = sum(lines_of(crates).values())
-    return max(1, round(lines / 1000 * MINUTES_A_THOUSAND_LINES / min(len(os.sched_getaffinity(0)), 4)))
+    work = Work(crates)
+    return max(1, round(work.lines_in_turn(work.lines) * SECONDS_A_LINE / 60))
 
 
-MINUTES_A_THOUSAND_LINES = 1.5
+PROCESSORS = min(len(os.sched_getaffinity(0)), 4)
+SECONDS_A_LINE = 0.06
 SECONDS_BETWEEN_WORDS = 60
 KEPT_PROGRAMS = 4
 
@@ -172,13 +193,29 @@ class Progress:
     """What a build is at: which crates are done, and since when each of the others is under way."""
 
     def __init__(self, crates):
-        self.lines, self.began, self.since = lines_of(crates), time.monotonic(), {}
-        self.left, self.proved = set(crates), 0
+        self.work, self.began, self.since = Work(crates), time.monotonic(), {}
+        self.left = set(crates)
+        self.all = self.lines_left(self.began)
 
     def done(self, crate, is_proved):
         """Notes that a crate is done, and whether it was proved in this build."""
+        now = time.monotonic()
+        before = self.lines_left(now)
         self.left.discard(crate)
-        self.proved += self.lines[crate] if is_proved else 0
+        self.since.pop(crate, None)
+        if not is_proved:
+            self.all -= before - self.lines_left(now)
+
+    def lines_left(self, now):
+        """Returns about how many lines are left to prove one after another. Of a crate that is under way at least a tenth is left."""
+        part = {it: min(0.9, (now - began) / (self.work.lines[it] * SECONDS_A_LINE + 1)) for it, began in self.since.items()}
+        return self.work.lines_in_turn({it: self.work.lines[it] * (1 - part.get(it, 0)) for it in self.left})
+
+    def seconds_left(self, now):
+        """Returns about how many seconds are left: as fast as until now, which the usual speed corrects while little is proved."""
+        left, usual = self.lines_left(now), self.all / 2
+        proved = max(0, self.all - left)
+        return left * (now - self.began + usual * SECONDS_A_LINE) / (proved + usual + 1)
 
     def text(self, session):
         """Returns what the processes of a session are at, and about how many minutes are left."""
@@ -191,9 +228,8 @@ class Progress:
                     found.add(words[words.index("--crate-name") + 1])
         self.since = {it: self.since.get(it, now) for it in found & self.left}
         at = ", ".join(f"{it}, {(now - began) / 60:.0f} min" for it, began in sorted(self.since.items(), key=lambda it: it[1]))
-        more = sum(self.lines[it] for it in self.left)
-        left = f"; about {max(1, round((now - self.began) * more / self.proved / 60))} min left" if self.proved else ""
-        return f"{(now - self.began) / 60:.0f} min: at {at or 'the toolchain'}{left}"
+        left = max(1, round(self.seconds_left(now) / 60))
+        return f"{(now - self.began) / 60:.0f} min: at {at or 'the toolchain'}; about {left} min left"
 
 
 def spoken(lines, say_progress):

@@ -13,9 +13,14 @@ make_clip.py FILM CLIP.rclp [--size WxH] [--rate N] [--pairs N] [--seconds N] [-
 
 Without --straight it makes a clip of version 1: colours of a film with an alpha channel are multiplied by the alpha before they are
 scaled. A film without sound gives silence if --pairs asks for some. It needs ffmpeg and ffprobe on the path.
+
+All clips of a folder may have 1,073,741,824 bytes together, so a clip that has more by itself is refused, before it is made if the film
+tells how long it is. At 25 ticks a second, with sound, 46.2 seconds of 640x360 fit, 11.6 of 1280x720 and 5.16 of 1920x1080. If the clip
+cannot be written, nothing is left of it, and a file that was there stays.
 """
 
 import argparse
+import contextlib
 import os
 import struct
 import subprocess
@@ -38,8 +43,47 @@ def has_alpha(pixel_format):
     return pixel_format.startswith(("rgba", "bgra", "argb", "abgr", "yuva", "gbrap", "ya8", "ya16", "pal8", "ayuv", "vuya"))
 
 
+def length_of(film):
+    """Returns how many seconds the film lasts, as far as it tells, or nothing."""
+    words = ["ffprobe", "-v", "error", "-show_entries", "format=duration", "-of", "default=nw=1:nk=1", film]
+    try:
+        return float(subprocess.run(words, check=True, stdin=subprocess.DEVNULL, stdout=subprocess.PIPE, text=True).stdout)
+    except ValueError:
+        return None
+
+
+def frame_bytes(said):
+    """Returns how many bytes a frame has with its sound."""
+    width, height = said.size
+    return 4 * width * height + 4 * said.pairs
+
+
+def most_frames(said):
+    """Returns how many frames fit into the bytes that all clips may have together."""
+    return min((MOST_BYTES - 20) // frame_bytes(said), MOST_FRAMES)
+
+
+def refuse_if_long(said):
+    """Refuses a film that tells that it lasts longer than a clip can."""
+    lasts = length_of(said.film)
+    if lasts is None:
+        return
+    taken = min(lasts, said.seconds or lasts)
+    if taken * said.rate >= most_frames(said) + 1:
+        sys.exit(too_long(said, f"{taken:g} seconds are"))
+
+
+def too_long(said, what):
+    """Returns why a film is refused, and how much of it would fit."""
+    (width, height), most = said.size, most_frames(said)
+    at = f"{width}x{height} with {said.pairs:,} stereo pairs a frame and {said.rate} frames a second"
+    fit = most * 1000 // said.rate / 1000
+    limit = f"a clip of {MOST_FRAMES:,} frames" if most == MOST_FRAMES else f"the {MOST_BYTES:,} bytes that all clips of a folder may have together"
+    return f"make_clip.py: {said.film}: {what} too much for {limit}: of {at} {fit:g} seconds fit, as --seconds {fit:g} takes them"
+
+
 def pictures(said, room):
-    """Writes the pictures of the film as raw frames into a file, and returns its path."""
+    """Writes the pictures of the film as raw frames into a file, one more than fit at most, and returns its path."""
     path = f"{room}/pictures"
     width, height = said.size
     filters = [f"fps={said.rate}"]
@@ -48,7 +92,8 @@ def pictures(said, room):
     if not said.straight:
         filters.append(f"scale={width}:{height}")
     words = ["ffmpeg", "-nostdin", "-v", "error", "-i", said.film, *said.taken, "-an"]
-    subprocess.run([*words, "-vf", ",".join(filters), "-pix_fmt", "bgra", "-f", "rawvideo", path], check=True)
+    few = ["-frames:v", str(most_frames(said) + 1)]
+    subprocess.run([*words, "-vf", ",".join(filters), *few, "-pix_fmt", "bgra", "-f", "rawvideo", path], check=True)
     return path
 
 
@@ -62,21 +107,38 @@ def sound(said, room):
     return path
 
 
-def write_clip(said, room):
-    """Writes the header, and then each picture with its sound. Returns the number of frames."""
-    width, height = said.size
+def write_frames(said, frames, paths, clip):
+    """Writes the header into a file, and then each picture with its sound."""
+    (width, height), (picture_path, sound_path) = said.size, paths
     picture_bytes, sound_bytes = 4 * width * height, 4 * said.pairs
-    picture_path, sound_path = pictures(said, room), sound(said, room)
-    frames = os.path.getsize(picture_path) // picture_bytes
-    if not 1 <= frames <= MOST_FRAMES:
-        sys.exit(f"make_clip.py: {said.film}: {frames} frames, and a clip has 1 to {MOST_FRAMES:,}")
-    if 20 + frames * (picture_bytes + sound_bytes) > MOST_BYTES:
-        print(f"make_clip.py: {said.clip}: more than the {MOST_BYTES:,} bytes that all clips of a folder may have together", file=sys.stderr)
-    with open(said.clip, "wb") as clip, open(picture_path, "rb") as shown, open(sound_path or os.devnull, "rb") as heard:
+    with open(picture_path, "rb") as shown, open(sound_path or os.devnull, "rb") as heard:
         clip.write(struct.pack(">4s4HI2H", b"RCLP", STRAIGHT if said.straight else MULTIPLIED, 0, width, height, frames, said.pairs, 0))
         for _ in range(frames):
             clip.write(shown.read(picture_bytes))
             clip.write(heard.read(sound_bytes).ljust(sound_bytes, b"\0"))
+
+
+def write_clip(said, room):
+    """Writes the clip under another name, and gives it its own when it is whole. Returns the number of frames."""
+    refuse_if_long(said)
+    width, height = said.size
+    picture_path = pictures(said, room)
+    frames = os.path.getsize(picture_path) // (4 * width * height)
+    if frames > most_frames(said):
+        sys.exit(too_long(said, f"{frames:,} frames or more are"))
+    if not frames:
+        sys.exit(f"make_clip.py: {said.film}: it has no picture, and a clip has 1 to {MOST_FRAMES:,}")
+    paths, part = (picture_path, sound(said, room)), f"{said.clip}.part"
+    try:
+        with open(part, "wb") as clip:
+            write_frames(said, frames, paths, clip)
+        os.replace(part, said.clip)
+    except BaseException as error:
+        with contextlib.suppress(OSError):
+            os.remove(part)
+        if isinstance(error, OSError):
+            sys.exit(f"make_clip.py: {said.clip}: {error.strerror}")
+        raise
     return frames
 
 

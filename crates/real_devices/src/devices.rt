@@ -366,7 +366,7 @@ fn is_pipe<R: Files>(rt: &R, path: &str) -> bool {
 }
 
 /// Says why a device was not made, and returns the fault of that.
-fn not_made<E: Eprint>(errors: &E, of: &str, why: &io::Error) -> FileFault {
+pub(crate) fn not_made<E: Eprint>(errors: &E, of: &str, why: &io::Error) -> FileFault {
     complain(errors, of, why);
     match why.kind() {
         ErrorKind::OutOfMemory => FileFault::OutOfMemory,

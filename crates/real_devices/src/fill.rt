@@ -1,7 +1,7 @@
 //! When it is said how full the journal of the history is.
-ghost use Rattle.std.specs.Prelude.{◌≡◌};
+ghost use Rattle.std.specs.Prelude.{◌≡◌, ◌<◌, ◌↔◌, IsTrue};
 ghost use Rattle.real_devices.specs.declared.fill.Level.TheVariants.{Low};
-ghost use Rattle.real_devices.specs.inner.Fill.{Notes, is_above, level_of};
+ghost use Rattle.real_devices.specs.inner.Fill.{IsLevel, Notes, rank};
 
 /// How full a journal is.
 #[derive(Clone, Copy, Debug, PartialEq, Eq)]
@@ -17,7 +17,7 @@ pub(crate) enum Level {
 impl Level {
     /// Returns whether it is fuller than another.
     fn is_above(self, other: Level) -> bool
-        ensures { result ≡ is_above self other }
+        ensures { IsTrue result ↔ (rank other < rank self) }
     {
         match self {
             Level::Low => false,
@@ -69,7 +69,7 @@ impl Fill {
 
 /// Returns how full a journal is that may hold `limit` commands and holds `commands`.
 fn level_of(limit: u32, commands: u32) -> Level
-    ensures { result ≡ level_of limit commands }
+    ensures { IsLevel limit commands result }
 {
     if commands >= limit {
         Level::Full

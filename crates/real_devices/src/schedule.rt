@@ -1,8 +1,8 @@
 //! When the pulses of a clock are due.
-ghost use Rattle.std.specs.Prelude.{◌≡◌, ◌+◌, ◌*◌, ◌/◌, ◌<◌, IfSome};
+ghost use Rattle.std.specs.Prelude.{◌≡◌, ◌+◌, ◌*◌, ◌<◌, ◌≤◌, IfSome};
 ghost use Rattle.std.specs.Time.{instant_nanos};
 ghost use Rattle.std.specs.Duration.{as_nanos};
-ghost use Rattle.real_devices.specs.inner.Schedule.{due_nanos, pulses_in, Advances};
+ghost use Rattle.real_devices.specs.inner.Schedule.{Advances, AreIn, IsDue};
 
 use std::time::{Duration, Instant};
 
@@ -58,17 +58,27 @@ impl Schedule {
     /// Returns when the next pulse is due.
     fn due(&self, rate: u32) -> Option<Instant>
         requires { 0 < rate }
-        ensures { IfSome result (λ due. instant_nanos due ≡ due_nanos rate self.now) }
+        ensures { IfSome result (λ due. IsDue rate self.now (instant_nanos due)) }
     {
-        let nanos = (u128::from(self.given) + 1) * SECOND / u128::from(rate);
+        let nanos = nanos_before_next(self.given, rate);
         let after = u64::try_from(nanos).ok()?;
         self.begun.checked_add(Duration::from_nanos(after))
     }
 }
 
+/// Returns how many nanoseconds after the beginning the pulse behind `given` pulses is due.
+#[tactic(auto, using(crate::proofs::Pulses::quotient_fits, crate::proofs::Pulses::one_more_is_beyond))]
+fn nanos_before_next(given: u64, rate: u32) -> u128
+    requires { 0 < rate }
+    ensures reached { result * rate ≤ (given + 1) * 1_000_000_000 }
+    ensures not_passed { (given + 1) * 1_000_000_000 < (result + 1) * rate }
+{
+    (u128::from(given) + 1) * SECOND / u128::from(rate)
+}
+
 /// Returns how many whole pulses fit in a time.
 fn pulses_in(time: Duration, rate: u32) -> u128
-    ensures { result ≡ pulses_in (as_nanos time) rate }
+    ensures { AreIn rate (as_nanos time) result }
 {
     time.as_nanos() * u128::from(rate) / SECOND
 }

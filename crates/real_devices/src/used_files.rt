@@ -1,9 +1,12 @@
 //! Which files have a use already.
+
+use crate::devices::not_made;
 use play_outside::FileFault;
 use play_types::Config;
 use std::alloc::{AllocError, Global};
 use std::fmt::{self, Display, Formatter, Write};
-use std::fs::{self, File, Metadata};
+use std::fs::{self, DirEntry, File, Metadata};
+use std::io::{Eprint, ErrorKind};
 use std::os::unix::fs::{FileTypeExt, MetadataExt};
 use std::rt::Files;
 
@@ -87,8 +90,9 @@ impl UsedFiles {
 }
 
 /// Returns the files that no output may have: the configuration and the clips of its media folder, as far as the system
-/// tells them.
-pub(crate) fn files_in_use<R: Files<File = File> + AllocGlobal + Copy + Drop>(
+/// tells them. `Failed` comes if the folder is there and cannot be listed, which standard error says: any output might be a
+/// clip then.
+pub(crate) fn files_in_use<R: Files<File = File> + Eprint + AllocGlobal + Copy + Drop>(
     rt: R,
     alloc: Global,
     config: &Config,
@@ -104,27 +108,40 @@ pub(crate) fn files_in_use<R: Files<File = File> + AllocGlobal + Copy + Drop>(
     Ok(used)
 }
 
-/// Adds the clips of a folder.
-fn add_clips<R: Files<File = File> + AllocGlobal + Copy + Drop>(
+/// Adds the clips of a folder, if there is one. A name that is not UTF-8 is none of a clip.
+fn add_clips<R: Files<File = File> + Eprint + AllocGlobal + Copy + Drop>(
     rt: R,
     folder: &str,
     used: &mut UsedFiles,
 ) -> Result<(), FileFault> {
-    let Ok(entries) = fs::read_dir(&rt, folder) else {
-        return Ok(());
+    let entries = match fs::read_dir(&rt, folder) {
+        Ok(entries) => entries,
+        Err(error) if matches!(error.kind(), ErrorKind::NotFound) => return Ok(()),
+        Err(error) => return Err(not_made(&rt, folder, &error)),
     };
     for entry in entries {
-        let Ok(entry) = entry else {
-            continue;
-        };
-        if !is_clip(entry.file_name()) {
-            continue;
-        }
-        if let Ok(found) = fs::metadata(&rt, entry.path()) {
-            used.add(&found, Use::Clip)?;
+        match entry {
+            Ok(entry) => add_clip(rt, &entry, used)?,
+            Err(error) if matches!(error.kind(), ErrorKind::InvalidFilename) => {}
+            Err(error) => return Err(not_made(&rt, folder, &error)),
         }
     }
     Ok(())
+}
+
+/// Adds an entry of the media folder, if it has the name of a clip.
+fn add_clip<R: Files + AllocGlobal + Drop>(
+    rt: R,
+    entry: &DirEntry<R>,
+    used: &mut UsedFiles,
+) -> Result<(), AllocError> {
+    if !is_clip(entry.file_name()) {
+        return Ok(());
+    }
+    match fs::metadata(&rt, entry.path()) {
+        Ok(found) => used.add(&found, Use::Clip),
+        Err(_) => Ok(()),
+    }
 }
 
 /// Returns whether a file has the name of a clip.

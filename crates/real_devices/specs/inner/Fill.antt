@@ -1,25 +1,24 @@
 -- When it is said how full the journal of the history is.
-use Rattle.std.specs.Prelude.{◌≡◌, ℕ, ◌*◌, Bool, true, false, Option, Some, None, nat_le, if◌then◌else◌}
+use Rattle.std.specs.Prelude.{◌≡◌, ℕ, ◌*◌, ◌<◌, ◌≤◌, Option, Some, None}
 use Rattle.real_devices.specs.declared.fill.Fill.{Fill}
 use Rattle.real_devices.specs.declared.fill.Level.{Level}
 use Rattle.real_devices.specs.declared.fill.Level.TheVariants.{Low, NineTenths, Full}
 
--- how full a journal is that may hold `limit` commands and holds `commands`
-abbrev pub level_of : ℕ → ℕ → Level
-level_of limit commands = if nat_le limit commands then Full else (if nat_le (limit * 9) (commands * 10) then NineTenths else Low)
+-- a journal that may hold `limit` commands and holds `commands` is this full
+abbrev pub IsLevel : ℕ → ℕ → Level → Type 0
+IsLevel limit commands Low = commands * 10 < limit * 9
+IsLevel limit commands NineTenths = (limit * 9 ≤ commands * 10) × (commands < limit)
+IsLevel limit commands Full = limit ≤ commands
 
--- whether one level is fuller than another
-abbrev pub is_above : Level → Level → Bool
-is_above Low other = false
-is_above NineTenths Low = true
-is_above NineTenths NineTenths = false
-is_above NineTenths Full = false
-is_above Full Low = true
-is_above Full NineTenths = true
-is_above Full Full = false
+-- which of two levels is fuller
+abbrev pub rank : Level → ℕ
+rank Low = 0
+rank NineTenths = 1
+rank Full = 2
 
--- it is said how full the journal is exactly if it is fuller than when that was last said
-abbrev pub Notes : Option Level → ℕ → Fill → Fill → Type 0
-Notes None commands before after = (is_above (level_of before.limit commands) before.said ≡ false) × (after ≡ before)
-Notes (Some level) commands before after =
-    (level ≡ level_of before.limit commands) × (is_above level before.said ≡ true) × (after ≡ record before { said = level })
+-- the level of `commands` commands is said exactly if it is fuller than the one that was said last
+pub record Notes (result : Option Level) (commands : ℕ) (before after : Fill) : Type 0 where
+  pub level : Level
+  pub holds : IsLevel before.limit commands level
+  pub said : rank before.said < rank level → (result ≡ Some level) × (after ≡ record before { said = level })
+  pub unsaid : rank level ≤ rank before.said → (result ≡ None) × (after ≡ before)

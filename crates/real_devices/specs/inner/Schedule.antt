@@ -1,5 +1,5 @@
 -- When the pulses of a clock are due.
-use Rattle.std.specs.Prelude.{◌≡◌, ℕ, ◌+◌, ◌-◌, ◌*◌, ◌/◌, ◌<◌, ◌≤◌, ◌^◌, min, Option, Some, None}
+use Rattle.std.specs.Prelude.{◌≡◌, ℕ, ◌+◌, ◌-◌, ◌*◌, ◌<◌, ◌≤◌, ◌^◌, min, Option, Some, None}
 use Rattle.std.specs.Time.{instant_nanos}
 use Rattle.std.specs.Duration.{as_nanos}
 use Rattle.std.specs.declared.time.Instant.{Instant}
@@ -7,23 +7,39 @@ use Rattle.real_devices.specs.declared.schedule.Schedule.{Schedule}
 use Rattle.real_devices.specs.declared.schedule.Step.{Step}
 use Rattle.real_devices.specs.declared.schedule.Step.TheVariants.{Wait, PassOver}
 
--- when the next pulse is due, in nanoseconds: the k-th pulse k times a second divided by the rate after the beginning
-abbrev pub due_nanos : ℕ → Schedule → ℕ
-due_nanos rate schedule = instant_nanos schedule.begun + (schedule.given + 1) * 1_000_000_000 / rate
+-- the next pulse is due at this time in nanoseconds: at `rate` pulses a second, as many seconds after the beginning as all pulses with
+-- it last, but for a part of a nanosecond
+pub record IsDue (rate : ℕ) (schedule : Schedule) (due : ℕ) : Type 0 where
+  pub after : ℕ
+  pub since : due ≡ instant_nanos schedule.begun + after
+  pub reached : after * rate ≤ (schedule.given + 1) * 1_000_000_000
+  pub not_passed : (schedule.given + 1) * 1_000_000_000 < (after + 1) * rate
 
--- how many whole pulses fit in so many nanoseconds
-abbrev pub pulses_in : ℕ → ℕ → ℕ
-pulses_in nanos rate = nanos * rate / 1_000_000_000
+-- so many pulses are due in so many nanoseconds, and no more
+abbrev pub AreIn : ℕ → ℕ → ℕ → Type 0
+AreIn rate nanos pulses = (pulses * 1_000_000_000 ≤ nanos * rate) × (nanos * rate < (pulses + 1) * 1_000_000_000)
 
--- the pulse is given once it is due, if it is not late by more than a second; else a new schedule begins now, and
--- the pulses are passed over that were due since
+-- the pulse that is due is given, which is not late by more than a second
+pub record GivesPulse (left rate now : ℕ) (before after : Schedule) : Type 0 where
+  pub due : ℕ
+  pub is_due : IsDue rate before due
+  pub in_time : now ≤ due + 1_000_000_000
+  -- what is left to wait
+  pub waits : left ≡ due - now
+  pub begun : after.begun ≡ before.begun
+  pub given : after.given ≡ min (before.given + 1) (2 ^ 64 - 1)
+
+-- a pulse that is late by more than a second is the first of a new schedule, and all that were due since are passed over
+pub record BeginsAnew (pulses rate : ℕ) (now : Instant) (before after : Schedule) : Type 0 where
+  pub due : ℕ
+  pub is_due : IsDue rate before due
+  pub late : due + 1_000_000_000 < instant_nanos now
+  pub passed_over : AreIn rate (instant_nanos now - due) pulses
+  pub begun : after.begun ≡ now
+  pub given : after.given ≡ 0
+
+-- what a clock does for its next pulse. Nothing happens at a time that no clock reads
 abbrev pub Advances : Option Step → ℕ → Instant → Schedule → Schedule → Type 0
 Advances None rate now before after = after ≡ before
-Advances (Some (Wait time)) rate now before after =
-    (as_nanos time ≡ due_nanos rate before - instant_nanos now)
-    × (instant_nanos now ≤ due_nanos rate before + 1_000_000_000)
-    × (after ≡ record { begun = before.begun; given = min (before.given + 1) (2 ^ 64 - 1) })
-Advances (Some (PassOver pulses)) rate now before after =
-    (due_nanos rate before + 1_000_000_000 < instant_nanos now)
-    × (pulses ≡ pulses_in (instant_nanos now - due_nanos rate before) rate)
-    × (after ≡ record { begun = now; given = 0 })
+Advances (Some (Wait time)) rate now before after = GivesPulse (as_nanos time) rate (instant_nanos now) before after
+Advances (Some (PassOver pulses)) rate now before after = BeginsAnew pulses rate now before after

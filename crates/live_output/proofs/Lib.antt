@@ -1,0 +1,4 @@
+pub mod Picking
+pub mod Frames
+pub mod Cutting
+pub mod Written

@@ -1,0 +1,5 @@
+pub mod Picked
+pub mod Cut
+pub mod Last
+pub mod Got
+pub mod Served

@@ -28,7 +28,7 @@ fn main(rt: HostRuntime) -> ExitCode {
     let words = words_of(alloc, env::args(&rt));
     let progress = Progress::on(rt.stderr().is_terminal());
     let lines = ErrorLines::start(rt, alloc);
-    let mut site = RealSite::new(Host::new(rt, &lines), progress);
+    let mut site = RealSite::new(Host::new(rt, &lines), rt, progress);
     let status = serve(&rt, alloc, words, &mut site);
     lines.finish(&rt);
     ExitCode::from(status)

@@ -8,7 +8,7 @@ use host_system::{FolderMedia, ProgramFile, Progress, words_of};
 use play_outside::{FileFault, MediaDir, WriteStep};
 use play_server::{FinishStep, Site};
 use play_types::Config;
-use real_devices::{FileSink, RateClock, RealDevices, TcpDoor, try_threads};
+use real_devices::{FileSink, LiveRuntime, RateClock, RealDevices, TcpDoor, try_threads};
 use std::alloc::Global;
 use std::env::{self, Env};
 use std::fs::File;
@@ -21,22 +21,25 @@ use std::time::Clock;
 /// Files of the system, and the devices that a configuration names. It says its lines on standard error, and does not tell
 /// its calls.
 #[derive(Drop)]
-pub struct RealSite<R> {
+pub struct RealSite<R, H> {
     rt: R,
+    /// The runtime of the threads of live outputs.
+    host: H,
     media: FolderMedia<R>,
     program: ProgramFile,
     faults: u64,
 }
 
-impl<R: Files + Eprint + AllocGlobal + Copy + Drop> RealSite<R> {
-    /// Returns the site over a runtime. No call of it has failed yet, and no read of its folder. It says on standard error
-    /// as much of the clips that are read as `progress` allows.
-    pub fn new(rt: R, progress: Progress) -> RealSite<R>
+impl<R: Files + Eprint + AllocGlobal + Copy + Drop, H: Drop> RealSite<R, H> {
+    /// Returns the site over a runtime, whose live outputs have their threads over `host`. No call of it has failed yet, and no read
+    /// of its folder. It says on standard error as much of the clips that are read as `progress` allows.
+    pub fn new(rt: R, host: H, progress: Progress) -> RealSite<R, H>
         ensures faults { result.faults ≡ 0 }
         ensures folder { ⟦<FolderMedia<R> as MediaDir>⟧.state result.media ≡ record { files = None; faults = 0 } }
     {
         RealSite {
             rt,
+            host,
             media: FolderMedia::new(rt, PROGRAM, progress),
             program: ProgramFile::find(&rt),
             faults: 0,
@@ -62,7 +65,8 @@ impl<
         + Copy
         + Drop
         + Send,
-> Site for RealSite<R> {
+    H: LiveRuntime + Drop,
+> Site for RealSite<R, H> {
     type Media = FolderMedia<R>;
 
     type Clock = RateClock<R>;
@@ -91,7 +95,7 @@ impl<
         try_threads(&self.rt, alloc, config)?;
         let source = config_path(&self.rt, alloc);
         let source = source.as_ref().map(|path| path.as_str());
-        match real_devices::ready(self.rt, alloc, config, source, history) {
+        match real_devices::ready(self.rt, &self.host, alloc, config, source, history) {
             Ok(devices) => {
                 say_listening(&self.rt, config, address_of(&devices), &self.program);
                 Ok(devices)
@@ -104,9 +108,10 @@ impl<
         }
     }
 
-    /// Closes the listening socket and the files. The file of the history gets its name, if the history was written.
+    /// Closes the listening socket and the files, after each live output has handed out what waits, for two seconds at most. The file
+    /// of the history gets its name, if the history was written.
     fn finish(&mut self, devices: RealDevices<R>) -> FinishStep
-        ensures told { Finishes result devices (⟦<RealSite<R> as Site>⟧.state self.old) (⟦<RealSite<R> as Site>⟧.state self.new) }
+        ensures told { Finishes result devices (⟦<RealSite<R, H> as Site>⟧.state self.old) (⟦<RealSite<R, H> as Site>⟧.state self.new) }
         ensures folder { self.new.media ≡ self.old.media }
     {
         match real_devices::finish(devices) {

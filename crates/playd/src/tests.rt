@@ -36,7 +36,7 @@ fn gives_devices_again(rt: HostRuntime) -> Result<(), Fail> {
     let port = TcpListener::bind(&rt, "127.0.0.1:0")?.local_addr()?.port();
     let address = format!(in alloc; "127.0.0.1:{port}")?;
     let config = config_of(alloc, address.as_str())?;
-    let mut site = RealSite::new(rt, Progress::Silent);
+    let mut site = RealSite::new(rt, rt, Progress::Silent);
     let devices = site.ready(alloc, &config, Some(FILES[2]))?;
     // The address is taken.
     assert_eq!(rt;
@@ -58,7 +58,7 @@ fn gives_devices_again(rt: HostRuntime) -> Result<(), Fail> {
 /// No clause says that a line can be said.
 #[test]
 fn says_lines(rt: HostRuntime) -> Result<(), Fail> {
-    let mut site = RealSite::new(rt, Progress::Silent);
+    let mut site = RealSite::new(rt, rt, Progress::Silent);
     for line in ["E device", "E usage"] {
         assert_eq!(rt; site.say(line), WriteStep::Took(line.len()));
     }

@@ -1,11 +1,13 @@
 -- What the devices tell of themselves: their counts and their marks, and no content.
-use Rattle.std.specs.Prelude.{ℕ, List, Option, None}
+use Rattle.std.specs.Prelude.{ℕ, List, Option, Some, None}
 use Rattle.std.specs.Io.KnownBytes.{prepend_known}
 use Rattle.std.specs.declared.net.tcp.TcpStream.{TcpStream}
 use Rattle.play_outside.specs.ClockState.{ClockState}
 use Rattle.play_outside.specs.ListenerState.{ListenerState}
 use Rattle.play_outside.specs.SinkState.{SinkState}
 use Rattle.real_devices.specs.declared.file_sink.FileSink.{FileSink}
+use Rattle.real_devices.specs.declared.file_sink.Target.{Target}
+use Rattle.real_devices.specs.declared.file_sink.Target.TheVariants.{Nothing, File, Live}
 use Rattle.real_devices.specs.declared.rate_clock.RateClock.{RateClock}
 use Rattle.real_devices.specs.declared.tcp_door.TcpDoor.{TcpDoor}
 use Rattle.real_devices.specs.declared.tcp_link.TcpLink.{TcpLink}
@@ -14,9 +16,15 @@ use Rattle.real_devices.specs.declared.tcp_link.TcpLink.{TcpLink}
 abbrev pub file_state : {W E : Type 0} → FileSink W E → SinkState
 file_state sink = record { taken = None; faults = sink.faults; mark = sink.mark; at_fault = None; reading = None; idle = 0 }
 
+-- the file among what an output writes to
+abbrev pub file_among : {W : Type 0} → Target W → Option W
+file_among Nothing = None
+file_among (File file) = Some file
+file_among (Live sink) = None
+
 -- the file that a sink writes to, if it has one
 abbrev pub file_of : {W E : Type 0} → FileSink W E → Option W
-file_of sink = sink.file
+file_of sink = file_among sink.target
 
 -- a connection
 abbrev pub link_state : {S E : Type 0} → TcpLink S E → SinkState

@@ -51,6 +51,20 @@ pub(crate) fn say_stays<E: Eprint, D: Display>(errors: &E, part: &str, why: &D) 
     let _ = errors.eprintln(format_args!("playd: {part}: keeps this name: {why}"));
 }
 
+/// Says that nobody reads some of the named pipes yet, and that the run begins without them.
+pub(crate) fn say_unread<E: Eprint>(errors: &E) {
+    let _ = errors.eprintln(
+        "playd: nobody reads each pipe yet; the run begins, and who comes later gets the frames from then on",
+    );
+}
+
+/// Says that other machines can reach the address of an output.
+pub(crate) fn say_open_output<E: Eprint, A: Display>(errors: &E, output: &str, address: &A) {
+    let _ = errors.eprintln(format_args!(
+        "playd: {output}: {address} is not an address of this machine alone: whoever reaches it can read this output; see \"Who may reach it\" in docs/OPERATING.md"
+    ));
+}
+
 /// Says that the run waits until somebody reads a named pipe.
 pub(crate) fn say_waits_for_reader<E: Eprint>(errors: &E, pipe: &str) {
     let _ = errors.eprintln(format_args!("playd: {pipe}: waiting for a reader"));

@@ -4,23 +4,24 @@ ghost use Rattle.std.specs.List.{range_with_len};
 ghost use Rattle.real_devices.specs.Fresh.{quiet_clock, quiet_door, quiet_sink};
 ghost use Rattle.real_devices.specs.State.{clock_state, door_state, file_of, file_state};
 
-use crate::complaint::{complain, say_taken, say_waits_for_reader};
+use crate::complaint::{say_taken, say_unread};
 use crate::door_group::DoorGroup;
 use crate::file_limit::{FileRoom, largest_file};
 use crate::file_sink::FileSink;
 use crate::journal_names::{JournalNames, PartFault};
+use crate::live::{FirstReaders, LiveRuntime};
+use crate::outs::{RunFiles, make_empty_outs, make_sink, not_made, refuse_used};
 use crate::rate_clock::RateClock;
 use crate::tcp_door::TcpDoor;
-use crate::used_files::{Use, UsedFiles, files_in_use};
+use crate::used_files::{Use, files_in_use};
 use play_outside::{Devices, FileFault};
 use play_types::Config;
 use std::alloc::{AllocError, Global};
-use std::fs::{self, File, Metadata, OpenOptions};
-use std::io::{self, Eprint, ErrorKind};
+use std::fs::{self, File};
+use std::io::{self, Eprint};
 use std::net::{Net, TcpListener, TcpStream};
-use std::os::fd::OwnedFd;
-use std::os::unix::fs::FileTypeExt;
 use std::rt::Files;
+use std::thread::Threads;
 use std::time::Clock;
 
 /// How many links are followed from one to the next, as the system does.
@@ -38,19 +39,25 @@ pub type RealDevices<R> = Devices<RateClock<R>, TcpDoor<R>, FileSink<File, R>>;
 /// regular file is written as it is. Without a path for the history its output takes every byte and keeps none. The file
 /// beside it is made before any output is opened, and stays locked until the devices are finished.
 ///
+/// An output that listens, or that is a named pipe, is live: it takes every byte, waits for nobody, and tells nothing. Its thread is
+/// started over `host`. The first readers of all pipes are waited for, for two seconds at most.
+///
 /// `Failed` comes if the address cannot be read or listened on, a file cannot be written, another server writes its
 /// history to that path, or an output has a file that is the configuration, a clip of the media folder, the history or
 /// another output, by whatever path. Standard error says which. Character devices may be written by any number of outputs.
 pub fn ready<
     R: Net<Listener = TcpListener, Stream = TcpStream>
         + Files<File = File>
+        + Threads
         + Clock
         + Eprint
         + AllocGlobal
         + Copy
         + Drop,
+    T: LiveRuntime,
 >(
     rt: R,
+    host: &T,
     alloc: Global,
     config: &Config,
     source: Option<&str>,
@@ -76,44 +83,58 @@ pub fn ready<
         used: files_in_use(rt, alloc, config, source)?,
         largest: largest_file(&rt),
         group,
+        firsts: FirstReaders::new(alloc),
     };
     let history = make_history(rt, alloc, history, &mut run)?;
-    match make_empty_outs(rt, alloc, config, history.path_when_whole(), &mut run) {
-        Ok(outs) => Ok(Devices {
-            clock: RateClock::new(rt, config.rate(), config.journal_limit()),
-            doors,
-            outs,
-            history,
-        }),
+    match make_empty_outs(rt, host, alloc, config, history.path_when_whole(), &mut run) {
+        Ok(outs) => {
+            wait_for_readers(&rt, &run.firsts);
+            Ok(Devices {
+                clock: RateClock::new(rt, config.rate(), config.journal_limit()),
+                doors,
+                outs,
+                history,
+            })
+        }
         Err(fault) => {
+            run.firsts.go_on(&rt);
             let _ = history.finish();
             Err(fault)
         }
     }
 }
 
-/// Ends the devices of a run. The history gets its name, if it was written and no write of it failed; what stood there
+/// Waits until each named pipe has a reader, for two seconds at most. Standard error says if one has none then.
+fn wait_for_readers<R: Files<File = File> + Clock + Eprint>(rt: &R, firsts: &FirstReaders) {
+    if !firsts.wait(rt) {
+        say_unread(rt);
+        firsts.go_on(rt);
+    }
+}
+
+/// Ends the devices of a run. Each live output hands out what waits, for two seconds at most. The history gets its name, if it was written and no write of it failed; what stood there
 /// is kept under a name with a number. The listening socket and all files are closed. `Failed` comes if the history did not
 /// get its name, and standard error says why.
 pub fn finish<R: Files<File = File> + Clock + Eprint + Copy + Drop>(
     devices: RealDevices<R>,
 ) -> Result<(), FileFault> {
-    let Devices { doors, history, .. } = devices;
+    let Devices {
+        doors,
+        outs,
+        history,
+        ..
+    } = devices;
     if let Some(door) = doors.first() {
         door.say_left_out();
     }
-    history.finish()
-}
-
-/// What the outputs of a run share while they are made.
-#[derive(Drop)]
-struct RunFiles {
-    /// The files that have a use already.
-    used: UsedFiles,
-    /// How many bytes a file may have, if that is limited.
-    largest: Option<u64>,
-    /// The doors that serve the run.
-    group: DoorGroup,
+    for out in &outs {
+        out.note_ending();
+    }
+    let finished = history.finish();
+    for out in outs {
+        let _ = out.finish();
+    }
+    finished
 }
 
 /// Makes so many doors of a group on one socket, which listens on an address. The first has the mark 1.
@@ -134,46 +155,6 @@ fn listen<R: Net<Listener = TcpListener, Stream = TcpStream> + Clock + Eprint + 
         doors.push(door)?;
     }
     Ok(doors)
-}
-
-/// Makes the output of each channel. That of channel 1 has the mark 1.
-fn make_outs<R: Files<File = File> + Clock + Eprint + Copy + Drop>(
-    rt: R,
-    alloc: Global,
-    config: &Config,
-    run: &mut RunFiles,
-) -> Result<Vec<FileSink<File, R>>, FileFault>
-    ensures { IfOk result (λ outs. map file_state outs.items ≡ map quiet_sink (range_with_len 1 (length config.now.channels))) }
-{
-    let mut outs = Vec::new(alloc);
-    let mut mark = 0;
-    for channel in config.channels().iter() {
-        mark += 1;
-        let out = make_sink(rt, alloc, channel.output().as_str(), mark, run)?;
-        let Ok(()) = outs.push(out) else {
-            return Err(FileFault::OutOfMemory);
-        };
-    }
-    Ok(outs)
-}
-
-/// Makes the output of each channel, and empties it if it is a regular file, once all are made. None of them may have the
-/// file that the history gets when it is whole.
-fn make_empty_outs<R: Files<File = File> + Clock + Eprint + Copy + Drop>(
-    rt: R,
-    alloc: Global,
-    config: &Config,
-    history: Option<&str>,
-    run: &mut RunFiles,
-) -> Result<Vec<FileSink<File, R>>, FileFault>
-    ensures { IfOk result (λ outs. map file_state outs.items ≡ map quiet_sink (range_with_len 1 (length config.now.channels))) }
-{
-    let outs = make_outs(rt, alloc, config, run)?;
-    if let Some(path) = history {
-        refuse_used(&rt, path, &run.used)?;
-    }
-    empty_all(&rt, config, &outs)?;
-    Ok(outs)
 }
 
 /// Makes the output of the history. If the path is that of a regular file, or of none yet, it is written beside it.
@@ -270,106 +251,5 @@ fn target_of<R: Files>(rt: &R, alloc: Global, link: &str) -> io::Result<String> 
             Ok(format!(in alloc; "{folder}/{}", target.as_str())?)
         }
         _ => Ok(target),
-    }
-}
-
-/// Fails if a file has a use already, and says which.
-fn refuse_used<R: Files + Eprint>(rt: &R, path: &str, used: &UsedFiles) -> Result<(), FileFault> {
-    let Ok(found) = fs::metadata(rt, path) else {
-        return Ok(());
-    };
-    match used.find(&found) {
-        Some(has) => {
-            complain(rt, path, &has);
-            Err(FileFault::Failed)
-        }
-        None => Ok(()),
-    }
-}
-
-/// Makes a file, or opens it and leaves what it holds, for a sink with this mark. It fails if the file has a use already,
-/// and has one from then on. If a named pipe has this path, it waits until somebody reads it, and standard error says so.
-fn make_sink<R: Files<File = File> + Clock + Eprint + Copy + Drop>(
-    rt: R,
-    alloc: Global,
-    path: &str,
-    mark: u64,
-    run: &mut RunFiles,
-) -> Result<FileSink<File, R>, FileFault>
-    ensures { IfOk result (λ sink. file_state sink ≡ quiet_sink mark) }
-{
-    let name = String::from_str(alloc, path)?;
-    refuse_used(&rt, path, &run.used)?;
-    if is_pipe(&rt, path) {
-        say_waits_for_reader(&rt, path);
-    }
-    let (file, found) = match open(&rt, path) {
-        Ok(opened) => opened,
-        Err(error) => return Err(not_made(&rt, path, &error)),
-    };
-    run.used.add(&found, Use::Output)?;
-    let Ok(group) = run.group.try_clone() else {
-        return Err(FileFault::OutOfMemory);
-    };
-    let room = FileRoom::new(run.largest.filter(|_| found.is_file()));
-    Ok(FileSink::new(name, Some(file), rt, mark).of_run(room, group))
-}
-
-/// Opens a file to write, and makes it if there is none. Returns it with what the system tells of it. If it is no regular
-/// file, no write to it waits.
-fn open<R: Files<File = File>>(rt: &R, path: &str) -> io::Result<(File, Metadata)> {
-    let mut how = OpenOptions::new();
-    let file = how.write(true).create(true).open(rt, path)?;
-    let found = file.metadata()?;
-    if !found.is_file() {
-        set_nonblocking(&file)?;
-    }
-    Ok((file, found))
-}
-
-/// Lets writes to a pipe or a device return at once if it takes nothing. The system has one call for these and for sockets.
-fn set_nonblocking(file: &File) -> io::Result<()> {
-    TcpStream::from(OwnedFd::from(file.try_clone()?)).set_nonblocking(true)
-}
-
-/// Empties the outputs of all channels that are regular files.
-fn empty_all<R: Clock + Eprint + Drop>(
-    rt: &R,
-    config: &Config,
-    outs: &[FileSink<File, R>],
-) -> Result<(), FileFault> {
-    for (out, channel) in outs.iter().zip(config.channels().iter()) {
-        if let Err(error) = empty(out.file()) {
-            return Err(not_made(rt, channel.output().as_str(), &error));
-        }
-    }
-    Ok(())
-}
-
-/// Empties a file, if it is a regular one.
-fn empty(file: Option<&File>) -> io::Result<()> {
-    let Some(file) = file else {
-        return Ok(());
-    };
-    if file.metadata()?.is_file() {
-        file.set_len(0)?;
-    }
-    Ok(())
-}
-
-/// Returns whether a named pipe has this path.
-fn is_pipe<R: Files>(rt: &R, path: &str) -> bool {
-    match fs::metadata(rt, path) {
-        Ok(found) => found.file_type().is_fifo(),
-        Err(_) => false,
-    }
-}
-
-/// Says why a device was not made, and returns the fault of that.
-pub(crate) fn not_made<E: Eprint>(errors: &E, of: &str, why: &io::Error) -> FileFault {
-    complain(errors, of, why);
-    match why.kind() {
-        ErrorKind::OutOfMemory => FileFault::OutOfMemory,
-        _ => FileFault::Failed,
     }
 }

@@ -1,5 +1,5 @@
 //! Writing to a file.
-ghost use Rattle.std.specs.Prelude.{◌≡◌, ◌<◌, IfNone, length};
+ghost use Rattle.std.specs.Prelude.{◌≡◌, ◌<◌, IfNone, None, length};
 ghost use Rattle.play_outside.specs.Sink.{Writes};
 ghost use Rattle.real_devices.specs.Fresh.{quiet_sink};
 ghost use Rattle.real_devices.specs.State.{file_of, file_state};
@@ -8,6 +8,7 @@ ghost use Rattle.real_devices.specs.Stream.{AddsTo, contents_of};
 use crate::door_group::DoorGroup;
 use crate::file_limit::FileRoom;
 use crate::journal_names::JournalNames;
+use crate::live::LiveSink;
 use crate::output::Output;
 use play_outside::{FileFault, Sink, WriteStep};
 use std::fs::File;
@@ -15,13 +16,24 @@ use std::io::{self, Eprint, Write};
 use std::rt::Files;
 use std::time::Clock;
 
-/// Writes to a file, and keeps nothing back: what a write took, the system took. Without a file it takes every byte and
-/// keeps none. It says on standard error why a write failed, and that its reader has taken nothing for a second, if it is a
-/// pipe that does not block. It does not tell what was taken.
+/// What an output writes to.
+#[derive(Drop)]
+pub(crate) enum Target<W> {
+    /// Nothing: it takes every byte, and keeps none.
+    Nothing,
+    /// A file.
+    File(W),
+    /// Readers that come and go: it takes every byte, and hands on what somebody reads.
+    Live(LiveSink),
+}
+
+/// Writes to a file, and keeps nothing back: what a write took, the system took. Without a file it takes every byte, and
+/// keeps none or hands them to the readers of a live output. It says on standard error why a write failed, and that its
+/// reader has taken nothing for a second, if it is a pipe or a device that does not block. It does not tell what was taken.
 #[derive(Drop)]
 pub struct FileSink<W, E> {
     output: Output<E>,
-    file: Option<W>,
+    target: Target<W>,
     faults: u64,
     mark: u64,
     /// The names of the file, if it gets another one when it is whole.
@@ -37,7 +49,24 @@ impl<W: Write + Drop, E: Clock + Eprint + Drop> FileSink<W, E> {
     {
         FileSink {
             output: Output::new(name, errors),
-            file,
+            target: match file {
+                Some(file) => Target::File(file),
+                None => Target::Nothing,
+            },
+            faults: 0,
+            mark,
+            names: None,
+        }
+    }
+
+    /// Returns the sink of a live output, with this mark. No write fails.
+    pub(crate) fn live(name: String, live: LiveSink, errors: E, mark: u64) -> FileSink<W, E>
+        ensures fresh { file_state result ≡ quiet_sink mark }
+        ensures file { file_of result ≡ None }
+    {
+        FileSink {
+            output: Output::new(name, errors),
+            target: Target::Live(live),
             faults: 0,
             mark,
             names: None,
@@ -68,7 +97,18 @@ impl<W: Write + Drop, E: Clock + Eprint + Drop> FileSink<W, E> {
 
     /// Returns the file, if there is one.
     pub(crate) fn file(&self) -> Option<&W> {
-        self.file.as_ref()
+        match &self.target {
+            Target::File(file) => Some(file),
+            Target::Nothing | Target::Live(_) => None,
+        }
+    }
+
+    /// Lets a live output begin to end.
+    pub(crate) fn note_ending(&self) {
+        match &self.target {
+            Target::Live(live) => live.note_ending(),
+            Target::Nothing | Target::File(_) => {}
+        }
     }
 
     /// Returns the path of a file that gets another name when it is whole.
@@ -81,13 +121,29 @@ impl<R: Files<File = File> + Clock + Eprint + Drop> FileSink<File, R> {
     /// Ends the writing of a file that gets another name when it is whole: gives it the name if something was written and no
     /// write failed. If nothing was written, it is removed. Else it keeps its name, standard error says so, and `Failed` is
     /// returned.
+    ///
+    /// A live output hands out what waits, for two seconds at most.
     pub(crate) fn finish(self) -> Result<(), FileFault> {
-        let (Some(file), Some(names)) = (self.file, self.names) else {
+        let FileSink {
+            output,
+            target,
+            faults,
+            names,
+            ..
+        } = self;
+        let rt = output.errors();
+        let file = match target {
+            Target::Nothing => return Ok(()),
+            Target::File(file) => file,
+            Target::Live(live) => {
+                live.finish(rt, output.name());
+                return Ok(());
+            }
+        };
+        let Some(mut names) = names else {
             return Ok(());
         };
-        let mut names = names;
-        let rt = self.output.errors();
-        if self.faults > 0 {
+        if faults > 0 {
             names.say_stays(rt, &"the history is not whole");
             return Err(FileFault::Failed);
         }
@@ -131,8 +187,13 @@ impl<W: Write + Drop, E: Clock + Eprint + Drop> Sink for FileSink<W, E> {
         ensures stream { AddsTo result piece.now (contents_of W.contents (file_of self.old)) (contents_of W.contents (file_of self.new)) }
         ensures no_file { IfNone (file_of self.old) (result ≡ WriteStep.Took (length piece.now)) }
     {
-        let Some(file) = &mut self.file else {
-            return WriteStep::Took(piece.len());
+        let file = match &mut self.target {
+            Target::File(file) => file,
+            Target::Nothing => return WriteStep::Took(piece.len()),
+            Target::Live(live) => {
+                live.write(self.output.errors(), self.output.name(), piece);
+                return WriteStep::Took(piece.len());
+            }
         };
         match self.output.write(file, piece) {
             Ok(count) => WriteStep::Took(count),

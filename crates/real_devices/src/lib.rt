@@ -2,7 +2,8 @@
 //!
 //! Each device makes the real call, meets its trait of `play_outside`, and says on standard error why a call failed. It
 //! counts its faults, and the looks that found nothing yet, and does not tell what was read, written or given. `ready`
-//! makes all devices that a configuration names, and `finish` ends them.
+//! makes all devices that a configuration names, and `finish` ends them. The output of a named pipe, or one that listens, is live: a
+//! thread of its own hands its frames to readers that come and go.
 #![tactic(auto)]
 
 mod complaint;
@@ -16,8 +17,10 @@ mod fill;
 mod held_bytes;
 mod host;
 mod journal_names;
+mod live;
 mod open_line;
 mod output;
+mod outs;
 mod pace;
 mod patience;
 mod place;
@@ -35,6 +38,7 @@ pub use door_group::DoorGroup;
 pub use error_lines::ErrorLines;
 pub use file_sink::FileSink;
 pub use host::Host;
+pub use live::LiveRuntime;
 pub use patience::{INTERRUPTIONS, RESTORED_WAITS, RESTORING_BYTES, WRITE_WAITS};
 pub use place::Place;
 pub use rate_clock::RateClock;

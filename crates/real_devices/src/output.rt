@@ -52,6 +52,11 @@ impl<E: Clock + Eprint + Drop> Output<E> {
         &self.errors
     }
 
+    /// Its name for standard error.
+    pub(crate) fn name(&self) -> &str {
+        self.name.as_str()
+    }
+
     /// Says what is wrong with it.
     pub(crate) fn complain<D: Display>(&self, why: &D) {
         complain(&self.errors, self.name.as_str(), why);

@@ -71,7 +71,7 @@ impl Pace {
 }
 
 /// Returns the milliseconds of the clock, and the most that there are if it cannot be read, so that all is said then.
-fn millis<T: Clock>(time: &T) -> u64 {
+pub(crate) fn millis<T: Clock>(time: &T) -> u64 {
     match time.monotonic() {
         Ok(since) => u64::try_from(since.as_millis()).unwrap_or(u64::MAX),
         Err(_) => u64::MAX,

@@ -1,8 +1,10 @@
 //! Whether the system has threads for a run.
 use crate::complaint::say_few_threads;
+use crate::live::count_live;
 use play_types::Config;
 use std::alloc::{AllocError, Global};
 use std::io::Eprint;
+use std::rt::Files;
 use std::sync::Arc;
 use std::sync::atomic::{AtomicBool, AtomicUsize, Ordering};
 use std::thread::{self, Builder, Threads};
@@ -10,17 +12,18 @@ use std::thread::{self, Builder, Threads};
 /// How often a thread of a trial looks whether it may end, before it ends anyway.
 const LOOKS: u32 = 1_000_000;
 
-/// Finds out whether the system has a thread for each connection of a configuration and one more, besides the one of the caller:
-/// beside the connections ticks are made, and frames are made and written. Threads are started for a trial, and have ended when this
+/// Finds out whether the system has a thread for each connection of a configuration, for each of its outputs that is live, and one more,
+/// besides the one of the caller: beside the connections ticks are made, and frames are made and written. Threads are started for a trial, and have ended when this
 /// returns.
 ///
 /// It fails as if memory ran out if some could not be started, and standard error says how many were; or if memory ran out.
-pub fn try_threads<R: Threads + Eprint>(
+pub fn try_threads<R: Threads + Files + Eprint>(
     rt: &R,
     alloc: Global,
     config: &Config,
 ) -> Result<(), AllocError> {
-    let wanted = config.connections() + 1;
+    let live = count_live(rt, config);
+    let wanted = config.connections().saturating_add(live).saturating_add(1);
     let started = start_threads(rt, alloc, wanted)?;
     if started < wanted as usize {
         say_few_threads(rt, started, wanted);

@@ -1,6 +1,6 @@
 //! Which files have a use already.
 
-use crate::devices::not_made;
+use crate::outs::not_made;
 use play_outside::FileFault;
 use play_types::Config;
 use std::alloc::{AllocError, Global};

@@ -2,7 +2,7 @@ use Rattle.std.proofs.Common.{◌≡◌, length, map}
 use Rattle.std.specs.List.{range_with_len}
 use Rattle.real_devices.specs.Fresh.{quiet_sink}
 use Rattle.real_devices.specs.State.{file_state}
-use Rattle.real_devices.proofs.devices.make_outs.Given as goal
+use Rattle.real_devices.proofs.outs.make_outs.Given as goal
 
 -- the outputs so far have the marks from 1 on
 abbrev pub invariant-loop-channel : goal.invariant-loop-channel

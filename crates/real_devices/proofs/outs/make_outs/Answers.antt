@@ -6,7 +6,7 @@ use Rattle.std.proofs.lemmas.Iterator.Consumers.{YieldsList-turn, YieldsList-end
 use Rattle.real_devices.specs.Fresh.{quiet_sink}
 use Rattle.real_devices.specs.State.{file_state}
 use Rattle.real_devices.proofs.Marks.{marks_turn}
-use Rattle.real_devices.proofs.devices.make_outs.Goals as goal
+use Rattle.real_devices.proofs.outs.make_outs.Goals as goal
 
 pub overflow_add-mark : goal.overflow_add-mark
 overflow_add-mark g c =

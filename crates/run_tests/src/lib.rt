@@ -13,6 +13,8 @@ mod connections;
 #[cfg(test)]
 mod conversions;
 #[cfg(test)]
+mod live_outputs;
+#[cfg(test)]
 mod made_scripts;
 #[cfg(test)]
 mod plans;

@@ -105,7 +105,7 @@ fn makes_devices(rt: HostRuntime) -> Result<(), Fail> {
         fs::write(&rt, path, "what an earlier run wrote")?;
     }
     let config = config_of(alloc, "127.0.0.1:0", "m", OUTPUTS)?;
-    let devices = ready(rt, alloc, &config, None, None)?;
+    let devices = ready(rt, &rt, alloc, &config, None, None)?;
     assert!(rt; write_to_all(devices));
     for path in OUTPUTS {
         assert_eq!(rt; fs::read_to_string(&rt, path)?.as_str(), "frame");
@@ -129,7 +129,7 @@ fn makes_no_devices(rt: HostRuntime) -> Result<(), Fail> {
     let alloc = rt.alloc();
     for (address, outputs, history) in NOT_READY {
         let config = config_of(alloc, address, "m", outputs)?;
-        let fault = ready(rt, alloc, &config, None, Some(history)).err();
+        let fault = ready(rt, &rt, alloc, &config, None, Some(history)).err();
         assert_eq!(rt; fault, Some(FileFault::Failed));
     }
     Ok(())
@@ -149,13 +149,6 @@ const ONE_FILE: [([&str; 2], &str); 6] = [
     (["used_files_test/d.RCLP", "/dev/null"], "/dev/null"),
 ];
 
-/// Returns why no devices are made with these outputs and this path for the history, if none are.
-fn fault_of(rt: HostRuntime, outputs: [&str; 2], history: &str) -> Result<Option<FileFault>, Fail> {
-    let alloc = rt.alloc();
-    let config = config_of(alloc, "127.0.0.1:0", USED, outputs)?;
-    Ok(ready(rt, alloc, &config, Some("used_files_test/c"), Some(history)).err())
-}
-
 /// Makes a configuration, a clip, and a second name for the configuration.
 fn make_used_files(rt: HostRuntime) -> Result<(), Fail> {
     fs::create_dir_all(&rt, USED)?;
@@ -169,13 +162,16 @@ fn make_used_files(rt: HostRuntime) -> Result<(), Fail> {
 #[test]
 fn leaves_files_that_have_a_use(rt: HostRuntime) -> Result<(), Fail> {
     make_used_files(rt)?;
+    let alloc = rt.alloc();
+    let source = Some("used_files_test/c");
     for (outputs, history) in ONE_FILE {
-        assert_eq!(rt; fault_of(rt, outputs, history)?, Some(FileFault::Failed));
+        let config = config_of(alloc, "127.0.0.1:0", USED, outputs)?;
+        let fault = ready(rt, &rt, alloc, &config, source, Some(history)).err();
+        assert_eq!(rt; fault, Some(FileFault::Failed));
     }
-    assert_eq!(rt;
-        fault_of(rt, ["/dev/null", "/dev/null"], "/dev/null")?,
-        None
-    );
+    let config = config_of(alloc, "127.0.0.1:0", USED, ["/dev/null", "/dev/null"])?;
+    let fault = ready(rt, &rt, alloc, &config, source, Some("/dev/null")).err();
+    assert_eq!(rt; fault, None);
     let kept = fs::read_to_string(&rt, "used_files_test/c")?;
     assert_eq!(rt; kept.as_str(), "a configuration");
     let kept = fs::read_to_string(&rt, "used_files_test/d.RCLP")?;
@@ -184,25 +180,20 @@ fn leaves_files_that_have_a_use(rt: HostRuntime) -> Result<(), Fail> {
     Ok(())
 }
 
-/// Writes a history to a path, and returns whether all of it was taken, and it got its name if it is not empty.
-fn write_history(rt: HostRuntime, history: &[u8], path: &str) -> Result<bool, Fail> {
-    let alloc = rt.alloc();
-    let config = config_of(alloc, "127.0.0.1:0", "m", ["/dev/null", "/dev/null"])?;
-    let mut devices = ready(rt, alloc, &config, None, Some(path))?;
-    let is_taken = matches!(send(history, &mut devices.history), Sent::All);
-    Ok(finish(devices).is_ok() && is_taken)
-}
-
 /// No clause says what a file is called.
 #[test]
 fn keeps_earlier_histories(rt: HostRuntime) -> Result<(), Fail> {
+    let alloc = rt.alloc();
+    let config = config_of(alloc, "127.0.0.1:0", "m", ["/dev/null", "/dev/null"])?;
     fs::create_dir_all(&rt, "journal_test")?;
     for history in [&b"first"[..], b"", b"second", b"", b"third"] {
-        assert!(rt; write_history(rt, history, "journal_test/h")?);
+        let mut devices = ready(rt, &rt, alloc, &config, None, Some("journal_test/h"))?;
+        assert!(rt; matches!(send(history, &mut devices.history), Sent::All));
+        assert!(rt; finish(devices).is_ok());
     }
     let written = [("h", "third"), ("h.1", "first"), ("h.2", "second")];
     for (name, history) in written {
-        let path = format!(in rt.alloc(); "journal_test/{name}")?;
+        let path = format!(in alloc; "journal_test/{name}")?;
         assert_eq!(rt; fs::read_to_string(&rt, path.as_str())?.as_str(), history);
     }
     for name in ["journal_test/h.part", "journal_test/h.3"] {

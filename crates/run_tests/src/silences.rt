@@ -326,9 +326,10 @@ fn play(
 ) -> Result<(Vec<(u64, usize)>, usize), Fail> {
     let time = AtomicU64::new(0);
     let [free, unasked] = beside;
-    let all = (clients.len() as u32)
-        .saturating_add(free)
-        .saturating_add(unasked);
+    let Ok(count) = u32::try_from(clients.len()) else {
+        return Err(Fail::from("fewer clients"));
+    };
+    let all = count.saturating_add(free).saturating_add(unasked);
     let group = DoorGroup::new(alloc, all)?;
     let mut guests = Vec::new(alloc);
     for client in clients {

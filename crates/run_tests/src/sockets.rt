@@ -208,10 +208,10 @@ const ENDED_LOOKS: u32 = 500;
 
 /// Returns how many threads the program has.
 fn count_threads(rt: HostRuntime) -> Result<usize, Fail> {
-    let mut count = 0;
+    let mut count = 0usize;
     for thread in fs::read_dir(&rt, "/proc/self/task")? {
         thread?;
-        count += 1;
+        count = count.saturating_add(1);
     }
     Ok(count)
 }

@@ -1,6 +1,6 @@
 /* Lets calls of the system fail with an error of the disk. It is preloaded by `.ci/server_run`.
  *
- * FAILING=fsync lets each fsync fail, and FAILING=N the N-th read of a folder, counted from 1. */
+ * FAILING=fsync lets each fsync fail, FAILING=fdatasync each fdatasync, and FAILING=N the N-th read of a folder, counted from 1. */
 #define _GNU_SOURCE
 #include <dlfcn.h>
 #include <errno.h>
@@ -25,6 +25,11 @@ static int fail(void) {
 int fsync(int fd) {
     if (strcmp(failing(), "fsync") == 0) return fail();
     return ((int (*)(int))dlsym(RTLD_NEXT, "fsync"))(fd);
+}
+
+int fdatasync(int fd) {
+    if (strcmp(failing(), "fdatasync") == 0) return fail();
+    return ((int (*)(int))dlsym(RTLD_NEXT, "fdatasync"))(fd);
 }
 
 ssize_t getdents64(int fd, void *buf, size_t len) {

@@ -1,15 +1,21 @@
 """Runs a proved program of this repository: the name of its crate, and then the program's own words.
 
-The programs in this folder call it. If a source that goes into the program has changed, the program is proved and built
-first, on a copy of the sources and on all processors, and what the gate passed on this machine is taken from there. What
+The programs in this folder call it. It runs the program that was built here of the sources as they are, or else the released one
+(released.py), if that is of the same sources and has its checksum. If there is neither, it says why, and the program is proved and
+built first, on a copy of the sources and on all processors, and what the gate passed on this machine is taken from there. What
 happens is told on standard error: one line a crate, and each minute what the build is at. Then the program runs in the place
-of this script, with the caller's standard streams, and its status is the status. With the word --build and the names of some
-programs it builds all of them at once and runs none. With the word --install and a folder it builds both programs and puts them
-there, each under its name and the sum of its sources, with a link of the name alone to it.
+of this script, with the caller's standard streams, and its status is the status. The server runs with SIGTERM, SIGINT and SIGHUP
+blocked, since it looks for these and ends as after a KILL.
+
+Other first words run no program. --build builds what is neither built nor released of the sources as they are, all at once, and
+with --anew all programs, whatever there is. --install and a folder puts the programs there, each under its name and the sum of its
+sources, with a link of the name alone to it. --release renews the released programs, and with --sources prints the sums.
 
 What was built is kept in sevuato/ of the caller's folder for such files (XDG_CACHE_HOME, ~/.cache if it is not set), under the
 name of the program and the sum of its sources, so that the gate does not clear it and other clones with the same sources use
-it. The toolchain's own words of the last build stand beside it, in build.log.
+it. The toolchain's own words of the last build stand beside it, in build.log. In released/ beside it are copies of released
+programs, under such names, since a program says its sources by the name of its file. A copy is made anew if the release has other
+bytes. Where none can be made the released file itself is run.
 
 If the program has to be built and cannot be, the status is 70 and nothing is run: what was built before stays where it is, and
 it is not the program that the sources say. Nothing is removed but the oldest programs of a name, beyond the last four.
@@ -28,17 +34,26 @@ import sys
 import tempfile
 import time
 
+# (python3 -I looks into no folder but those of the system, and a start writes nothing into this one)
+sys.dont_write_bytecode = True
+sys.path.insert(0, os.path.dirname(os.path.realpath(__file__)))
+
+import released
+
 TOP = os.path.dirname(os.path.dirname(os.path.realpath(__file__)))
 NOT_BUILT = 70
 PARTS = ("src", "specs", "proofs")
 # A module of tests: its name, and all of it that stands in the file.
-TEST_MODULE = re.compile(r"(?ms)^#\[cfg\(test\)\]\n(?:pub )?mod (\w+)(?:;\n| \{\n.*?^\}\n)")
+TEST_MODULE = re.compile(rb"(?ms)^#\[cfg\(test\)\]\n(?:pub )?mod (\w+)(?:;\n| \{\n.*?^\}\n)")
 # What the gate says of a crate.
 SAID = re.compile(r"rt: (\w+) (proved|is kept|NOT PROVED)\b")
 
 
 # The programs of this repository.
 PROGRAMS = ["playrun", "playd"]
+
+# The signals that a program is started with blocked, by its name: it looks for these itself.
+LOOKED_FOR = {"playd": (signal.SIGTERM, signal.SIGINT, signal.SIGHUP)}
 
 
 class NotBuilt(Exception):
@@ -61,20 +76,29 @@ def crates_below(name):
     return found
 
 
+def texts_below(crate):
+    """Gives the path in the crate, and the bytes, of each file that is proved or built."""
+    left = [it for it in PARTS if os.path.isdir(f"{crate}/{it}")]
+    while left:
+        folder = left.pop()
+        with os.scandir(f"{crate}/{folder}") as found:
+            for it in found:
+                path = f"{folder}/{it.name}"
+                if it.is_dir():
+                    left.append(path)
+                else:
+                    with open(it.path, "rb", buffering=0) as file:
+                        yield path, file.read()
+
+
 def files_of(crate):
-    """Gives each file of a crate that goes into the program, by its path in the crate, with its text. Tests do not go in."""
-    texts = {}
-    for part in PARTS:
-        for at, _, names in os.walk(f"{crate}/{part}"):
-            for path in (f"{at}/{name}" for name in names):
-                with open(path, encoding="utf-8", errors="surrogateescape") as it:
-                    texts[os.path.relpath(path, crate)] = it.read()
-    tests = []
+    """Gives each file of a crate that goes into the program, by its path in the crate, with its bytes. Tests do not go in."""
+    texts, tests = dict(texts_below(crate)), []
     for path, text in texts.items():
-        if "#[cfg(test)]" in text:
+        if b"#[cfg(test)]" in text:
             module = "" if path in ("src/lib.rt", "src/main.rt") else f"{path[len('src/') : -len('.rt')]}/"
-            tests += [f"{module}{name}/" for name in TEST_MODULE.findall(text)]
-            texts[path] = TEST_MODULE.sub("", text)
+            tests += [f"{module}{name.decode()}/" for name in TEST_MODULE.findall(text)]
+            texts[path] = TEST_MODULE.sub(b"", text)
     for path in sorted(texts):
         module = os.path.splitext(path.partition("/")[2])[0]
         if not f"{module}/".startswith(tuple(tests)):
@@ -82,12 +106,18 @@ def files_of(crate):
 
 
 def sum_of(top, crates):
-    """Returns a sum of all that goes into the program."""
-    found = hashlib.sha256()
+    """Returns a sum of all that goes into the program, or that its proof rests on, but for the toolchain."""
+    found = hashlib.sha256(released.bytes_of(f"{top}/HANDLES"))
     for name, line in sorted(crates.items()):
-        for part in (" ".join(line.split()), *(it for file in files_of(f"{top}/crates/{name}") for it in file)):
-            found.update(part.encode(errors="surrogateescape") + b"\0")
+        found.update(b"\0%s\0" % " ".join(line.split()).encode())
+        for path, text in files_of(f"{top}/crates/{name}"):
+            found.update(b"%s\0%s\0" % (os.fsencode(path), text))
     return found.hexdigest()[:16]
+
+
+def sums_of(names):
+    """Returns the sum of the sources of each of these programs, as they are."""
+    return {it: sum_of(TOP, crates_below(it)) for it in names}
 
 
 def copy_crates(crates, to):
@@ -117,7 +147,7 @@ def clear(folder):
 
 def lines_of(crates):
     """Returns the number of lines of each of these crates."""
-    return {name: sum(text.count("\n") for _, text in files_of(f"{TOP}/crates/{name}")) for name in crates}
+    return {name: sum(text.count(b"\n") for _, text in files_of(f"{TOP}/crates/{name}")) for name in crates}
 
 
 class Work:
@@ -146,7 +176,7 @@ def minutes(crates):
     return max(1, round(work.lines_in_turn(work.lines) * SECONDS_A_LINE / 60))
 
 
-PROCESSORS = min(len(os.sched_getaffinity(0)), 4)
+PROCESSORS = min(len(os.sched_getaffinity(0)) if hasattr(os, "sched_getaffinity") else 1, 4)
 SECONDS_A_LINE = 0.06
 SECONDS_BETWEEN_WORDS = 60
 KEPT_PROGRAMS = 4
@@ -271,29 +301,52 @@ def prove(names, crates, folder, rooms, log):
     raise NotBuilt("the toolchain stopped before the program was built")
 
 
-def put(program, to):
-    """Copies a program to this path. Whoever looks there finds all of it, or what stood there before."""
-    shutil.copyfile(program, f"{to}.new")
-    os.chmod(f"{to}.new", 0o755)
-    os.replace(f"{to}.new", to)
-
-
-def keep(built, name, sources):
-    """Keeps a program under the sum of its sources, and removes the oldest ones of its name."""
-    to = program_of(name, sources)
-    put(built, to)
+def keep(text, name, sources, folder):
+    """Keeps a program of these bytes in the folder under the sum of its sources, and removes the oldest ones of its name."""
+    os.makedirs(folder, mode=0o700, exist_ok=True)
+    released.put(text, f"{folder}/{name}.{sources}")
     of_name = re.compile(rf"{name}\.[0-9a-f]{{16}}")
-    paths = [f"{kept_in()}/{it}" for it in os.listdir(kept_in()) if of_name.fullmatch(it)]
+    paths = [f"{folder}/{it}" for it in os.listdir(folder) if of_name.fullmatch(it)]
     for path in sorted(paths, key=os.path.getmtime)[:-KEPT_PROGRAMS]:
         os.remove(path)
 
 
-def build(names):
-    """Builds the programs of these names from the sources as they stand, and keeps each under their sum."""
+def take_released(name, sources):
+    """Returns the path of a copy of the released program of this name and these sources, or of itself if no copy can be made."""
+    text, folder = released.program(name, sources), f"{kept_in()}/released"
+    copy = f"{folder}/{name}.{sources}"
+    with contextlib.suppress(OSError):
+        if not is_own_program(copy) or released.bytes_of(copy) != text:
+            keep(text, name, sources, folder)
+        return copy
+    return f"{released.FOLDER}/{name}"
+
+
+def find(name, sources):
+    """Returns the path of the program that was built of the sources of this sum, or else of the released one."""
+    built = program_of(name, sources)
+    return built if is_own_program(built) else take_released(name, sources)
+
+
+def find_all(names):
+    """Returns, by their names, the programs that there are of the sources as they are, and why there is none of the others. Each is a
+    path, and the sum of its sources."""
+    found, lacking = {}, {}
+    for name, sources in sums_of(names).items():
+        try:
+            found[name] = find(name, sources), sources
+        except released.NotTaken as why:
+            lacking[name] = why
+    return found, lacking
+
+
+def build(names, anew=False):
+    """Builds the programs of these names from the sources as they stand, and keeps each under their sum. If they were built before
+    it is done again only if `anew` says so. Returns the sum of the sources of each."""
     kept, who = kept_in(), " ".join(names)
     log = f"{kept}/build.log"
     if not shutil.which("rt"):
-        raise NotBuilt("the toolchain's rt is not on the path")
+        raise NotBuilt(released.other_system() or "the toolchain's rt is not on the path")
     os.makedirs(kept, mode=0o700, exist_ok=True)
     with contextlib.ExitStack() as held:
         # (if two callers build at once, the second finds what the first built)
@@ -301,8 +354,9 @@ def build(names):
         held.callback(os.close, place)
         fcntl.flock(place, fcntl.LOCK_EX)
         below = {it: crates_below(it) for it in names}
-        if all(is_own_program(program_of(it, sum_of(TOP, below[it]))) for it in names):
-            return
+        sums = {it: sum_of(TOP, below[it]) for it in names}
+        if not anew and all(is_own_program(program_of(*it)) for it in sums.items()):
+            return sums
         crates = {name: line for it in below.values() for name, line in it.items()}
         with tempfile.TemporaryFile(dir=kept):
             # (the programs can be put here)
@@ -318,37 +372,95 @@ def build(names):
             prove(names, crates, f"{room}/top", f"{room}/rooms", said)
         except NotBuilt as why:
             raise NotBuilt(f"{why}, as {log} says") from None
-        for it in names:
-            keep(f"{room}/top/crates/{it}/out/{it}", it, sum_of(f"{room}/top", below[it]))
+        sums = {it: sum_of(f"{room}/top", below[it]) for it in names}
+        for it, sources in sums.items():
+            keep(released.bytes_of(f"{room}/top/crates/{it}/out/{it}"), it, sources, kept)
+        return sums
+
+
+def have(names):
+    """Returns the programs of these names, as `find_all` does. What is neither built nor released is built."""
+    while True:
+        found, lacking = find_all(names)
+        if not lacking:
+            return found
+        for name, why in lacking.items():
+            say(name, why)
+        build(list(lacking))
 
 
 def run(name, words):
-    """Runs the program in the place of this one. It returns only if no such program is kept."""
-    program = program_of(name, sum_of(TOP, crates_below(name)))
-    if is_own_program(program):
-        # (Python ignores these two, and the program would inherit that)
-        for it in (signal.SIGPIPE, signal.SIGXFSZ):
-            signal.signal(it, signal.SIG_DFL)
-        with contextlib.suppress(FileNotFoundError):
-            os.execv(program, [name, *words])
+    """Runs the program in the place of this one. It returns only if the program was removed meanwhile."""
+    program, _ = have([name])[name]
+    # (Python ignores these two, and the program would inherit that)
+    for it in (signal.SIGPIPE, signal.SIGXFSZ):
+        signal.signal(it, signal.SIG_DFL)
+    before = signal.pthread_sigmask(signal.SIG_BLOCK, LOOKED_FOR.get(name, ()))
+    with contextlib.suppress(FileNotFoundError):
+        os.execv(program, [name, *words])
+    signal.pthread_sigmask(signal.SIG_SETMASK, before)
+    if os.path.exists(program):
+        raise NotBuilt(f"the system cannot load {program}: it needs the GNU C library, with /lib64/ld-linux-x86-64.so.2")
 
 
-def install(names, folder):
-    """Puts the programs of these names into the folder, which is made if it is not there. Older ones stay there."""
-    while True:
-        sums = {it: sum_of(TOP, crates_below(it)) for it in names}
-        if all(is_own_program(program_of(name, it)) for name, it in sums.items()):
-            break
-        build(names)
+def is_same(name, sources):
+    """Says where a program was built, and returns whether the released one, if there is one of the same sources, has the same bytes."""
+    built = program_of(name, sources)
+    try:
+        same = released.program(name, sources) == released.bytes_of(built)
+    except released.NotTaken as why:
+        say(name, f"built as {built}; not compared: {why}")
+        return True
+    say(name, f"built as {built}, which {'is, byte for byte,' if same else 'has other bytes than'} the released program")
+    return same
+
+
+def build_all(words):
+    """Builds the programs of which there is none of the sources as they are, or, with a word, all of them. Returns the status."""
+    if words == ["--anew"]:
+        return 0 if all([is_same(*it) for it in build(PROGRAMS, anew=True).items()]) else 1
+    if words:
+        raise NotBuilt("bin/build takes no word but --anew")
+    for name, (path, _) in have(PROGRAMS).items():
+        if os.path.dirname(path) != kept_in():
+            say(name, "the released program is of these sources; bin/build --anew builds it all the same")
+    return 0
+
+
+def install(words):
+    """Puts the programs into a folder, which is made if it is not there. Older ones stay there. Returns the status."""
+    if len(words) != 1:
+        raise NotBuilt("bin/install takes one word, the folder")
+    [folder] = words
+    programs = have(PROGRAMS)
     os.makedirs(folder, exist_ok=True)
-    for name, sources in sums.items():
-        put(program_of(name, sources), f"{folder}/{name}.{sources}")
+    for name, (program, sources) in programs.items():
+        released.put(released.bytes_of(program), f"{folder}/{name}.{sources}")
         link = f"{folder}/{name}"
         with contextlib.suppress(FileNotFoundError):
             os.remove(f"{link}.new")
         os.symlink(f"{name}.{sources}", f"{link}.new")
         os.replace(f"{link}.new", link)
         say(name, f"installed as {link}, built from {sources}")
+    return 0
+
+
+def release(words):
+    """Renews the released programs, or, with a word, prints what SOURCES has for the sources as they are. Returns the status."""
+    if words == ["--sources"]:
+        print(released.sources_text(sums_of(PROGRAMS), released.kit()), end="")
+        return 0
+    if words:
+        raise released.NotTaken("bin/release takes no word but --sources")
+    sums = sums_of(PROGRAMS)
+    released.renew(sums)
+    for name, sources in sums.items():
+        say(name, f"released, built from {sources}")
+    return 0
+
+
+# What else than to run a program can be asked for, with what is said that was not done if it fails.
+OTHERS = {"--build": (build_all, "built"), "--install": (install, "installed"), "--release": (release, "released")}
 
 
 def main(name, words):
@@ -357,24 +469,17 @@ def main(name, words):
 
     for it in (signal.SIGINT, signal.SIGTERM, signal.SIGHUP):
         signal.signal(it, stop)
-    done = {"--build": "built", "--install": "installed"}.get(name, "started")
-    names = words if name == "--build" else PROGRAMS if name == "--install" else [name]
+    other, done = OTHERS.get(name, (None, "started"))
+    who = " ".join(PROGRAMS) if other else name
     try:
-        if name == "--install":
-            if len(words) != 1:
-                raise NotBuilt("bin/install takes one word, the folder")
-            install(names, words[0])
-            return 0
-        if name == "--build":
-            build(names)
-            return 0
+        if other:
+            return other(words)
         while True:
             run(name, words)
-            build(names)
-    except NotBuilt as why:
-        say(" ".join(names), f"not {done}: {why}")
+    except (NotBuilt, released.NotTaken) as why:
+        say(who, f"not {done}: {why}")
     except OSError as error:
-        say(" ".join(names), f"not {done}: {error.filename or 'the build'}: {error.strerror}")
+        say(who, f"not {done}: {error.filename or 'the build'}: {error.strerror}")
     return NOT_BUILT
 
 

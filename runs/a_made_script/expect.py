@@ -19,7 +19,7 @@ output = "none"
 
 
 def lines():
-    """Makes the lines of the script, by the table of docs/FORMATS.md."""
+    """Makes the lines of the script, as scripts/Generator.antt of history_model says."""
     state = SEED
 
     def draw(limit):

@@ -2,7 +2,7 @@
 import hashlib
 import os
 
-WIDTH, HEIGHT, TICKS = 640, 360, 60
+WIDTH, HEIGHT, TICKS = 640, 360, 240
 
 with open("studio.toml", "w") as file:
     file.write(f'listen = "127.0.0.1:5250"\nmedia = "clips"\nrate = 25\n[[channel]]\nwidth = {WIDTH}\nheight = {HEIGHT}\npairs = 0\noutput = "out.raw"\n')

@@ -5,7 +5,7 @@ use Rattle.amcp_text.specs.Lines.{Line, lines_of}
 use Rattle.amcp_text.specs.Reader.{HasTold, IsLineOf, line_view}
 use Rattle.amcp_text.specs.declared.line_reader.LineEvent.{LineEvent}
 
--- before the stream
+-- at first nothing was taken or returned
 pub told_nothing : HasTold [] [] []
 told_nothing = record { first = λ rest. refl }
 

@@ -25,12 +25,12 @@ not_chosen true false n b = refl
 not_chosen true true n b = absurd (false≢true (sym b))
 not_chosen false b' n b = refl
 
--- the number of a text that has digits alone
+-- the number of a text that has only digits
 whole_number-digits : (text : List ℕ) → 0 < length text → list_all is_ascii_digit text ≡ true → whole_number text ≡ Some (digits_value 10 text)
 whole_number-digits text some digits =
     chosen (ltb 0 (length text)) (list_all is_ascii_digit text) (digits_value 10 text) (grind (arith, nat_tests)) digits
 
--- there is none if some character is no digit
+-- a text with a character that is no digit is no whole number
 whole_number-none : (text : List ℕ) → list_all is_ascii_digit text ≡ false → whole_number text ≡ None
 whole_number-none text digits = not_chosen (ltb 0 (length text)) (list_all is_ascii_digit text) (digits_value 10 text) digits
 
@@ -38,7 +38,7 @@ whole_number-none text digits = not_chosen (ltb 0 (length text)) (list_all is_as
 within-above : (least most number : ℕ) → most < number → within least most number ≡ None
 within-above least most number above = grind (arith, nat_tests)
 
--- nor is one below the lower end
+-- a number below the lower end is not within the ends
 pub within-below : (least most number : ℕ) → number < least → within least most number ≡ None
 within-below least most number below = grind (arith, nat_tests)
 
@@ -73,7 +73,7 @@ is_ascii_digit_range c digit = grind (arith, nat_tests)
 digit_value-is : (c : ℕ) → is_ascii_digit c ≡ true → digit_value c ≡ c - 48
 digit_value-is c digit = omega (arith, digit_value_digit c (is_ascii_digit_range c digit))
 
--- one more digit
+-- the number with one more digit
 pub value_more : (text : List ℕ) (i value : ℕ) → i < length text → is_ascii_digit (get_or text i 0) ≡ true → value ≡ digits_value 10 (take i text) → value * 10 + (get_or text i 0 - 48) ≡ digits_value 10 (take (i + 1) text)
 value_more text i value inside digit so_far =
     rw (digits_value_more 10 text i inside, digit_value-is (get_or text i 0) digit, so_far) refl
@@ -90,6 +90,6 @@ some_of false number = refl
 pub whole_number_empty : (text : List ℕ) → IsUtf8 text → length text ≡ 0 → is_some (whole_number (chars text)) ≡ false
 whole_number_empty text utf8 empty = rw (whole_number-chars text utf8, empty) refl
 
--- a text with characters is one if all of them are digits
+-- a text with characters is a whole number just if all of them are digits
 pub whole_number_some : (text : List ℕ) → IsUtf8 text → 0 < length text → is_some (whole_number (chars text)) ≡ are_digits text
 whole_number_some text utf8 some = rw (whole_number-chars text utf8, lt-ltb 0 (length text) some) (some_of (are_digits text) (digits_value 10 text))

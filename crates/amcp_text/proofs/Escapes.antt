@@ -22,7 +22,7 @@ plain-high c high =
 abbrev next : ℕ → ℕ
 next bits = 128 + bits % 64
 
--- a character that is not escaped
+-- the bytes of a character that is not escaped are not escaped
 plain-bytes : (c : ℕ) → escaped c ≡ c ∷ [] → flat_map escaped (encode_utf8 c) ≡ encode_utf8 c
 unfolding encode_utf8
 plain-bytes c plain = elim (cases_Bool (nat_lt c 128)) [
@@ -59,18 +59,18 @@ escaped_text-bytes (c ∷ cs) =
     rw (encodes-append (escaped c) (flat_map escaped cs), escaped-bytes c, escaped_text-bytes cs)
     (sym (flat_map-append escaped (encode_utf8 c) (encode_utf8_all cs)))
 
--- a text in quotation marks, in bytes: the text with its escapes stands between the two marks
+-- a text in quotation marks, in bytes: the text with its escapes between two marks
 pub quoted-parts : (text : List ℕ) → encode_utf8_all (quoted text) ≡ ((34 ∷ []) ++ encode_utf8_all (flat_map escaped text)) ++ 34 ∷ []
 unfolding quoted encode_utf8
 quoted-parts text = ap (λ (bytes : List ℕ). 34 ∷ bytes) (encodes-append (flat_map escaped text) (34 ∷ []))
 
--- the same by the bytes of the text
+-- a text in quotation marks, in bytes, by the bytes of the text
 pub quoted-bytes : (bytes : List ℕ) → IsUtf8 bytes → encode_utf8_all (quoted (chars bytes)) ≡ ((34 ∷ []) ++ flat_map escaped bytes) ++ 34 ∷ []
 quoted-bytes bytes utf8 =
     quoted-parts (chars bytes)
     ∙ ap (λ (inside : List ℕ). ((34 ∷ []) ++ inside) ++ 34 ∷ []) (escaped_text-bytes (chars bytes) ∙ ap (flat_map escaped) (encodes-chars bytes utf8))
 
--- the bytes from one place up to another
+-- the bytes from position `from` up to position `to`
 abbrev pub between : ℕ → ℕ → List ℕ → List ℕ
 between from to bytes = take (to - from) (drop from bytes)
 
@@ -82,11 +82,11 @@ between-more from to bytes order within =
     let short : to - from < length (drop from bytes) = omega (arith, length-drop from bytes) in
     rw (count, take_more (drop from bytes) (to - from) 0 short, get_or-drop, place) refl
 
--- up to a place the bytes from another on have no escapes
+-- the bytes from `from` up to `to` have no escapes
 abbrev pub IsPlain : ℕ → ℕ → List ℕ → Type 0
 IsPlain from to bytes = flat_map escaped (take to bytes) ≡ flat_map escaped (take from bytes) ++ between from to bytes
 
--- no bytes have no escape
+-- an empty range of bytes has no escapes
 pub plain_none : (at : ℕ) (bytes : List ℕ) → IsPlain at at bytes
 plain_none at bytes =
     let none : at - at ≡ 0 = omega arith in
@@ -100,7 +100,7 @@ plain_more from to bytes order within plain before =
     (ap (λ (text : List ℕ). (flat_map escaped (take from bytes) ++ between from to bytes) ++ text) (append-nil (escaped (get_or bytes to 0)) ∙ plain)
     ∙ append_assoc (flat_map escaped (take from bytes)) (between from to bytes) (get_or bytes to 0 ∷ []))
 
--- the bytes up to the one at a place, those from another place on without escapes, and that one with its escape
+-- the bytes up to and with the one at `at`: those from `from` on without escapes, and that one with its escape
 pub escape-more : (from at : ℕ) (bytes : List ℕ) → at < length bytes → IsPlain from at bytes
     → flat_map escaped (take (at + 1) bytes) ≡ flat_map escaped (take from bytes) ++ (between from at bytes ++ escaped (get_or bytes at 0))
 escape-more from at bytes within plain =
@@ -115,7 +115,7 @@ escape-parts from at bytes within plain =
     rw (← escape-more from at bytes within plain)
     (ap (flat_map escaped) (sym (take-append-drop (at + 1) bytes)) ∙ flat_map-append escaped (take (at + 1) bytes) (drop (at + 1) bytes))
 
--- all bytes, if those after a place have no escape
+-- all bytes, if those from `from` on have no escapes
 pub plain-whole : (from : ℕ) (bytes : List ℕ) → IsPlain from (length bytes) bytes
     → flat_map escaped bytes ≡ flat_map escaped (take from bytes) ++ between from (length bytes) bytes
 plain-whole from bytes plain = rw (take_all (length bytes) bytes (omega arith)) at plain

@@ -8,7 +8,7 @@ use Rattle.std.proofs.lemmas.List.{take_all, drop_all, take_at, drop_at, drop-dr
 use Rattle.std.proofs.lemmas.List.Folds.{list_any_none}
 use Rattle.std.proofs.lemmas.List.Quantifiers.{position-Some}
 
--- if no element passes, the first that does stands past the end
+-- if no element passes, the position of the first that does is the length of the list
 pub position_or_len_none : {X : Type 0} (p : X → Bool) (xs : List X) → list_any p xs ≡ false → position_or_len p xs ≡ length xs
 position_or_len_none p [] h = refl
 position_or_len_none p (x ∷ xs) h =
@@ -70,11 +70,11 @@ position_or_len_some p (x ∷ xs) h = elim (cases_Bool (p x)) [
       rw fails (omega arith)
 ]
 
--- if there is no first place, no element passes
+-- if there is no first position, no element passes
 pub list_any_from_position : {X : Type 0} (p : X → Bool) (xs : List X) → position p xs ≡ None → list_any p xs ≡ false
 list_any_from_position p xs h = false_from_ne_true (list_any p xs) (λ e. cc (cond-true (nat_lt (position_or_len p xs) (length xs)) (Some (position_or_len p xs)) None (lt-ltb (position_or_len p xs) (length xs) (position_or_len_some p xs e)), h))
 
--- before the first place no element passes
+-- before the first position no element passes
 pub list_any-take_position : {X : Type 0} (p : X → Bool) (xs : List X) (at : ℕ) → position p xs ≡ Some at → list_any p (take at xs) ≡ false
 list_any-take_position p xs at h =
     list_any_none p (take at xs) (λ k d below.

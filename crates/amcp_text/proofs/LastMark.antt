@@ -31,7 +31,7 @@ suffix_len_some p (x ∷ xs) h = elim (cases_Bool (list_any p xs)) [
       rw (suffix_len-cons (λ y. not (p y)) x xs, eq-eqb (suffix_len (λ y. not (p y)) xs) (length xs) rest, here) (omega arith)
 ]
 
--- what stands before the last element that passes, in a list with one more before it
+-- the elements before the last one that passes, in a list with one more before it
 pub before_last-cons : {X : Type 0} (p : X → Bool) (x : X) (xs : List X)
     → before_last p (x ∷ xs) ≡ cond (list_any p xs) (x ∷ before_last p xs) []
 before_last-cons p x xs = elim (cases_Bool (list_any p xs)) [

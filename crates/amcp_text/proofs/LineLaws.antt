@@ -88,7 +88,7 @@ lines_of-append whole rest (inr (prefix, e)) =
     rw (e, append_assoc prefix (10 ∷ []) rest, ← map-append line_of (ended_parts (prefix ++ 10 ∷ [])) (ended_parts rest))
     (ap (map line_of) (parts_append [] prefix rest refl))
 
--- one whole line after another
+-- two streams that end where a line ends, one after the other, end where a line ends
 pub IsEnded-append : (a b : List ℕ) → IsEnded a → IsEnded b → IsEnded (a ++ b)
 IsEnded-append a b h (inl none) = rw (none, append-nil a) h
 IsEnded-append a b h (inr (prefix, e)) = inr (a ++ prefix, rw (e, append_assoc a prefix (10 ∷ [])) refl)

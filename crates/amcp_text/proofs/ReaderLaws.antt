@@ -107,7 +107,7 @@ length-strip_carriage_return l =
     cond_both (slice_index l (length l - 1) == 13) (take (length l - 1) l) l (λ t. length l - 1 ≤ length t)
     (λ _. omega (arith, length-take (length l - 1) l)) (λ _. omega arith)
 
--- what is kept of a line tells which line it is
+-- what is kept of a line determines which line it is
 line_of_kept : (part : List ℕ) → cond (nat_lt 4097 (length part)) TooLong (line_of (take 4097 part)) ≡ line_of part
 line_of_kept part = elim (cases_lt 4097 (length part)) [
   | inl long ↦

@@ -12,7 +12,7 @@ use Rattle.amcp_text.specs.Tokens.{words_of}
 use Rattle.amcp_text.specs.declared.token.TokenFault.TheVariants.{OpenQuote, BadEscape}
 use Rattle.amcp_text.proofs.Reading.{Read, answer, begun, turned, answer_start, answer_mark, answer_letter, answer_escape, answer_gap, answer_end, answer_open, answer_bad}
 
--- where the reader of a line's text stands
+-- how far a line's text was read
 pub record ReaderAt : Type 0 where
   -- the bytes of the line
   pub line : List ℕ

@@ -23,6 +23,6 @@ pub token_is_ascii : (word token : List ℕ) → token_of word ≡ Some token �
 token_is_ascii word token h =
     bytes_are_ascii word ((and_parts _ _ (cond_some (is_token word) word token h).0).1)
 
--- a word is a token by its characters if it is one by its bytes
+-- a word is a token by its characters just if it is one by its bytes
 pub token_of-chars : (word : List ℕ) → IsUtf8 word → token_of (chars word) ≡ token_of word
 token_of-chars word utf8 = both_read token_of token_is_ascii word utf8 (token_of word) (token_of (chars word)) refl refl

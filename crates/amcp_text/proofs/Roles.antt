@@ -7,11 +7,11 @@ use Rattle.std.proofs.lemmas.List.{take_at, length-append}
 use Rattle.std.proofs.lemmas.List.Sums.{sum_by-cons, sum_by_push}
 use Rattle.amcp_text.specs.Words.{Part, Role, is_mark, is_unclosed, role_of, roles_of}
 
--- quoted after a part, if it was so before it or not
+-- whether what follows a part is quoted, by whether the part is
 abbrev pub quoted_after : Part → Bool → Bool
 quoted_after part quoted = cond (is_mark part) (not quoted) quoted
 
--- the roles of parts that follow others, which leave the rest quoted or not
+-- the roles of parts that follow others, by whether those leave quotes open
 abbrev pub roles_from : Bool → List Part → List Role
 roles_from quoted [] = []
 roles_from quoted (part ∷ parts) = role_of part quoted ∷ roles_from (quoted_after part quoted) parts
@@ -32,7 +32,7 @@ pub is_unclosed-cons : (part : Part) (parts : List Part) → is_unclosed (part �
 is_unclosed-cons part parts =
     rw (sum_by-cons (λ (x : Part). cond (is_mark x) 1 0) part parts) (odd_with (is_mark part) (count_by is_mark parts))
 
--- one more part at the end
+-- whether quotes are left open with one more part at the end
 is_unclosed_push : (before : List Part) (part : Part) → is_unclosed (before ++ part ∷ []) ≡ quoted_after part (is_unclosed before)
 is_unclosed_push before part =
     let swapped : count_by is_mark before + cond (is_mark part) 1 0 ≡ cond (is_mark part) 1 0 + count_by is_mark before = omega arith in

@@ -61,7 +61,7 @@ decimal_is_ascii : (text : List ℕ) (value : ℤ) → decimal_micro text ≡ So
 decimal_is_ascii text value h =
     signed_is_ascii text (unsigned_decimal_is_ascii (without_leading_sign text) ((cond_some (is_unsigned_decimal (without_leading_sign text)) _ value h).0))
 
--- what reads ASCII alone reads the characters and the bytes of a text alike
+-- a function that reads only ASCII texts reads the characters and the bytes of a text alike
 module _ {A : Type 0} (read : List ℕ → Option A) (ascii : (text : List ℕ) (value : A) → read text ≡ Some value → IsAscii text) where
   pub both_read : (text : List ℕ) → IsUtf8 text → (at_bytes at_chars : Option A) → read text ≡ at_bytes → read (chars text) ≡ at_chars → read (chars text) ≡ read text
   both_read text utf8 (Some value) at_chars b c = ap read (chars-IsAscii text (ascii text value b))

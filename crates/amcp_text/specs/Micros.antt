@@ -1,4 +1,4 @@
--- Values in millionths: which are read from a text, and the text that is printed.
+-- Values in millionths: how they are read from a text, and how they are printed.
 use Rattle.std.specs.Prelude.{ℕ, zero, suc, ◌+◌, ◌-◌, ◌/◌, ◌%◌, ◌^◌, ◌==◌, nat_le, Bool, if◌then◌else◌, Option, Some, None, List, [], ◌∷◌, ◌++◌, length, take, ℤ, pos, negsuc, unsigned_abs}
 use Rattle.std.specs.List.{suffix_len}
 use Rattle.std.specs.Option.{option_and_then}

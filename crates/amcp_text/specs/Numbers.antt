@@ -8,7 +8,7 @@ use Rattle.std.specs.Str.Parse.{digits_value, starts_with_minus, without_leading
 abbrev pub are_digits : List ℕ → Bool
 are_digits text = list_all is_ascii_digit text
 
--- the number that one or more digits write: leading zeros are allowed
+-- the number that one or more digits spell: leading zeros are allowed
 abbrev pub whole_number : List ℕ → Option ℕ
 whole_number text = if nat_lt 0 (length text) && are_digits text then Some (digits_value 10 text) else None
 
@@ -16,11 +16,11 @@ whole_number text = if nat_lt 0 (length text) && are_digits text then Some (digi
 abbrev pub within : ℕ → ℕ → ℕ → Option ℕ
 within least most number = if nat_le least number && nat_le number most then Some number else None
 
--- the whole number that a text writes, if it lies from `least` to `most`
+-- the whole number that a text spells, if it lies from `least` to `most`
 abbrev pub number_within : ℕ → ℕ → List ℕ → Option ℕ
 number_within least most text = option_and_then (within least most) (whole_number text)
 
--- the whole number that a text writes without a leading zero, if it lies from `least` to `most`
+-- the whole number that a text spells without a leading zero, if it lies from `least` to `most`
 abbrev pub plain_number_within : ℕ → ℕ → List ℕ → Option ℕ
 plain_number_within least most [] = None
 plain_number_within least most (c ∷ cs) = if c == 48 then None else number_within least most (c ∷ cs)

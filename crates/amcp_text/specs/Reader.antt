@@ -43,6 +43,7 @@ with_text reader text = record {
 abbrev pub line_kept : ReaderState → Line
 line_kept reader = if reader.over then TooLong else line_of reader.kept
 
--- of a stream these bytes were taken and these lines were returned, and the reader represents the bytes after those lines
+-- a reader that took `taken` has returned `lines` and represents `bytes`: whatever follows, the lines of the stream are `lines`
+-- and then those from `bytes` on
 pub record HasTold (taken : List ℕ) (lines : List Line) (bytes : List ℕ) : Type 0 where
   pub first : (rest : List ℕ) → lines_of (taken ++ rest) ≡ lines ++ lines_of (bytes ++ rest)

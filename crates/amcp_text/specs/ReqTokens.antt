@@ -1,4 +1,4 @@
--- Tokens that stand before commands.
+-- Tokens, which REQ puts before commands.
 use Rattle.std.specs.Prelude.{◌≡◌, ℕ, ◌-◌, ◌==◌, ◌&&◌, nat_le, nat_lt, not, Bool, true, if◌then◌else◌, Option, Some, None, List, ◌++◌, length, take, replicate}
 use Rattle.std.specs.List.{list_all}
 use Rattle.amcp_text.specs.declared.req_token.TheConstants.{MAX_TOKEN_BYTES}
@@ -15,7 +15,7 @@ is_token word = (nat_lt 0 (length word) && nat_le (length word) MAX_TOKEN_BYTES)
 abbrev pub token_of : List ℕ → Option (List ℕ)
 token_of word = if is_token word then Some word else None
 
--- how the bytes of a token are kept: zeros stand after them
+-- the first `len` bytes are a token, and zeros follow
 pub record IsKept (bytes : List ℕ) (len : ℕ) : Type 0 where
   pub token : is_token (take len bytes) ≡ true
   pub count : length (take len bytes) ≡ len

@@ -1,4 +1,4 @@
--- What a line is read as.
+-- The words of a line, or its fault.
 use Rattle.std.specs.Prelude.{◌≡◌, ℕ, if◌then◌else◌, List, Result, Ok, Err, sum_by}
 use Rattle.std.specs.List.{before_first, before_last, list_any}
 use Rattle.amcp_text.specs.Words.{Part, parts_of, byte_len, is_mark, is_bad, is_unclosed, roles_of, words_between}

@@ -51,7 +51,7 @@ pub data Role : Type 0 where
   Mark : Role
   Letter : ℕ → Role
 
--- the role of a part, by whether it is in quotes: a blank parts words only outside them. A bad escape gives no
+-- the role of a part, by whether it is in quotes: a blank separates words only outside them. A bad escape gives no
 -- character, since its line has no words
 abbrev pub role_of : Part → Bool → Role
 role_of (Plain c) quoted = if c == 34 then Mark else (if is_blank c && not quoted then Gap else Letter c)

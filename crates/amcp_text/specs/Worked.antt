@@ -1,4 +1,4 @@
--- Words for the worked examples: lines, words of a line and values that are short to write.
+-- Short lines, words of a line and values for the worked examples.
 use Rattle.std.specs.Prelude.{ℕ, Result, Option, List, ℤ, codes}
 use Prim.Native.String.{String}
 use Rattle.amcp_text.specs.Lines.{Line, Text}
@@ -14,6 +14,6 @@ line text = Text (codes text)
 abbrev pub words : String → Result (List (List ℕ)) TokenFault
 words text = words_of (codes text)
 
--- the value that this text writes, in millionths
+-- the value that this text spells, in millionths
 abbrev pub value : String → Option ℤ
 value text = micro_of (codes text)

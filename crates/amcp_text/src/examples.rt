@@ -20,7 +20,7 @@ pub fn lines_of_streams()
     ensures cut_character { lines_of (195 ∷ 169 ∷ 10 ∷ 195 ∷ 13 ∷ 10 ∷ codes "a" ++ 10 ∷ []) ≡ line "é" ∷ NotUtf8 ∷ line "a" ∷ [] }
 {}
 
-/// Blanks outside quotes part words. Quotes may open within a word, and an empty pair of them is a word.
+/// Blanks outside quotes separate words. Quotes may open within a word, and an empty pair of them is a word.
 pub fn words_of_lines()
     ensures none { words "" ≡ Ok [] }
     ensures blanks { words " \t " ≡ Ok [] }
@@ -46,7 +46,7 @@ pub fn faulty_lines()
     ensures first_of_two { words "PLAY \"\\\\ \\x \\y" ≡ Err (BadEscape 9) }
 {}
 
-/// A whole number has digits alone. Leading zeros are allowed, except if a plain number is asked for.
+/// A whole number has only digits. Leading zeros are allowed, except if a plain number is asked for.
 pub fn whole_numbers()
     ensures zeros { whole_number (codes "007") ≡ Some 7 }
     ensures empty { whole_number [] ≡ None }
@@ -68,7 +68,7 @@ pub fn decimals()
     ensures two_points { value "1.2.3" ≡ None }
 {}
 
-/// A value is printed without zeros at its end, and a whole one without a point.
+/// A value is printed without trailing zeros, and a whole one without a point.
 pub fn printed_values()
     ensures negative { printed_micro (neg_ℤ (pos 12030045)) ≡ codes "-12.030045" }
     ensures whole { printed_micro (pos 1000000000) ≡ codes "1000" }

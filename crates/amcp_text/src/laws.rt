@@ -7,8 +7,8 @@ ghost use Rattle.amcp_text.specs.Lines.{IsEnded, Line, Text, TooLong, is_line_en
 ghost use Rattle.amcp_text.specs.Reader.{HasTold, IsLineOf, line_view};
 ghost use Rattle.amcp_text.specs.declared.line_reader.LineEvent.{LineEvent};
 
-/// However a stream is cut into pieces, a reader returns its lines: those that it returned of the pieces so far are the
-/// first lines of the stream, and all lines of these pieces if no line is held.
+/// However a stream is cut into pieces, a reader returns its lines: those that it has returned are the first lines of the
+/// stream, and if no line is held, they are all lines of the pieces so far.
 ///
 /// The clauses are the steps of a caller: the reader takes bytes, or returns a line and drops it.
 pub fn lines_of_pieces()
@@ -37,8 +37,8 @@ pub fn longest_line()
     ensures too_long { (text : List ℕ) → 4096 < length text → line_of_text text ≡ TooLong }
 {}
 
-/// The bytes of a text with its escapes are its bytes, each with its escape: no byte of a longer character has one. In quotation
-/// marks such bytes stand between two of them.
+/// A text with its escapes, encoded, is the bytes of the text, each with its escape: no byte of a longer character has one.
+/// A text in quotation marks, encoded, is these bytes between two quotation marks.
 pub fn escapes_of_bytes()
     ensures text { (text : List ℕ) → encode_utf8_all (flat_map escaped text) ≡ flat_map escaped (encode_utf8_all text) }
     ensures in_marks { (bytes : List ℕ) → IsUtf8 bytes → encode_utf8_all (quoted (chars bytes)) ≡ ((34 ∷ []) ++ flat_map escaped bytes) ++ 34 ∷ [] }

@@ -3,8 +3,8 @@
 //! A line ends at LF, and one CR directly before that LF belongs to the end. A `LineReader` takes a stream in pieces
 //! of any size and gives its lines one by one. Which lines it gives does not depend on the sizes of the pieces.
 //!
-//! The definitions of lines, words, escapes, whole numbers and decimals stand in `specs/`. The modules `examples` and `laws`
-//! show what they say.
+//! The definitions of lines, words, escapes, whole numbers and decimals are in `specs/`. The modules `examples` and `laws`
+//! show what they mean.
 #![tactic(auto)]
 
 mod escape;

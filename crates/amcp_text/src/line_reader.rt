@@ -28,7 +28,7 @@ pub enum LineEvent<'a> {
 }
 
 impl<'a> LineEvent<'a> {
-    /// Returns the line of this text, whose end is left out.
+    /// Returns the line with this text, which is given without the line end.
     pub fn of(text: &'a [u8]) -> LineEvent<'a>
         ensures { line_view result ≡ line_of_text text.now }
     {
@@ -66,7 +66,7 @@ impl Model for LineReader {
 }
 
 impl LineReader {
-    /// Creates a reader that has taken nothing. It takes the memory for one line.
+    /// Creates a reader that has taken nothing, with room for one line. No other method allocates.
     pub fn new(alloc: Global) -> Result<LineReader, AllocError>
         ensures { IfOk result (λ reader. Represents reader []) }
     {
@@ -79,7 +79,7 @@ impl LineReader {
     }
 
     /// Takes the bytes of `piece` up to and with its first LF, and returns how many these are: 0 exactly if a whole
-    /// line is held or the piece is empty. It takes no memory.
+    /// line is held or the piece is empty.
     pub fn feed(&mut self, piece: &[u8]) -> usize
         ensures count { result ≡ taken_len self.old.held piece.now }
         ensures stands { (bytes : List ℕ)
@@ -158,7 +158,7 @@ fn line_end(piece: &[u8]) -> Option<usize>
     piece.iter().position(|byte| *byte == LINE_END)
 }
 
-/// Returns the text of a line that is given without its LF: a CR at its end is left out, one at most.
+/// Returns the text of a line that is given without its LF: one CR at its end is left out.
 pub fn without_carriage_return(line: &[u8]) -> &[u8]
     ensures { result.now ≡ strip_carriage_return line.now }
 {

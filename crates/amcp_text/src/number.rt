@@ -3,7 +3,7 @@ ghost use Rattle.std.specs.Prelude.{◌≡◌, ◌≤◌, IfSome, is_some};
 ghost use Rattle.std.specs.Str.{chars};
 ghost use Rattle.amcp_text.specs.Numbers.{are_digits, number_within, plain_number_within, whole_number};
 
-/// Returns the whole number that a text writes, if it lies from `least` to `most`. Leading zeros are allowed.
+/// Returns the whole number that a text spells in digits, if it lies from `least` to `most`. Leading zeros are allowed.
 pub fn number_within(least: u32, most: u32, text: &[u8]) -> Option<u32>
     ensures value { result ≡ number_within least most text.now }
     ensures range { IfSome result (λ number. (least ≤ number) × (number ≤ most)) }
@@ -28,7 +28,7 @@ pub fn number_within(least: u32, most: u32, text: &[u8]) -> Option<u32>
     }
 }
 
-/// Returns the whole number that a text writes without a leading zero, if it lies from `least` to `most`.
+/// Returns the whole number that a text spells in digits without a leading zero, if it lies from `least` to `most`.
 pub fn plain_number_within(least: u32, most: u32, text: &[u8]) -> Option<u32>
     ensures { result ≡ plain_number_within least most text.now }
 {
@@ -38,7 +38,7 @@ pub fn plain_number_within(least: u32, most: u32, text: &[u8]) -> Option<u32>
     }
 }
 
-/// Returns the whole number that a word writes, if it lies from `least` to `most`. Leading zeros are allowed.
+/// Returns the whole number that a word spells in digits, if it lies from `least` to `most`. Leading zeros are allowed.
 pub fn word_within(least: u32, most: u32, word: &str) -> Option<u32>
     ensures value { result ≡ number_within least most (chars word.now) }
     ensures range { IfSome result (λ number. (least ≤ number) × (number ≤ most)) }

@@ -1,4 +1,4 @@
-//! Tokens that stand before commands, behind REQ.
+//! Tokens, which REQ puts before commands.
 ghost use Rattle.std.specs.Prelude.{◌≡◌, ◌≤◌, ◌-◌, ◌++◌, length, replicate};
 ghost use Rattle.std.specs.List.{list_all};
 ghost use Rattle.std.specs.Str.{chars};
@@ -10,8 +10,8 @@ use std::marker::Model;
 /// The most bytes of a token.
 pub const MAX_TOKEN_BYTES: usize = 64;
 
-/// A token: 1 to `MAX_TOKEN_BYTES` bytes from 21 to 7E hexadecimal, without the quotation mark and the backslash. It is kept
-/// in place, and takes no memory. Contracts see the list of its bytes.
+/// A token: 1 to `MAX_TOKEN_BYTES` bytes from 21 to 7E hexadecimal, without the quotation mark and the backslash.
+/// Contracts see the list of its bytes.
 #[derive(Clone, Copy, Debug)]
 pub struct ReqToken {
     // The bytes from `len` on are 0.

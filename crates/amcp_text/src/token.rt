@@ -9,7 +9,7 @@ use std::alloc::{AllocError, Global};
 use std::error::Error;
 use std::fmt;
 
-/// Why a line has no words. `at` is a byte of the line.
+/// Why a line was not cut into words. `at` is the position of a byte in the line, counted from 0.
 #[derive(Clone, Copy, Debug, PartialEq, Eq)]
 pub enum TokenFault {
     /// The line ends inside quotes, which the quotation mark at `at` opened.
@@ -47,7 +47,7 @@ impl From<AllocError> for TokenFault {
 
 /// Cuts a line into its words.
 ///
-/// Spaces and tabs outside quotes part words. A quotation mark that is not escaped opens or closes quotes at any place
+/// Spaces and tabs outside quotes separate words. A quotation mark that is not escaped opens or closes quotes at any place
 /// of a word, and is no part of it, so `""` is the empty word. The escapes, inside quotes and outside, are `\"`, `\\`
 /// and `\n`, the new line. A line of blanks has no word.
 ///

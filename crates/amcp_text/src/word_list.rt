@@ -23,7 +23,7 @@ impl Model for WordList {
 }
 
 impl WordList {
-    /// Creates a list without words. It takes no memory.
+    /// Creates a list without words. It does not allocate.
     pub fn new(alloc: Global) -> WordList
         ensures { result ≡ [] }
     {
@@ -70,7 +70,7 @@ impl WordList {
         self.words.get(at).map(|word| word.as_str())
     }
 
-    /// Drops the first two words. It takes no memory.
+    /// Drops the first two words.
     pub fn drop_two(&mut self)
         requires { 3 ≤ length self.old }
         ensures { self.new ≡ drop 2 self.old }

@@ -32,7 +32,7 @@ drawn_append tick rows more bytes others front back = record {
   pixels = ArePixels-append bytes others front.pixels back.pixels;
 }
 
--- drawn rows are as many bytes
+-- drawn rows have as many bytes as their rows count
 pub drawn_long : (tick : Tick) (rows : List Row) (bytes : List ℕ) → AreDrawn tick rows bytes → length bytes ≡ byte_count rows
 drawn_long tick rows bytes drawn =
     let pictures = pictures_of tick.prev.now tick.media.now in

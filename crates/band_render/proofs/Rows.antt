@@ -31,7 +31,7 @@ pub byte_count-whole : (rows : List Row) → byte_count rows % 4 ≡ 0
 byte_count-whole [] = refl
 byte_count-whole (row ∷ rows) = let more = byte_count-whole rows in omega (arith, more)
 
--- the bytes of a picture's rows are as many
+-- a row of a picture has four bytes a pixel
 length-row : (pictures : Pictures) (scenes : List (List Drawn)) (row : Row) → length (row_bytes pictures scenes row) ≡ 4 * row.size.width
 length-row pictures scenes row =
     length-pieces (λ x. pixel_bytes (scene_pixel pictures row.size (scene_at row.channel scenes) x row.y)) 4 0 row.size.width (λ x. refl)

@@ -1,4 +1,4 @@
--- What the frames of a renderer say of a history.
+-- How the frames of a renderer represent a history.
 use Rattle.std.specs.Prelude.{◌≡◌, ℕ, List, map}
 use Rattle.std.specs.List.{range_with_len}
 use Rattle.play_types.specs.declared.drawn.Drawn.{Drawn}

@@ -27,12 +27,12 @@ rows_of band = rows_from band.channel band.size band.first band.rows
 abbrev pub rows_of_bands : List Band → List Row
 rows_of_bands bands = flat_map rows_of bands
 
--- all rows of frames of these sizes, that of the channel first
+-- all rows of frames of these sizes, of the channels from this one on
 abbrev pub rows_of_frames : ℕ → List Geometry → List Row
 rows_of_frames channel [] = []
 rows_of_frames channel (size ∷ sizes) = rows_from channel size 0 size.height ++ rows_of_frames (channel + 1) sizes
 
--- the bytes of rows: four a pixel
+-- the number of bytes of rows: four a pixel
 abbrev pub byte_count : List Row → ℕ
 byte_count [] = 0
 byte_count (row ∷ rows) = 4 * row.size.width + byte_count rows

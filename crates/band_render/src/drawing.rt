@@ -89,9 +89,9 @@ fn draw_bands<G: Gate>(
     }
 }
 
-/// Writes the rows of all bands. They are parted in order into as many groups as there are rooms, whose numbers of bands differ by
-/// at most one. A single group is made by the caller's thread. Of more, each is made in a thread that is started, and the caller's
-/// waits.
+/// Writes the rows of all bands. The bands are split in order into as many groups as there are rooms, whose sizes differ by at most
+/// one. A single group is made by the caller's thread. Of several groups, each is made in a thread that is started, and the caller's
+/// thread waits.
 #[cycle(groups)]
 pub(crate) fn draw_all<R: Threads + Sync, G: Gate>(
     rt: &R,
@@ -135,7 +135,7 @@ struct Parts<'a> {
     last: &'a [Band],
 }
 
-/// Writes the rows of two lists of bands, each beside the other.
+/// Writes the rows of two lists of bands in parallel.
 #[cycle(groups)]
 fn draw_both<R: Threads + Sync, G: Gate>(
     rt: &R,
@@ -201,9 +201,9 @@ fn draw_started<R: Threads + Sync, G: Gate>(
     );
 }
 
-/// Returns how many of some groups, from the first on, are given to a thread that is started, while the caller's sees to the
-/// others. Up to eight groups are given away one by one, so that the caller starts all threads: a thread that begins late starts
-/// others later still.
+/// Returns how many of `groups` groups, from the first on, go to a thread that is started, while the caller's thread handles the
+/// others. Of up to eight groups one goes at a time, so that the caller starts all threads: a thread that begins late starts others
+/// later still.
 fn given_groups(groups: usize) -> usize
     requires { 2 ≤ groups }
     ensures { (0 < result) × (result < groups) }

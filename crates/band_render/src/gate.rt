@@ -3,9 +3,9 @@ ghost use Rattle.std.specs.Prelude.{◌≡◌, ℕ, Bool, true};
 
 use crate::band::Band;
 
-/// What a renderer enters before the first row of each band.
+/// A gate, which a renderer enters before the first row of each band.
 pub trait Gate: Sync {
-    /// Whether the band of a number was let in. Nothing but a call of [`Gate::enter`] tells it of a gate of whatever type.
+    /// Whether the band of a number was let in. For a gate of unknown type only a call of [`Gate::enter`] shows this.
     ghost entered: { Self → ℕ → Bool } = { λ gate band. true };
 
     /// Lets the band of this number in. Bands are numbered from 0 over all channels. It always returns.
@@ -21,7 +21,7 @@ impl Gate for OpenGate {
     fn enter(&self, _band: u32) {}
 }
 
-/// A band that a gate has let in. Rows are made of such a band alone.
+/// A band that a gate has let in. Rows are made only for such a band.
 #[derive(Drop)]
 pub(crate) struct LetIn<'a, G: Gate> {
     gate: &'a G,

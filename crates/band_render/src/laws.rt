@@ -14,8 +14,8 @@ ghost use Rattle.band_render.specs.Histories.{HasFrame, Represents, scenes_after
 use play_scene::laws::{frames_are_pictures, pixels_of_histories};
 use play_sound::laws::{frames_are_sounds, sounds_of_histories};
 
-/// The frames of a new renderer represent the empty history. Frames that are rendered from the scenes of the tick after a
-/// history represent the history with that tick, and other events leave what frames represent.
+/// The frames of a new renderer represent the empty history. If frames represent a history, those rendered from the scenes of the
+/// tick after it represent the history with that tick, and the frames themselves represent the history with any other event.
 pub fn frames_represent_histories()
     ensures first { (setup : Setup) (channels : List ChannelView) (entries : List Entry) → setup.clips ≡ clips_of entries →
         setup.channels ≡ sizes (map zero_frame channels) →

@@ -14,10 +14,10 @@ use crate::weights::{ROWS_ALIKE, frame_weight, row_weight};
 use play_types::{Config, Geometry, Scene};
 use std::alloc::{AllocError, Global};
 
-/// How many bands the frames of all channels are cut into for each worker, if their rows are enough.
+/// How many bands the frames of all channels are cut into for each worker, if they have enough rows.
 const BANDS_PER_WORKER: u64 = 16;
 
-/// The most bands of a channel: so many for each of 64 workers.
+/// The most bands of a channel: `BANDS_PER_WORKER` for each of 64 workers.
 const MOST_BANDS: usize = 1_024;
 
 /// Returns a band of all rows for each channel of a configuration, in a list with room for the most bands.
@@ -35,9 +35,9 @@ pub(crate) fn whole_frames(alloc: Global, config: &Config) -> Result<Vec<Band>, 
     Ok(bands)
 }
 
-/// Cuts the frames of a tick into bands for so many workers, in place of those in the list. For one worker a channel is one band.
-/// For more, each channel has at least as many bands as there are workers, or as it has rows if these are fewer, and the more the
-/// longer its rows take to make; the bands of a channel take about as long.
+/// Cuts the frames of a tick into bands for `workers` workers, in place of those in the list. For one worker each channel is one
+/// band. For more, each channel has at least as many bands as there are workers, or as it has rows if these are fewer, and more of
+/// them the longer its rows take to make. The bands of a channel take about equally long.
 pub(crate) fn cut_frames(tick: &Tick<'_>, workers: u16, bands: &mut Vec<Band>)
     requires tick { IsTick tick.now }
     requires some { 1 ≤ workers }
@@ -99,8 +99,9 @@ struct Cut {
 }
 
 impl Cut {
-    /// Returns into how many bands a frame of `rows` rows is cut: by its part of the weight of all frames, at least as many as there
-    /// are workers, and no more than are needed for bands of sixteen rows, if the rows are enough.
+    /// Returns into how many bands a frame of `rows` rows is cut, by its part `weight` of the weight `all` of all frames: at least
+    /// `workers`, beyond that at most one for each sixteen rows and at most `BANDS_PER_WORKER` for each worker, and never more than
+    /// `rows`.
     fn new(weight: u64, all: u64, workers: u16, rows: u16) -> Cut
         requires some { 1 ≤ workers }
         requires few { workers ≤ 64 }
@@ -120,8 +121,8 @@ impl Cut {
         }
     }
 
-    /// Returns whether the band that is the `made`th ends above a row, by the weight of all rows above it, and by how many rows
-    /// are left from it on: each band that is to come has one at least.
+    /// Returns whether band `made`, counted from 1, ends above a row. `above` is the weight of all rows above that row, and `left`
+    /// is how many rows there are from it on: each later band has at least one.
     fn ends(self, made: u16, above: u64, left: u16) -> bool
         requires few { made ≤ self.count }
         requires light { above ≤ 2 ^ 44 }

@@ -60,8 +60,8 @@ impl Model for Renderer {
 }
 
 impl Renderer {
-    /// Creates the renderer of a configuration before the first tick, and takes all memory. `workers`, 1 to 64, is the number of
-    /// threads that make the frames.
+    /// Creates the renderer of a configuration before the first tick, and allocates all that it needs. `workers`, 1 to 64, is the
+    /// number of threads that make the frames.
     pub fn new(alloc: Global, config: &Config, workers: u32) -> Result<Renderer, AllocError>
         requires some_workers { 1 ≤ workers }
         requires few_workers { workers ≤ 64 }
@@ -81,16 +81,16 @@ impl Renderer {
         })
     }
 
-    /// Makes the frame and the sound of each channel from its scene, the clips, and the frames of the tick before, also if
-    /// a scene shows the frame of another channel. There are as many scenes as channels. It takes no memory.
+    /// Makes the frame and the sound of each channel from its scene, the clips, and the frames of the tick before: a scene that
+    /// shows another channel shows its frame of the tick before. There are as many scenes as channels.
     ///
     /// The rows of each channel are cut into bands: at least as many as there are workers, or as many as there are rows if the
-    /// channel has fewer. A channel has the more bands, and a band the fewer rows, the more layers these show, so that bands take
-    /// about as long. Bands are numbered from 0 over all channels, and each enters the gate once with its number before its first
-    /// row. They are parted in order into as many groups as there are workers, whose numbers of bands differ by at most one, and
-    /// each group is made by a thread, one band after another. There are no more groups than rows. With one worker each channel is
-    /// one band. With one worker, and if all frames together have fewer than 64 pixels, the caller's thread makes all bands. The
-    /// sound is made after the bands.
+    /// channel has fewer. The more layers the rows show, the more bands a channel has and the fewer rows a band has, so that all
+    /// bands take about equally long. Bands are numbered from 0 over all channels, and each enters the gate once with its number
+    /// before its first row. They are split in order into as many groups as there are workers, but no more than there are rows. The
+    /// sizes of the groups differ by at most one, and each group is made by one thread, one band after another. With one worker each
+    /// channel is one band. With one worker, or if all frames together have fewer than 64 pixels, the caller's thread makes all
+    /// bands. The sound is made after the bands.
     pub fn render<R: Threads + Sync, G: Gate>(
         &mut self,
         rt: &R,

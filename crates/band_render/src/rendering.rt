@@ -12,7 +12,7 @@ use play_scene::Frames;
 use play_sound::mix_sound;
 
 /// Makes the frames of all channels in `next`. `pixels` has their pictures, one after another, and gets the pixels that `next` had.
-/// `room` has the bytes of the largest sound.
+/// `room` is as long as the largest sound.
 pub(crate) fn render_frames(
     tick: &Tick<'_>,
     pixels: &mut Vec<u8>,

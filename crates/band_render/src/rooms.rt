@@ -8,8 +8,8 @@ use play_types::{ChannelList, Config};
 use row_render::RowRoom;
 use std::alloc::{AllocError, Global};
 
-/// The fewest pixels of the frames of all channels that are made by more than one thread. Starting a thread takes longer than
-/// making fewer.
+/// The fewest pixels, of the frames of all channels together, that are made by more than one thread. Starting a thread takes longer
+/// than making fewer.
 const MIN_SHARED_PIXELS: usize = 64;
 
 /// Returns room for a row of the channels of a configuration for each thread that makes them: one for each worker, but no more

@@ -1,6 +1,6 @@
 //! About how long the rows of a scene take to make.
 //!
-//! A weight says how a row's time compares with that of others, so that threads can be given rows that take about as long. The
+//! A weight says how a row's time compares with that of others, so that threads can be given rows that take about equally long. The
 //! numbers were measured. No pixel depends on a weight.
 ghost use Rattle.std.specs.Prelude.{◌*◌, ◌<◌, ◌≤◌};
 ghost use Rattle.play_types.specs.Geometry.{IsSize};
@@ -9,16 +9,16 @@ ghost use Rattle.band_render.specs.inner.Drawing.{IsTick};
 use crate::drawing::Tick;
 use play_types::{Drawn, Geometry, MICROS_PER_UNIT, Scene, Still};
 
-/// What each pixel of a row weighs in which nothing or a colour is shown.
+/// The weight of each pixel of a row that shows nothing or a colour.
 const ROW: u64 = 1_000;
 
 /// What a picture of the frame's width adds, since it is read from memory. A narrower one adds less.
 const READ: u64 = 1_500;
 
-/// What a layer adds that is laid over another, for each thousandth of the columns that it fills.
+/// What a layer that is laid over another adds, for each thousandth of the columns that it fills.
 const LAID: u64 = 3;
 
-/// What a layer adds whose opacity is below 1, for each thousandth of the columns that it fills.
+/// What a layer whose opacity is below 1 adds, for each thousandth of the columns that it fills.
 const FADED: u64 = 2;
 
 /// What a layer adds during a transition, for each thousandth of the columns that it fills.
@@ -27,10 +27,10 @@ const MIXED: u64 = 4;
 /// The most that each pixel of a row weighs.
 const MOST_OF_A_PIXEL: u64 = 1_000_000;
 
-/// The most that a row weighs, whose pixels are at most 4,096.
+/// The most that a row weighs: it has at most 4,096 pixels.
 pub(crate) const MOST_WEIGHT: u64 = 4_096_000_000;
 
-/// Rows one below the other that are taken to weigh the same.
+/// How many rows one below the other are taken to weigh the same.
 pub(crate) const ROWS_ALIKE: u16 = 16;
 
 /// Returns the weight of all rows of a frame.
@@ -108,7 +108,7 @@ fn source_width(tick: &Tick<'_>, still: Still) -> u16
     }
 }
 
-/// Returns what a layer adds to the weight of each pixel besides. The lowest one is laid over no other.
+/// Returns what a layer adds to the weight of each pixel besides reading its picture. The lowest layer is laid over no other.
 fn layer_weight(layer: &Drawn, is_lowest: bool) -> u64
     ensures most { result ≤ 9000 }
 {
@@ -130,8 +130,8 @@ fn layer_weight(layer: &Drawn, is_lowest: bool) -> u64
     weight
 }
 
-/// Returns which part of a frame shows something by the edges and extents of a fill and a clip, in millionths of the frame: from
-/// the first number up to before the second, and nothing if they are the same.
+/// Returns the part of a frame that shows something by the edges and extents of a fill and a clip, in millionths of the frame: from
+/// the first number up to before the second, empty if they are equal.
 fn shown_part(fill: (i64, i64), clip: (i64, i64)) -> (u64, u64)
     ensures order { result.0 ≤ result.1 }
     ensures range { result.1 ≤ 1000000 }

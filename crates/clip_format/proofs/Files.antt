@@ -102,7 +102,7 @@ field_4 bytes at n fits long is =
     let size : length (take 4 (drop at bytes)) ≡ 4 = omega (arith, length-take 4 (drop at bytes), length-drop at bytes) in
     sym (be_bytes_4 (take 4 (drop at bytes)) n size (part_of_bytes bytes 4 at fits) (sym is))
 
--- a field, and what stands after it
+-- a field, and what follows it
 field_then : (bytes : List ℕ) (at count : ℕ) (field rest : List ℕ) → take count (drop at bytes) ≡ field → drop (at + count) bytes ≡ rest → drop at bytes ≡ field ++ rest
 field_then bytes at count field rest p q =
     sym (take-append-drop count (drop at bytes)) ∙ ap₂ (λ (a b : List ℕ). a ++ b) p (drop-drop count at bytes ∙ q)

@@ -96,7 +96,7 @@ by_version clip h fit false is =
     (bytes-fours clip.frames (length clip.bytes) clip.geometry h.whole) in
     rw is (ap (λ (b : List ℕ). record { version = MULTIPLIED; geometry = clip.geometry; frames = clip.frames; bytes = b }) bytes)
 
--- a clip and the one that was made straight of it show the same
+-- a clip and its straight form are prepared as one clip
 pub prepared_clip-straight_clip : (clip : ClipView) → IsClip clip → AreBytes clip.bytes → prepared_clip (straight_clip clip) ≡ prepared_clip clip
 prepared_clip-straight_clip clip h fit = by_version clip h fit (clip.version == STRAIGHT) refl
 

@@ -1,4 +1,4 @@
--- Clips whose colour bytes are made anew.
+-- Clips whose colour bytes are replaced.
 use Rattle.std.proofs.Common.{◌≡◌, ℕ, ◌+◌, ◌-◌, ◌*◌, ◌/◌, ◌%◌, ◌<◌, ◌≤◌, List, Bool, true, false, length, refl, sym, ap, ◌∙◌, arith, mul_assoc, mul_comm, inl, inr}
 use Rattle.std.specs.Prelude.{◌&&◌, nat_lt, slice_index, if◌then◌else◌}
 use Rattle.std.proofs.lemmas.Bool.{lt-ltb, le-ltb, le-leb, lt-leb, cases_lt}
@@ -87,7 +87,7 @@ recoloured_byte-alpha made size bytes frame pixel within =
     let is = of_pixel size frame pixel 3 within (omega arith) in
     rw (is.inside, le-ltb ((frame * frame_bytes size + 4 * pixel + 3) % 4) 3 (omega (arith, is.place))) refl
 
--- the colours of a pixel are made anew of themselves and of its alpha, which stays
+-- each colour byte of a pixel is replaced by what `made` gives of it and the alpha, which stays
 pub record IsPixelOf (made : ℕ → ℕ → ℕ) (old new : List ℕ) (at : ℕ) : Type 0 where
   pub colour : (k : ℕ) → k < 3 → slice_index new (at + k) ≡ made (slice_index old (at + k)) (slice_index old (at + 3))
   pub alpha : slice_index new (at + 3) ≡ slice_index old (at + 3)
@@ -109,7 +109,7 @@ made_byte : (made : ℕ → ℕ → ℕ) (bytes : List ℕ) (k : ℕ) (choice : 
 made_byte made bytes k true makes fit = makes _ _ (fit (k / 4 * 4 + 3))
 made_byte made bytes k false makes fit = fit k
 
--- bytes whose colours are made anew by bytes are bytes
+-- bytes whose colours are replaced by bytes are bytes
 pub AreBytes-recoloured : (made : ℕ → ℕ → ℕ) (clip : ClipView) → ((colour alpha : ℕ) → alpha < 256 → made colour alpha < 256) → AreBytes clip.bytes → AreBytes (recoloured made clip)
 AreBytes-recoloured made clip makes fit k = elim (cases_lt k (length clip.bytes)) [
   | inl lt ↦ rw (byte-recoloured made clip k lt)
@@ -117,7 +117,7 @@ AreBytes-recoloured made clip makes fit k = elim (cases_lt k (length clip.bytes)
   | inr past ↦ rw (get_or_past (recoloured made clip) k 0 (omega (arith, past, length-recoloured made clip))) (omega arith)
 ]
 
--- bytes whose colours were made anew frame by frame are those of the clip with other colours
+-- bytes whose colours were replaced frame by frame are those of the clip with other colours
 pub recoloured-frames : (made : ℕ → ℕ → ℕ) (clip : ClipView) (new : List ℕ)
     → AreRecoloured made (4 * clip.geometry.width * clip.geometry.height) (frame_bytes clip.geometry) clip.bytes new → new ≡ recoloured made clip
 recoloured-frames made clip new are =
@@ -150,7 +150,7 @@ twice_at first second both bytes new k true true are fit is now top = rw (now, t
 twice_at first second both bytes new k true false are fit is now top = now
 twice_at first second both bytes new k false colour are fit is now top = now
 
--- colours that are made anew twice
+-- colours that are replaced twice
 pub recoloured-twice : (first second both : ℕ → ℕ → ℕ) (version : ℕ) (clip : ClipView) → AreOneAfterAnother first second both → AreBytes clip.bytes → length clip.bytes % 4 ≡ 0
     → recoloured second (record { version = version; geometry = clip.geometry; frames = clip.frames; bytes = recoloured first clip }) ≡ recoloured both clip
 recoloured-twice first second both version clip are fit whole =
@@ -171,14 +171,14 @@ recoloured-twice first second both version clip are fit whole =
     (byte-recoloured first clip k below) alpha
     ∙ sym (byte-recoloured both clip k below))
 
--- bytes behind those that were made anew are as they were
+-- bytes after those that were replaced are as they were
 pub recoloured-rest : (made : ℕ → ℕ → ℕ) (from to : ℕ) (old new : List ℕ) → IsRecoloured made from to old new → (k : ℕ) → to ≤ k → slice_index new k ≡ slice_index old k
 recoloured-rest made from to old new is k le = elim (cases_lt k (length old)) [
   | inl lt ↦ rw (le-ltb k to le) at (is.each k lt)
   | inr past ↦ get_or_past new k 0 (omega (arith, past, is.len)) ∙ sym (get_or_past old k 0 past)
 ]
 
--- the picture of one frame more was made anew: a byte of the frames so far
+-- the colours of one frame more were replaced: a byte of the frames so far
 pub recoloured-more : (made : ℕ → ℕ → ℕ) (picture frame number : ℕ) (first old new : List ℕ) → picture ≤ frame
     → length old ≡ length first
     → ((k : ℕ) → k < number * frame → slice_index old k ≡ (if nat_lt (k % frame) picture && nat_lt (k % 4) 3 then made_at made first k else slice_index first k))

@@ -17,7 +17,7 @@ number_of_2 bytes at = from_be_bytes w16 (take 2 (drop at bytes))
 abbrev pub number_of_4 : List ℕ → ℕ → ℕ
 number_of_4 bytes at = from_be_bytes w32 (take 4 (drop at bytes))
 
--- a number within the ends, which count too
+-- the number is from `low` to `high`
 abbrev pub is_within : ℕ → ℕ → ℕ → Bool
 is_within low high number = nat_le low number && nat_le number high
 
@@ -60,7 +60,7 @@ header_frames bytes = number_of_4 bytes 12
 abbrev pub announced : List ℕ → ℕ
 announced bytes = 20 + header_frames bytes * frame_bytes (header_size bytes)
 
--- what is left to say of a file with such a fault of its header, or none: its length, and the clip
+-- the fault of the header, if it has one; else Short or Long, if the length is not the announced one; else the clip
 abbrev pub clip_after : List ℕ → Option ClipFault → Result ClipView ClipFault
 clip_after bytes (Some fault) = Err fault
 clip_after bytes None =

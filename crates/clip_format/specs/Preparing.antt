@@ -8,7 +8,7 @@ use Rattle.play_types.specs.Geometry.{frame_bytes}
 use Rattle.play_types.specs.ClipFile.{ClipView}
 use Rattle.clip_format.specs.Recolouring.{made_at}
 
--- each byte of the list is one
+-- each number of the list is a byte
 abbrev pub AreBytes : List ℕ → Type 0
 AreBytes bytes = (k : ℕ) → slice_index bytes k < 256
 
@@ -24,17 +24,17 @@ IsLowered clip =
     (frame pixel : ℕ) → frame < clip.frames → pixel < clip.geometry.width * clip.geometry.height
     → IsLoweredAt clip.bytes (frame * frame_bytes clip.geometry + 4 * pixel)
 
--- byte k of frames of this size if the colour bytes of their pictures are made anew: the alphas and the sound stay
+-- byte k of frames of this size after the colour bytes of their pictures were replaced: the alphas and the sound stay
 abbrev pub recoloured_byte : (ℕ → ℕ → ℕ) → Geometry → List ℕ → ℕ → ℕ
 recoloured_byte made size bytes k =
     if nat_lt (k % frame_bytes size) (4 * size.width * size.height) && nat_lt (k % 4) 3 then made_at made bytes k
     else slice_index bytes k
 
--- the bytes of a clip whose colour bytes are made anew of themselves and of their alphas
+-- the bytes of a clip, each colour byte replaced by what `made` gives of it and its alpha
 abbrev pub recoloured : (ℕ → ℕ → ℕ) → ClipView → List ℕ
 recoloured made clip = map (recoloured_byte made clip.geometry clip.bytes) (range_with_len 0 (length clip.bytes))
 
--- a colour byte prepared by its alpha: lowered to it, and multiplied by it in clips of version 2
+-- a colour byte that is prepared: multiplied by its alpha in clips of version 2, and else lowered to it
 abbrev pub prepared_colour : ℕ → ℕ → ℕ → ℕ
 prepared_colour version colour alpha = if version == STRAIGHT then scaled colour alpha else min colour alpha
 

@@ -29,7 +29,7 @@ abbrev pub IsRising : List Entry → Type 0
 IsRising [] = Unit {0}
 IsRising (entry ∷ entries) = All (λ later. IsBelow entry.name later.name) entries × IsRising entries
 
--- a clip is of version 1 and has no colour byte above its alpha, and a fault is one of the file
+-- a clip is of version 1 and has no colour byte above its alpha, and a fault is not that memory ran out
 abbrev pub IsReady : Result ClipView ClipFault → Type 0
 IsReady (Ok clip) = (clip.version ≡ MULTIPLIED) × IsLowered clip
 IsReady (Err fault) = fault ≢ OutOfMemory
@@ -45,11 +45,11 @@ abbrev pub readable : Result ClipView ClipFault → Option ClipView
 readable (Ok clip) = Some clip
 readable (Err fault) = None
 
--- the readable clip of a number
+-- the clip of the entry with this number, if there is one and it is readable
 abbrev pub clip_at : List Entry → ℕ → Option ClipView
 clip_at entries id = option_and_then (λ entry. readable entry.clip) (slice_get entries id)
 
--- a name with the numbers of its clip, if the file is readable
+-- a name with the size and the number of frames of its clip, or as unreadable
 abbrev pub media_name : List ℕ → Result ClipView ClipFault → MediaNameView
 media_name name (Ok clip) = clip_name name clip.geometry clip.frames
 media_name name (Err fault) = unreadable_name name

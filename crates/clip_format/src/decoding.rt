@@ -8,10 +8,10 @@ ghost use Rattle.clip_format.specs.inner.FileClip.{file_clip};
 use crate::header::{HEADER_LEN, Header, announced_len, fault_of, numbers_in};
 use play_types::{ByteList, Clip, ClipFault};
 
-/// Reads a clip file. The clip keeps the bytes after the header as they are, and no memory is taken.
+/// Reads a clip file. The clip keeps the bytes after the header as they are.
 ///
 /// Fewer than 20 bytes are `Short` with 20 needed. Then comes the first field of the header that is not accepted, and
-/// then `Short` or `Long` if the bytes are not as many as the header announces.
+/// then `Short` or `Long` if the bytes are not as many as the header announces. `OutOfMemory` never comes.
 pub fn decode(bytes: Vec<u8>) -> Result<Clip, ClipFault>
     ensures exact { result ≡ clip_of bytes.items }
     ensures is_file { IfOk result (λ clip. IsClipFile bytes.items clip) }
@@ -24,7 +24,7 @@ pub fn decode(bytes: Vec<u8>) -> Result<Clip, ClipFault>
     Ok(Clip::new(header.version, header.size, header.frames, frames).unwrap())
 }
 
-/// Reads the header of a clip file, or tells why the bytes are none.
+/// Returns the header of a clip file, or the fault of the file, of which its length is checked too.
 fn read_header(bytes: &[u8]) -> Result<Header, ClipFault>
     ensures clip { IfOk result (λ header. clip_of bytes.now ≡ Ok (file_clip header bytes.now)) }
     ensures is_file { IfOk result (λ header. IsClipFile bytes.now (file_clip header bytes.now)) }
@@ -53,7 +53,7 @@ fn read_header(bytes: &[u8]) -> Result<Header, ClipFault>
     Ok(numbers_in(bytes))
 }
 
-/// Returns the bytes after the header. They stay in the memory that they have.
+/// Returns the bytes after the header, moved to the front of their buffer.
 fn after_header(mut bytes: Vec<u8>) -> Vec<u8>
     requires { 20 ≤ length bytes.items }
     ensures { result.items ≡ drop 20 bytes.items }

@@ -21,7 +21,7 @@ pub fn files()
     ensures header_cut { clip_of (codes "RCLQ") ≡ Err (ClipFault.Short 20 4) }
 {}
 
-/// Headers whose first field out of range is named, and those with the greatest numbers.
+/// Headers with fields out of range, of which the first is reported, and one with the greatest numbers, which is accepted.
 #[tactic(auto, unfolding(crate::specs::Decoding::clip_of, crate::specs::Decoding::header_fault))]
 pub fn headers()
     ensures magic { clip_of (codes "RCLp" ++ 0 ∷ 3 ∷ 0 ∷ 1 ∷ 0 ∷ 1 ∷ 0 ∷ 1 ∷ 0 ∷ 0 ∷ 0 ∷ 1 ∷ 0 ∷ 0 ∷ 0 ∷ 0 ∷ []) ≡ Err ClipFault.BadMagic }

@@ -11,7 +11,7 @@ use play_types::{
 /// The length of a header, in bytes.
 pub(crate) const HEADER_LEN: usize = 20;
 
-/// What a header says of its clip.
+/// The version, the size and the number of frames in a header.
 #[derive(Clone, Copy)]
 pub(crate) struct Header {
     pub(crate) version: u16,

@@ -10,7 +10,7 @@ use play_types::{ByteList, Clip, STRAIGHT};
 /// each colour byte above its alpha is lowered to it, and then becomes the nearest byte to `colour * 255 / alpha`, or 0 if
 /// the alpha is 0. The alphas and the sound stay.
 ///
-/// It takes no memory: the bytes are changed in place.
+/// The bytes are changed in place.
 pub fn straight_clip(clip: Clip) -> Clip
     ensures value { result ≡ straight_clip clip }
     ensures shown { prepared_clip result ≡ prepared_clip clip }

@@ -98,7 +98,7 @@ impl MediaTable {
     }
 }
 
-/// Returns the name with the numbers of its clip.
+/// Returns the name with the size and the number of frames of its clip, or as unreadable.
 fn name_of(
     alloc: Global,
     name: &str,

@@ -22,13 +22,13 @@ use Rattle.clip_store.specs.inner.Orders.{IsStrict}
 use Rattle.clip_store.specs.declared.reading.TheConstants.{MAX_MEDIA_BYTES}
 use Rattle.clip_store.specs.Scan.{bytes_of, kept_clip, entry, weight, first_above, table_of, Tells}
 
--- how far reading has come: how many files were read, their table, and the sum of their lengths
+-- the progress of reading: how many files were read, their table, and the sum of their lengths
 pub record Progress : Type 0 where
   pub count : ℕ
   pub table : List Entry
   pub total : ℕ
 
--- the progress after one file more, of these bytes
+-- the progress after one more file, with these bytes
 abbrev pub after_file : Progress → Found → List ℕ → Progress
 after_file read found bytes = record {
   count = read.count + 1;
@@ -36,14 +36,14 @@ after_file read found bytes = record {
   total = read.total + max (length bytes) 1;
 }
 
--- the table and the sum are those of the first `count` files, if the folder tells what it holds
+-- the table and the sum are those of the first `count` files, if the folder's files are known
 abbrev pub HasRead : List ℕ → Option Files → List Found → Progress → Type 0
 HasRead folder None order read = Unit {0}
 HasRead folder (Some files) order read =
     (read.table ≡ map (entry folder files) (take read.count order))
     × (first_above 0 (map (weight folder files) order) ≡ first_above read.total (map (weight folder files) (drop read.count order)))
 
--- the first sum above the limit, seen one file later
+-- the first sum above the limit, from the next file on
 first_above-more : (folder : List ℕ) (files : Files) (order : List Found) (at total : ℕ) (found : Found) (bytes : List ℕ) → at < length order → get_or order at found ≡ found
     → bytes_of folder files found ≡ bytes
     → first_above total (map (weight folder files) (drop at order))
@@ -94,7 +94,7 @@ Tells-all folder (Some files) order read all so =
 abbrev pub name_bytes : Entry → List ℕ
 name_bytes e = encode_utf8_all e.name
 
--- the names of one file more
+-- the names in the table after one more file
 pub names-more : (order : List Found) (at : ℕ) (table : List Entry) (found : Found) (clip : Result ClipView ClipFault) → at < length order → get_or order at found ≡ found → IsUtf8 found.name
     → map name_bytes table ≡ map (λ (f : Found). f.name) (take at order)
     → map name_bytes (table ++ record { name = chars found.name; clip = clip } ∷ []) ≡ map (λ (f : Found). f.name) (take (at + 1) order)
@@ -131,7 +131,7 @@ IsAbove-names order at table found strict within is text so =
     let at_i = subst (λ n. is_lt (slice_cmp nat_cmp n found.name) ≡ true) (read_map table i d) lower in
     subst (λ n. is_lt (slice_cmp nat_cmp (name_bytes (get_or table i d)) n) ≡ true) (sym (encode_utf8_all-chars found.name text)) at_i
 
--- a file among those that are kept, as it is seen
+-- a clip file of the code as one of the definitions, by its index
 pub view_at : (files : List ClipFile) (at : ℕ) (item : ClipFile) → at < length files → item ≡ get_or files at item
     → (at < length (file_views files)) × (get_or (file_views files) at (file_view item) ≡ file_view item)
 view_at files at item within is = (

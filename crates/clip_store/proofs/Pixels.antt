@@ -7,7 +7,7 @@ use Rattle.std.proofs.lemmas.Nat.{div-add-mod', mod-mul-add}
 use Rattle.clip_format.proofs.Recoloured.{four_of}
 use Rattle.clip_format.specs.Recolouring.{IsRecoloured, made_at}
 
--- a byte of a frame whose colours were made anew, by its place among all bytes
+-- a byte of a frame whose colours were changed, by its index among all bytes
 pub byte_of_frame : (made : ℕ → ℕ → ℕ) (picture frame start offset i : ℕ) (old new before after : List ℕ) → picture ≤ frame → picture % 4 ≡ 0 → frame % 4 ≡ 0 → length old % frame ≡ 0
     → IsChunk old frame start before → offset < length before → start + offset ≡ i → IsRecoloured made 0 picture before after → get_or after offset 0 ≡ slice_index new i
     → slice_index new i ≡ (if nat_lt (i % frame) picture && nat_lt (i % 4) 3 then made_at made old i else slice_index old i)

@@ -13,7 +13,7 @@ use Rattle.clip_store.specs.Scan.{ordered, table_of, scanned, Tells, Answers}
 use Rattle.clip_store.proofs.Sorting.{IsRisingBy-sorted}
 use Rattle.clip_store.proofs.Twice.{IsStrict-from}
 
--- these are the folder's clip files in order, if it tells them
+-- `order` is the folder's clip files in order, if its files are known
 abbrev pub AreOrdered : List ℕ → Option Files → List Found → Type 0
 AreOrdered folder None order = Unit {0}
 AreOrdered folder (Some files) order = ordered folder files ≡ order
@@ -25,14 +25,14 @@ AreOrdered-listed folder None listed order held is = tt
 AreOrdered-listed folder (Some files) listed order held is =
     ap (λ (names : Option (List (List ℕ))). sorted (clip_files (unwrap_or names []))) held ∙ sym is
 
--- the table of these files is the folder's, if no name stands twice
+-- the table of these files is the folder's, if no two have one name
 Tells-scanned : (folder : List ℕ) (o : Option Files) (order : List Found) (answer : Result (List Entry) ScanFault) → AreOrdered folder o order → first_twice order ≡ None
     → Tells (λ files. table_of folder files order) answer o → Tells (scanned folder) answer o
 unfolding scanned
 Tells-scanned folder None order answer are once tells = tt
 Tells-scanned folder (Some files) order answer are once tells = rw (are, once) tells
 
--- a name that stands twice is the fault of the folder
+-- a name that two files have is the fault of the folder
 pub Tells-twice : (folder : List ℕ) (o : Option Files) (order : List Found) (name : List ℕ) → AreOrdered folder o order → first_twice order ≡ Some name
     → Tells (scanned folder) (Err (TwoNames (chars name))) o
 unfolding scanned
@@ -48,7 +48,7 @@ Answers-scanned folder order (Err (TooLarge total)) before after are once a = (T
 Answers-scanned folder order (Err ReadFault) before after are once a = a
 Answers-scanned folder order (Err OutOfMemory) before after are once a = a
 
--- files in order, of which no name stands twice, have strictly rising names
+-- ordered files of which no two have one name have strictly rising names
 pub IsStrict-listed : (listed : List (List ℕ)) (order : List Found) → order ≡ sorted (clip_files listed) → first_twice order ≡ None → IsStrict order
 IsStrict-listed listed order is once =
     subst IsStrict (sym is) (IsStrict-from (sorted (clip_files listed)) (IsRisingBy-sorted (clip_files listed)) (ap first_twice (sym is) ∙ once))

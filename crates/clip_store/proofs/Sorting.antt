@@ -43,7 +43,7 @@ equal_from_both o Greater h a b = cc
 shifted : (k : ℕ) → suc k + 1 ≡ suc (k + 1)
 shifted k = omega arith
 
--- what a sort gives is rising
+-- a sorted list is rising
 from_sort : {X : Type 0} (R : X → X → Ordering) (o : IsTotalOrder R) (xs : List X) → IsSorted R xs → IsRisingBy R xs
 from_sort R o [] h = tt
 from_sort R o (x ∷ xs) h = (
@@ -156,7 +156,7 @@ one_order (a ∷ xs) (b ∷ ys) ra rb h =
     let rest : xs ≡ ys = one_order xs ys ra.1 rb.1 (λ f. omega (arith, h f, sum_by-cons f a xs, sum_by-cons f b ys, ap f same)) in
     ap₂ (λ (x : Found) (zs : List Found). x ∷ zs) same rest
 
--- files that were sorted are the files in order
+-- a rising permutation of files is the files in order
 pub sorted-unique : (xs ys : List Found) → IsPermutation xs ys → IsRisingBy compared ys → ys ≡ sorted xs
 sorted-unique xs ys moved rising =
     one_order ys (sorted xs) rising (IsRisingBy-sorted xs) (λ f. sum_by-IsPermutation f xs ys moved ∙ sym (sum_by-sorted f xs))

@@ -1,4 +1,4 @@
--- Names that stand twice.
+-- Names that two files have.
 use Rattle.std.proofs.Common.{◌≡◌, ℕ, ◌<◌, Bool, true, false, cond, List, [], ◌∷◌, length, get_or, refl, sym, ap, ◌∙◌, arith}
 use Rattle.std.specs.Prelude.{Option, Some, None}
 use Rattle.std.specs.declared.cmp.Ordering.{Ordering}
@@ -33,7 +33,7 @@ below_then : (x y z : Found) → IsBelowIn x y → IsBelowIn y z → IsBelowIn x
 below_then x y z p q =
     ap is_lt (nat_list_cmp_total.trans x.name y.name z.name (is_less (slice_cmp nat_cmp x.name y.name) p) (is_less (slice_cmp nat_cmp y.name z.name) q))
 
--- files in order, of which no name stands twice, have strictly rising names
+-- ordered files of which no two have one name have strictly rising names
 pub IsStrict-from : (xs : List Found) → IsRisingBy compared xs → first_twice xs ≡ None → IsStrict xs
 IsStrict-from [] rises once = tt
 IsStrict-from (x ∷ []) rises once = (All-nil (λ later. is_lt (slice_cmp nat_cmp x.name later.name) ≡ true), tt)
@@ -43,7 +43,7 @@ IsStrict-from (x ∷ y ∷ ys) rises once =
     let first : IsBelowIn x y = first_below (slice_cmp nat_cmp x.name y.name) (slice_cmp nat_cmp x.file y.file) (rises.0 0 y (omega arith)) (sym (texts_ties x.name y.name) ∙ parts.0) in
     (All-cons (λ later. is_lt (slice_cmp nat_cmp x.name later.name) ≡ true) y ys first (λ i d lt. below_then x y (get_or ys i d) first (rest.0 i d lt)), rest)
 
--- fewer than two names have none twice
+-- of fewer than two files no two have one name
 pub first_twice-short : (xs : List Found) → length xs < 2 → first_twice xs ≡ None
 first_twice-short [] short = refl
 first_twice-short (x ∷ []) short = refl

@@ -6,12 +6,12 @@ use Rattle.std.specs.Ordering.{nat_cmp, is_gt, ordering_then}
 use Rattle.std.specs.Cmp.Lexicographic.{slice_cmp}
 use Rattle.std.specs.Str.{str_to_ascii_uppercase}
 
--- a clip file: the name of its clip, and its own
+-- a clip file: the name of its clip, and the name of the file
 pub record Found : Type 0 where
   pub name : List ℕ
   pub file : List ℕ
 
--- a file whose name ends in .rclp, in any ASCII case: its clip's name is what stands before, in ASCII upper case
+-- the clip file of a file whose name ends in .rclp, in any ASCII case: its clip's name is what comes before that, in ASCII upper case
 abbrev pub clip_file : List ℕ → Option Found
 clip_file file =
     let name = str_to_ascii_uppercase file in
@@ -21,11 +21,11 @@ clip_file file =
 abbrev pub clip_files : List (List ℕ) → List Found
 clip_files files = filter_map clip_file files
 
--- how two clip files stand to one another: by the bytes of their clips' names, and then of their own
+-- the order of two clip files: by the bytes of their clips' names, and then of their own
 abbrev pub compared : Found → Found → Ordering
 compared x y = ordering_then (slice_cmp nat_cmp x.name y.name) (slice_cmp nat_cmp x.file y.file)
 
--- the files in order, with one more at its place
+-- ordered files with one more inserted in order
 abbrev pub placed : Found → List Found → List Found
 placed x [] = x ∷ []
 placed x (y ∷ ys) = if is_gt (compared x y) then y ∷ placed x ys else x ∷ y ∷ ys
@@ -35,7 +35,7 @@ abbrev pub sorted : List Found → List Found
 sorted [] = []
 sorted (x ∷ xs) = placed x (sorted xs)
 
--- of files in order, the first name that stands twice, which is the least
+-- the first name that two of the ordered files have, which is the least such name
 abbrev pub first_twice : List Found → Option (List ℕ)
 first_twice [] = None
 first_twice (x ∷ []) = None

@@ -18,7 +18,7 @@ use Rattle.clip_store.specs.Listing.{Found, clip_files, sorted, first_twice}
 abbrev pub bytes_of : List ℕ → Files → Found → List ℕ
 bytes_of folder files found = unwrap_or (bytes_at folder found.file files) []
 
--- what the table keeps: the clip of version 1 with its pixels prepared, or the fault
+-- the clip in the table, of version 1 with its pixels prepared, or the fault of the file
 abbrev pub kept_clip : Result ClipView ClipFault → Result ClipView ClipFault
 kept_clip (Ok clip) = Ok (prepared_clip clip)
 kept_clip (Err fault) = Err fault
@@ -28,17 +28,17 @@ abbrev pub entry : List ℕ → Files → Found → Entry
 entry folder files found =
     record { name = chars found.name; clip = kept_clip (clip_of (bytes_of folder files found)) }
 
--- the bytes for which a file counts: an empty one for one
+-- how many bytes a file counts as: its length, or 1 if it is empty
 abbrev pub weight : List ℕ → Files → Found → ℕ
 weight folder files found = max (length (bytes_of folder files found)) 1
 
--- the first sum above the limit, of a sum so far and the numbers that follow
+-- the first sum above the limit, if the numbers are added to a sum so far one after the other
 abbrev pub first_above : ℕ → List ℕ → Option ℕ
 first_above sum [] = None
 first_above sum (number ∷ numbers) =
     if nat_lt MAX_MEDIA_BYTES (sum + number) then Some (sum + number) else first_above (sum + number) numbers
 
--- the entries of clip files, unless they are too large
+-- the entries of clip files, or a fault if the files are too large
 abbrev pub unless_large : Option ℕ → List Entry → Result (List Entry) ScanFault
 unless_large (Some total) entries = Err (TooLarge total)
 unless_large None entries = Ok entries
@@ -48,7 +48,7 @@ unfoldable pub table_of : List ℕ → Files → List Found → Result (List Ent
 table_of folder files order =
     unless_large (first_above 0 (map (weight folder files) order)) (map (entry folder files) order)
 
--- the table of clip files in this order, unless a name stands twice
+-- the table, or a fault if two clip files have one name
 abbrev pub unless_twice : Option (List ℕ) → Result (List Entry) ScanFault → Result (List Entry) ScanFault
 unless_twice (Some name) table = Err (TwoNames (chars name))
 unless_twice None table = table
@@ -63,12 +63,13 @@ unfoldable pub scanned : List ℕ → Files → Result (List Entry) ScanFault
 scanned folder files =
     unless_twice (first_twice (ordered folder files)) (table_of folder files (ordered folder files))
 
--- the result is what is so of the files, if the folder tells them
+-- the result is the one of the folder's files, if these are known
 abbrev pub Tells : (Files → Result (List Entry) ScanFault) → Result (List Entry) ScanFault → Option Files → Type 0
 Tells told answer None = Unit {0}
 Tells told answer (Some files) = answer ≡ told files
 
--- the result is that of the files, and nothing changed; or reading failed, and the count of faults rose; or memory ran out
+-- the result is the one of the folder's files, and nothing changed; or a read failed, and the count of faults rose; or memory ran out, and
+-- nothing changed
 abbrev pub Answers : (Files → Result (List Entry) ScanFault) → Result (List Entry) ScanFault → FolderState → FolderState → Type 0
 Answers told (Ok table) before after = Tells told (Ok table) before.files × (after ≡ before)
 Answers told (Err (TwoNames name)) before after = Tells told (Err (TwoNames name)) before.files × (after ≡ before)

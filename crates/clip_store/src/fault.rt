@@ -1,4 +1,4 @@
-//! Why a folder was not read.
+//! Why no media table was read from a folder.
 ghost use Rattle.std.specs.Prelude.{◌≡◌};
 ghost use Rattle.clip_store.specs.declared.fault.ScanFault.TheVariants.{OutOfMemory};
 ghost use Rattle.clip_store.specs.Faults.{fault_of};
@@ -10,12 +10,12 @@ use std::alloc::AllocError;
 use std::error::Error;
 use std::fmt;
 
-/// Why a folder gave no media table.
+/// Why a folder did not become a media table.
 #[derive(Debug, Drop)]
 pub enum ScanFault {
     /// The folder or a file of it could not be read.
     ReadFault,
-    /// Two clip files have this name, and no lesser name stands twice.
+    /// Two clip files have this name, and no two have a lesser one.
     TwoNames { name: Text },
     /// The clip files are too large: this is the first sum of their lengths, in bytes and in order of their names, that
     /// is above 1,073,741,824. An empty file counts as one byte.

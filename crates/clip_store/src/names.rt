@@ -5,10 +5,10 @@ ghost use Rattle.clip_store.specs.inner.Kept.{file_view, file_views};
 
 use std::alloc::{AllocError, Global};
 
-/// How the name of a clip file ends, in upper case.
+/// The end of the name of a clip file, in upper case.
 const ENDING: &[u8] = b".RCLP";
 
-/// A clip file under the name of its clip. They are in order of the clips' names, and then of the files'.
+/// A clip file with the name of its clip. Clip files are ordered by the clips' names, and then by the files'.
 #[derive(Debug, Drop, PartialEq, Eq, PartialOrd, Ord)]
 pub(crate) struct ClipFile {
     pub(crate) name: String,
@@ -24,7 +24,7 @@ pub(crate) fn clip_files(alloc: Global, listed: &[String]) -> Result<Vec<ClipFil
     Ok(files)
 }
 
-/// Returns the clip files among the listed files, as they are listed.
+/// Returns the clip files among the listed files, in the order of the list.
 fn named(alloc: Global, listed: &[String]) -> Result<Vec<ClipFile>, AllocError>
     ensures { IfOk result (λ files. file_views files.items ≡ clip_files (map string_bytes listed.now)) }
 {
@@ -37,7 +37,7 @@ fn named(alloc: Global, listed: &[String]) -> Result<Vec<ClipFile>, AllocError>
     Ok(files)
 }
 
-/// Returns the file under the name of its clip, if it is a clip file.
+/// Returns the file with the name of its clip, if it is a clip file.
 fn clip_file(alloc: Global, file: &str) -> Result<Option<ClipFile>, AllocError>
     ensures { IfOk result (λ found. option_map file_view found ≡ clip_file file.now) }
 {
@@ -51,7 +51,7 @@ fn clip_file(alloc: Global, file: &str) -> Result<Option<ClipFile>, AllocError>
     Ok(Some(ClipFile { name, file }))
 }
 
-/// Returns the first name that stands twice.
+/// Returns the first name that two of the ordered files have, if there is one.
 pub(crate) fn twice(files: &[ClipFile]) -> Option<&str>
     ensures { option_map (λ name. name.now) result ≡ first_twice (file_views files.now) }
 {

@@ -8,7 +8,7 @@ use play_types::{ByteList, Clip, MULTIPLIED, STRAIGHT};
 use rayon::prelude::*;
 use std::thread::Threads;
 
-/// Returns the clip of version 1 with each pixel prepared, in several threads. It takes no memory.
+/// Returns the clip in version 1 with each pixel prepared, in several threads.
 pub(crate) fn prepared<R: Threads + Sync>(rt: &R, clip: Clip) -> Clip
     ensures { result ≡ prepared_clip clip }
 {
@@ -22,7 +22,7 @@ pub(crate) fn prepared<R: Threads + Sync>(rt: &R, clip: Clip) -> Clip
     Clip::new(MULTIPLIED, size, frames, ByteList::new(bytes)).unwrap()
 }
 
-/// Prepares the picture of each frame, the first `picture` bytes of it.
+/// Prepares the picture of each frame, which is its first `picture` bytes.
 fn prepare_frames<R: Threads + Sync>(
     rt: &R,
     version: u16,

@@ -18,7 +18,7 @@ use std::thread::Threads;
 /// The greatest sum of the lengths of clip files, in bytes. An empty file counts as one byte.
 pub const MAX_MEDIA_BYTES: u64 = 1_073_741_824;
 
-/// Reads clip files in their order, in which their names rise.
+/// Reads clip files in their order, which is the rising order of their names.
 pub(crate) fn read_all<R: Threads + Sync, M: MediaDir>(
     rt: &R,
     alloc: Global,
@@ -43,7 +43,7 @@ pub(crate) fn read_all<R: Threads + Sync, M: MediaDir>(
     Ok(table)
 }
 
-/// Returns the clip of a file with its pixels prepared, or why the file is none.
+/// Returns the clip of a file with its pixels prepared, or why the file is no clip.
 fn ready_clip<R: Threads + Sync>(rt: &R, bytes: Vec<u8>) -> Result<Clip, ClipFault>
     ensures value { result ≡ kept_clip (clip_of bytes.items) }
     ensures ready { IsReady result }

@@ -13,8 +13,8 @@ use std::thread::Threads;
 /// Reads the clip files of a folder into a table, in rising order of their clips' names.
 ///
 /// First the names of the files are read, and `TwoNames` is returned if two clips have one name. Then the files are
-/// read, and `TooLarge` is returned if their lengths so far come to more than 1,073,741,824 bytes. A file that is no
-/// clip is kept with its fault. `ReadFault` comes only if the folder's count of faults rose in this call.
+/// read, and `TooLarge` is returned once the sum of their lengths is above 1,073,741,824 bytes. A file that is no clip
+/// is in the table with its fault. `ReadFault` comes only if the folder's count of faults rose in this call.
 pub fn scan<R: Threads + Sync, M: MediaDir>(
     rt: &R,
     alloc: Global,

@@ -25,7 +25,7 @@ pub record HasParts (word prefix rest : List ℕ) : Type 0 where
   pub before : before_first is_dash (chars word) ≡ chars prefix
   pub after : after_first is_dash (chars word) ≡ chars rest
 
--- what splitting a word once at a dash says of its characters
+-- the characters of the parts of a word that is split once at a dash
 pub split_word : (word : List ℕ) (parts : Option (Bor (List ℕ) × Bor (List ℕ))) → IsUtf8 word → IsSplitOnceResult 45 word parts
     → MatchOption parts (IsWhole word) (λ p. HasParts word p.0.now p.1.now)
 split_word word None utf8 h =

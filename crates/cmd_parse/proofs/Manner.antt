@@ -94,7 +94,7 @@ by_first None one two = direction_then one (option_and_then curve_of two)
 abbrev manner_of : Option (List ℕ) → Option (List ℕ) → Manner
 manner_of one two = by_first (option_and_then curve_of one) one two
 
--- whether fixed words stand there may be asked of each word that there is
+-- a test for fixed words at a position is a test of the word there, if there is one
 leftward_word : (word : Option (List ℕ)) →
     (option_map_or (is_word (codes "LEFT")) word false || option_map_or (is_word (codes "FROMRIGHT")) word false) ≡ is_one is_leftward word
 leftward_word None = refl
@@ -123,12 +123,12 @@ manner_at-words : (line : Line) (at : ℕ) → manner_at line at ≡ manner_of (
 unfolding manner_at
 manner_at-words line at = by_first-words line at (curve_at line at)
 
--- the curve and the direction that these words say
+-- the curve and the direction that these words name
 abbrev pub said_by : List (List ℕ) → ℕ → Manner
 said_by rest len =
     record { words = len; curve = curve_among (take len rest); leftward = list_any is_leftward (take len rest) }
 
--- what two words say, by the curves that they are and by whether they are directions, and to the left
+-- what two words name, by the curves that they are and by whether they are directions, and to the left
 abbrev len_of_two : Option Curve → Option Curve → Bool → Bool → ℕ
 len_of_two first second direction_one direction_two =
     if is_some first then (if direction_two then 2 else 1)
@@ -181,7 +181,7 @@ said_by_words one two rest (suc zero) few = refl
 said_by_words one two rest (suc (suc zero)) few = refl
 said_by_words one two rest (suc (suc (suc len))) few = absurd (omega (arith, few))
 
--- what one word says
+-- what one word names
 one_word : (first : Option Curve) (direction left : Bool) → IsNotLeft first left
     → manner_of_two first None direction false left false
     ≡ said_by_two first None left false (if is_some first || direction then 1 else 0)
@@ -194,7 +194,7 @@ said_by_word : (one : List ℕ) (some : Bool)
 said_by_word one true = refl
 said_by_word one false = refl
 
--- what the definition says of one word, and of two
+-- the definition for one word, and for two
 manner_of_one : (one : List ℕ) (first : Option Curve)
     → by_first first (Some one) None ≡ manner_of_two first None (is_direction one) false (is_leftward one) false
 manner_of_one one (Some curve) = refl

@@ -1,4 +1,4 @@
--- Options that are read one after another say what the options of the line say.
+-- Options that are read one after another are the options of the line.
 use Rattle.std.proofs.Common.{◌≡◌, ℕ, ◌+◌, zero, suc, Bool, true, false, cond, ◌&&◌, not, List, [], ◌∷◌, ◌++◌, take, drop, length, get_or, drop-cons, ◌<◌, ◌≤◌, refl, sym, ap, ◌∙◌, add-one, add-zero, inl, inr, arith}
 use Rattle.std.specs.Prelude.{Option, Some, None, Result, Ok, Err, is_some, is_none, option_map, option_and_then, unwrap_or, ok_or, slice_get, codes, ◌==◌, if◌then◌else◌}
 use Rattle.std.specs.Option.{option_map_or, option_or}
@@ -71,7 +71,7 @@ given_new : (option : OptionName) (before : List Written) (written : Written) �
 given_new option before written h is =
     find-append (is_option option) before (written ∷ []) ∙ rw is (or_new (given option before) written h)
 
--- an option that is written has the name that its first word says
+-- an option that is written has the name that its first word gives
 is_option_of : (option : OptionName) (written : Written) (found : OptionName) → option_of written.word ≡ Some found → is_option option written ≡ is_same_option option found
 is_option_of option written found h = ap (λ o. option_map_or (is_same_option option) o false) h
 

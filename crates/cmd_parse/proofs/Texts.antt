@@ -39,7 +39,7 @@ list_any-encodes sought low (c ∷ cs) = elim (cases_lt c 128) [
       rw (list_any-append (is_char sought) (encode_utf8 c) (encode_utf8_all cs), other_bytes sought c low high, list_any-encodes sought low cs, not_high sought c low high) refl
 ]
 
--- what stands before the first ASCII character that is looked for, and after it, by the bytes
+-- the parts before and after the first ASCII character that is looked for, by the bytes
 record Halves (sought : ℕ) (cs : List ℕ) : Type 0 where
   before : before_first (is_char sought) (encode_utf8_all cs) ≡ encode_utf8_all (before_first (is_char sought) cs)
   after : after_first (is_char sought) (encode_utf8_all cs) ≡ encode_utf8_all (after_first (is_char sought) cs)

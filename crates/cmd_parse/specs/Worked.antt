@@ -33,7 +33,7 @@ media =
     record { name = codes "BAD"; readable = false; width = 0; height = 0; frames = 0; pairs = 0 }
     ∷ record { name = codes "THREE"; readable = true; width = 1; height = 1; frames = 3; pairs = 0 } ∷ []
 
--- what a line asks for whose words have one space between them
+-- the result of a line whose words are separated by single spaces
 abbrev pub asks : String → Result Parsed Refusal
 asks text = parsed two media (slice_split (λ c. c == 32) (codes text))
 
@@ -56,7 +56,7 @@ leftward kind duration = record { kind = kind; duration = duration; curve = Line
 abbrev pub curved : Curve → TransView → TransView
 curved curve trans = record trans { curve = curve }
 
--- a producer that is no clip
+-- a take whose producer is not a clip
 abbrev pub plain : Spec → TransView → Bool → TakeView
 plain spec trans auto = record { spec = spec; looped = false; seek = 0; length = 0; trans = trans; auto = auto }
 

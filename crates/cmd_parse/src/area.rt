@@ -1,4 +1,4 @@
-//! Places as they are written.
+//! Reading a channel, or a layer of it, as in `1` or `1-20`.
 ghost use Rattle.std.specs.Prelude.{◌≡◌, ◌≤◌, length, IfOk, ok_or, is_some};
 ghost use Rattle.std.specs.Str.{chars};
 ghost use Rattle.amcp_text.specs.Numbers.{number_within};
@@ -57,8 +57,8 @@ impl Area {
 impl Line<'_> {
     /// Returns the area that the word at a position names: `c`, or `c-l`, split at its first dash.
     ///
-    /// A channel that is not configured is refused as `Channel`, and after it a layer that is no whole number up to
-    /// `MAX_LAYER` as `Illegal`.
+    /// A line that ends before it is refused as `Missing`, then a channel that is not configured as `Channel`, and then a
+    /// layer that is no whole number up to `MAX_LAYER` as `Illegal`.
     pub fn area(&self, at: usize) -> Result<Area, Refusal>
         ensures { result ≡ area_at self.now at }
     {
@@ -66,8 +66,8 @@ impl Line<'_> {
         self.area_of(at, word)
     }
 
-    /// Returns the area that a text names, which is the word at a position or the end of it. Its refusals are those of
-    /// `area`.
+    /// Returns the area that `word` names, which is the word at position `at` or the end of it. Its refusals are those of
+    /// `area`, except `Missing`.
     pub fn area_of(&self, at: usize, word: &str) -> Result<Area, Refusal>
         ensures { result ≡ area_of self.now at (chars word.now) }
     {

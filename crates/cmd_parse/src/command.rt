@@ -10,11 +10,11 @@ use crate::recording::{add_file, remove_file};
 use amcp_text::WordList;
 use play_types::{Cmd, Config, MediaNames, Name, Parsed, Place, Refusal};
 
-/// Returns what the words of a line ask for, with these channels and these clips. It takes no memory.
+/// Returns what the words of a line ask for, with the channels of `config` and the clips of `media`.
 ///
-/// Refused are, in this order: a name that is none, as REQ is; a line with fewer words than its command needs; a place, from the
-/// left; the other words, from the left, except the producer; and the producer. The position in `Illegal` counts the
-/// words from 0, where the name stands.
+/// Refused are, in this order: an unknown name, or REQ, as `Unknown`; a line with fewer words than its command needs, as
+/// `Missing`; the places, from the left; the other words, from the left, except the producer; and the producer. The
+/// position in `Illegal` counts the words from 0, which is the name.
 #[tactic(auto, unfolding(history_model::specs::commands::Command::parsed))]
 pub fn parse(words: &WordList, config: &Config, media: &MediaNames) -> Result<Parsed, Refusal>
     requires { 0 < length words.now }
@@ -82,7 +82,7 @@ fn meaning(line: &Line<'_>) -> Result<Parsed, Refusal>
     }
 }
 
-/// Returns what is asked for by a name that stands alone. A word after it is refused.
+/// Returns `asked` if the line is its name alone. A word after the name is refused as `Illegal`.
 fn only_name(line: &Line<'_>, asked: Parsed) -> Result<Parsed, Refusal>
     ensures { result ≡ ended line.now 1 asked }
 {
@@ -98,7 +98,7 @@ fn version(line: &Line<'_>) -> Result<Parsed, Refusal>
     Ok(Parsed::Version)
 }
 
-/// Returns the place that stands alone after a name. A word after it is refused.
+/// Returns the place at position 1. A word after it is refused as `Illegal`.
 fn only_place(line: &Line<'_>) -> Result<Place, Refusal>
     ensures { result ≡ only_place line.now }
 {

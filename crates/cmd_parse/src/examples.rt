@@ -14,7 +14,7 @@ ghost use Rattle.play_types.specs.declared.parsed.Refusal.TheVariants.{Unknown, 
 ghost use Rattle.play_types.specs.declared.reply.Name.TheVariants as name;
 ghost use Rattle.cmd_parse.specs.Worked.{asks, at, curved, does, leftward, plain, rightward, set, set_along, three};
 
-/// Names and fixed words may be written in any case. A word that is no name is none.
+/// Names of commands may be written in any case. A first word that is no such name is refused.
 pub fn names()
     ensures capitals { asks "PAUSE 1-7" ≡ does (cmd.Pause (at 1 7)) }
     ensures small { asks "pAuse 1-7" ≡ does (cmd.Pause (at 1 7)) }
@@ -42,7 +42,7 @@ pub fn order()
     ensures mixed_before_words { asks "SWAP 1-0 1 x" ≡ Err (Illegal name.Swap 2) }
 {}
 
-/// A place is a channel with a layer of it or without.
+/// A place is a channel, with or without a layer of it.
 pub fn places()
     ensures no_layer { asks "STOP 2" ≡ does (cmd.StopLayer (at 2 0)) }
     ensures zeros { asks "STOP 02-0009999" ≡ does (cmd.StopLayer (at 2 9999)) }
@@ -92,8 +92,8 @@ pub fn options()
     ensures unknown { asks "LOADBG 1-0 RED LINEAR" ≡ Err (Illegal name.LoadBg 3) }
 {}
 
-/// Curves, in any case of their letters and before or after a direction. A cut and a keyer have none, and a word that is no curve
-/// is refused.
+/// Curves, in any case of their letters and before or after a direction. A cut drops its curve, and a curve of a keyer or an
+/// unknown curve is refused.
 pub fn curves()
     ensures first { asks "PLAY 1 RED MIX 2 EASEOUTQUAD LEFT"
         ≡ does (cmd.PlayTake (at 1 0) (plain (Colour 0xFFFF0000) (curved EaseOutQuad (leftward Mix 2)) false)) }
@@ -112,7 +112,7 @@ pub fn curves()
     ensures keyer { asks "MIXER 1-0 KEYER 1 EASEINQUAD" ≡ Err (Illegal name.Mixer 4) }
 {}
 
-/// Texts without a curve, as they were printed before there were others, ask for the linear one.
+/// Lines without a curve ask for the linear one.
 pub fn without_a_curve()
     ensures transition { asks "PLAY 1-0 #FFFF0000 MIX 12 RIGHT"
         ≡ does (cmd.PlayTake (at 1 0) (plain (Colour 0xFFFF0000) (rightward Mix 12) false)) }
@@ -193,8 +193,8 @@ pub fn sessions()
     ensures version_surplus { asks "VERSION SERVER x" ≡ Err (Illegal name.Version 2) }
 {}
 
-/// The marks of recordings. A name is in capitals, and no clip has it, whether it can be read or not. The channel comes before
-/// FILE, and FILE before the name.
+/// ADD and REMOVE. The name of a recording is put in capitals, and is refused if a clip has it, even an unreadable one. The
+/// channel is checked before FILE, and FILE before the name.
 pub fn recordings()
     ensures add { asks "ADD 1 FILE take_1" ≡ does (cmd.AddFile 1 (codes "TAKE_1")) }
     ensures remove { asks "remove 02 file" ≡ does (cmd.RemoveFile 2) }

@@ -1,4 +1,4 @@
-//! A client's line whose command is known, and what stands at its positions.
+//! A client's line whose command is known, read word by word.
 ghost use Rattle.std.specs.Prelude.{◌≡◌, ◌+◌, ◌^◌, ◌<◌, ◌≤◌, length, IfOk, OnOk, OnSome, IsTrue, MatchResult, Ok, Err};
 ghost use Rattle.std.specs.Str.{chars};
 ghost use Rattle.play_types.specs.Words.{are_capitals};
@@ -10,7 +10,7 @@ use std::marker::Model;
 
 /// A client's line whose command is known, and the channels and the clips that its words can name.
 ///
-/// Positions count the words from 0, where the command's name stands.
+/// Positions count the words from 0, which is the command's name.
 #[derive(Drop)]
 pub struct Line<'a> {
     pub name: Name,
@@ -28,7 +28,7 @@ impl<'a> Model for Line<'a> {
 }
 
 impl<'a> Line<'a> {
-    /// Returns the number of words of the line, the name with them.
+    /// Returns the number of words of the line, including the name.
     pub fn len(&self) -> usize
         ensures { result ≡ length self.now.words }
     {
@@ -63,7 +63,7 @@ impl<'a> Line<'a> {
         word_within(least, most, word).ok_or(self.illegal(at))
     }
 
-    /// Returns whether the fixed word, which is given in capitals, stands at a position.
+    /// Returns whether the word at a position is `fixed`, in any case of its ASCII letters. `fixed` is in capitals.
     pub fn stands(&self, at: usize, fixed: &str) -> bool
         requires { IsTrue (are_capitals fixed.now) }
         ensures { result ≡ stands_at self.now at fixed.now }
@@ -74,7 +74,7 @@ impl<'a> Line<'a> {
         }
     }
 
-    /// Returns the curve that stands at a position, if one does.
+    /// Returns the curve that the word at a position names, if any.
     pub fn curve(&self, at: usize) -> Option<Curve>
         ensures value { result ≡ curve_at self.now at }
         ensures within { OnSome result (at < length self.now.words) }
@@ -82,7 +82,7 @@ impl<'a> Line<'a> {
         Curve::read(self.words.get(at)?)
     }
 
-    /// Returns nothing if the line ends before a position. A word there is refused as `Illegal`.
+    /// Checks that the line ends before a position. A word there is refused as `Illegal`.
     pub fn end(&self, at: usize) -> Result<(), Refusal>
         ensures { result ≡ ended self.now at tt }
     {
@@ -92,8 +92,8 @@ impl<'a> Line<'a> {
         Ok(())
     }
 
-    /// Returns whether the fixed word, which is given in capitals, stands at a position. Another word there, or a word after
-    /// it, is refused as `Illegal`.
+    /// Returns whether the last word of the line is `fixed`, which is in capitals, at this position. Another word there, or a
+    /// word after it, is refused as `Illegal`.
     pub fn flag(&self, at: usize, fixed: &str) -> Result<bool, Refusal>
         requires capitals { IsTrue (are_capitals fixed.now) }
         requires fits { at + 1 < 2 ^ 64 }

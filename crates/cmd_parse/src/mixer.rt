@@ -14,7 +14,7 @@ use play_types::{
 };
 use std::marker::Model;
 
-/// Reads a MIXER: its area stands at position 1, and at position 2 a property, COMMIT or CLEAR.
+/// Reads a MIXER: an area at position 1, and a property, COMMIT or CLEAR at position 2.
 #[tactic(auto, unfolding(history_model::specs::commands::Mixer::mixer))]
 pub fn mixer(line: &Line<'_>) -> Result<Cmd, Refusal>
     ensures { result ≡ mixer line.now }
@@ -73,8 +73,8 @@ fn property_command(line: &Line<'_>, place: Place, property: Prop) -> Result<Cmd
     Ok(Cmd::Set(setting.unwrap()))
 }
 
-/// Returns the four numbers of a property in millionths, which stand from position 3 on. A property of one number has 0
-/// for the other three.
+/// Returns the four numbers of a property in millionths, read from position 3 on. A property of one number has 0 for the
+/// other three.
 #[tactic(auto, unfolding(history_model::specs::commands::Mixer::numbers_of))]
 fn numbers_of(line: &Line<'_>, property: Prop) -> Result<[i64; 4], Refusal>
     ensures value { result ≡ numbers_of line.now property }
@@ -163,7 +163,7 @@ impl Model for Timing {
     ghost inverse = { λ v. record { duration = v.duration; curve = v.curve; deferred = v.deferred } };
 }
 
-/// Returns the timing that stands after the numbers of a property. A keyer has no duration.
+/// Reads the timing after the numbers of a property. A keyer has no duration and no curve.
 fn timing_of(line: &Line<'_>, property: Prop) -> Result<Timing, Refusal>
     ensures { result ≡ timing_of line.now property }
 {
@@ -174,8 +174,8 @@ fn timing_of(line: &Line<'_>, property: Prop) -> Result<Timing, Refusal>
     }
 }
 
-/// Returns the timing that stands from a position to the end of the line: a duration or none, a curve after it or none,
-/// and DEFER or not.
+/// Reads the timing from a position to the end of the line: a duration, which a curve may follow, or neither, and then
+/// DEFER or nothing.
 #[tactic(auto, unfolding(history_model::specs::commands::Mixer::timing_at))]
 fn timing_at(line: &Line<'_>, at: usize) -> Result<Timing, Refusal>
     requires { at < 100 }
@@ -191,7 +191,8 @@ fn timing_at(line: &Line<'_>, at: usize) -> Result<Timing, Refusal>
     }
 }
 
-/// Returns the timing of this duration and this curve, if DEFER or nothing stands from a position to the end of the line.
+/// Returns the timing of this duration and this curve: deferred if the rest of the line, from a position on, is DEFER, and
+/// not if it is empty. Anything else is refused as `Illegal`.
 fn deferral_at(line: &Line<'_>, at: usize, duration: u32, curve: Curve) -> Result<Timing, Refusal>
     requires short { duration ≤ MAX_DURATION }
     requires early { at < 200 }

@@ -72,10 +72,10 @@ impl Options {
 }
 
 impl Line<'_> {
-    /// Returns what the options say that stand in the line from a position on, in any order, each at most once.
+    /// Reads the options of the line from a position on, in any order, each at most once.
     ///
-    /// Refused is the first word, from the left, that begins no option, repeats one, or is a wrong number, or else the
-    /// end of the line if a number has to follow.
+    /// Refused is, as `Illegal`, the first word from the left that begins no option, repeats one, or is not the number that
+    /// has to follow; or else, as `Missing`, the end of the line if a number has to follow.
     pub fn options(&self, at: usize) -> Result<Options, Refusal>
         ensures { result ≡ options_at self.now at }
     {
@@ -110,7 +110,7 @@ impl Given {
         Ok(options)
     }
 
-    /// Returns what the options say.
+    /// Returns the options, with a cut if no transition was given, and frame 0 if no SEEK was given.
     fn options(self) -> Options
         requires { IfSome self.length (λ frames. 1 ≤ frames) }
         ensures { result ≡ view self }
@@ -208,7 +208,8 @@ impl Given {
     }
 }
 
-/// Returns the transition of this kind whose words stand from a position on, and the number of these words.
+/// Reads the duration, the curve and the direction of a transition of this kind from a position on. Returns the transition
+/// and the number of these words.
 #[tactic(auto, unfolding(crate::specs::inner::Options::transition_at))]
 fn transition_at(line: &Line<'_>, at: usize, kind: Kind) -> Result<(Trans, usize), Refusal>
     requires inside { at ≤ length line.now.words }
@@ -238,7 +239,7 @@ fn duration_at(line: &Line<'_>, at: usize, kind: Kind) -> Result<(u32, usize), R
     Ok((duration, 1))
 }
 
-/// The curve of a transition, whether it goes leftward, and the number of words that say so.
+/// The curve of a transition, whether it goes leftward, and the number of words that name these.
 #[derive(Clone, Copy)]
 struct Manner {
     words: usize,
@@ -246,7 +247,8 @@ struct Manner {
     leftward: bool,
 }
 
-/// Returns the curve and the direction that stand from a position on, in either order, each at most once.
+/// Reads the curve and the direction from a position on, in either order, each at most once: linear and rightward if not
+/// given.
 #[tactic(auto, unfolding(crate::specs::inner::Options::manner_at))]
 fn manner_at(line: &Line<'_>, at: usize) -> Manner
     requires inside { at ≤ length line.now.words }
@@ -291,21 +293,21 @@ fn manner_at(line: &Line<'_>, at: usize) -> Manner
     }
 }
 
-/// Returns whether a direction to the left stands at a position.
+/// Returns whether the word at a position is a direction to the left.
 fn is_leftward_at(line: &Line<'_>, at: usize) -> bool
     ensures { result ≡ is_leftward_at line.now at }
 {
     line.stands(at, "LEFT") || line.stands(at, "FROMRIGHT")
 }
 
-/// Returns whether a direction stands at a position.
+/// Returns whether the word at a position is a direction.
 fn is_direction_at(line: &Line<'_>, at: usize) -> bool
     ensures { result ≡ is_direction_at line.now at }
 {
     is_leftward_at(line, at) || line.stands(at, "RIGHT") || line.stands(at, "FROMLEFT")
 }
 
-/// Returns whether a whole number of any size stands at a position.
+/// Returns whether the word at a position is a whole number of any size.
 fn is_number_at(line: &Line<'_>, at: usize) -> bool
     ensures { result ≡ is_number_at line.now at }
 {

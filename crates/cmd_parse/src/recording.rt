@@ -1,4 +1,4 @@
-//! ADD and REMOVE, the marks of recordings.
+//! ADD and REMOVE, which begin and end a recording.
 ghost use Rattle.std.specs.Prelude.{◌≡◌};
 ghost use Rattle.std.specs.Str.{chars};
 ghost use Rattle.history_model.specs.commands.Recording.{add_file, channel_at, file_channel, names_clip, rec_name_at, remove_file};
@@ -6,7 +6,7 @@ ghost use Rattle.history_model.specs.commands.Recording.{add_file, channel_at, f
 use crate::line::Line;
 use play_types::{Cmd, RecName, Refusal, is_same_name};
 
-/// Reads an ADD: its channel stands at position 1, FILE at 2, and the name of the recording at 3.
+/// Reads an ADD: a channel at position 1, FILE at 2, and the name of the recording at 3.
 #[tactic(auto, unfolding(history_model::specs::commands::Recording::add_file))]
 pub fn add_file(line: &Line<'_>) -> Result<Cmd, Refusal>
     ensures { result ≡ add_file line.now }
@@ -17,7 +17,7 @@ pub fn add_file(line: &Line<'_>) -> Result<Cmd, Refusal>
     Ok(Cmd::AddFile(channel, name))
 }
 
-/// Reads a REMOVE: its channel stands at position 1, and FILE at 2.
+/// Reads a REMOVE: a channel at position 1, and FILE at 2.
 #[tactic(auto, unfolding(history_model::specs::commands::Recording::remove_file))]
 pub fn remove_file(line: &Line<'_>) -> Result<Cmd, Refusal>
     ensures { result ≡ remove_file line.now }
@@ -27,7 +27,7 @@ pub fn remove_file(line: &Line<'_>) -> Result<Cmd, Refusal>
     Ok(Cmd::RemoveFile(channel))
 }
 
-/// Returns the channel at position 1, if FILE stands behind it. Another word there is refused as `Illegal`.
+/// Returns the channel at position 1. A word other than FILE at position 2 is refused as `Illegal`.
 fn file_channel(line: &Line<'_>) -> Result<u8, Refusal>
     ensures { result ≡ file_channel line.now }
 {

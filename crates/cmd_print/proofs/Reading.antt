@@ -104,7 +104,7 @@ module _ (line : Line) (few : length line.config.channels ≤ 16) where
       let some : list_any is_dash (channel ++ 45 ∷ layer) ≡ true = list_any-append is_dash channel (45 ∷ layer) ∙ rw none refl in
       rw (before_first_at is_dash channel 45 layer none refl, channel_read place.channel known.channel, some, after_first_at is_dash channel 45 layer none refl, number_within-decimal 0 MAX_LAYER place.layer (omega arith) known.layer (omega (arith, known.layer))) refl
 
--- the words of a transition, and what they say
+-- the words of a transition, and the values that they name
 record IsTimed (k d c r : List ℕ) (trans : TransView) : Type 0 where
   option : option_of k ≡ Some Transition
   cuts : is_word (codes "CUT") k ≡ false
@@ -217,7 +217,7 @@ route_read : (rest : List ℕ) → is_route_word (codes "route://" ++ rest) ≡ 
 unfolding is_word
 route_read rest = refl
 
--- the options that words say
+-- the options that are read from words
 record Say (command : Name) (words : List (List ℕ)) (options : Options) : Type 0 where
   legal : options_refusal command [] (options_from 3 words) ≡ None
   said : options_of (options_from 3 words) ≡ options

@@ -139,7 +139,7 @@ options_known line at options h =
       len = length_known line.name all (given Length all) parts.0 refl;
     })
 
--- a clip of the media table has at most so many frames
+-- a clip of the media table has at most MAX_FRAMES frames
 kept_below : (readable : Bool) (clip : MediaNameView) → AreKept readable clip → clip.frames ≤ MAX_FRAMES
 kept_below true clip kept = kept.few_frames
 kept_below false clip kept = omega (arith, kept.frames)

@@ -43,7 +43,7 @@ abbrev pub is_some_text : List ℕ → Bool
 is_some_text [] = false
 is_some_text (c ∷ cs) = true
 
--- a word that can be printed: one that stands as it is has plain characters, at least one
+-- a word that can be printed: one without quotation marks has plain characters, at least one
 abbrev pub is_fit : Word → Bool
 is_fit (Plain word) = is_some_text word && list_all is_plain word
 is_fit (Quoted name) = true

@@ -68,7 +68,7 @@ history_of_ticks media times =
     let e : 0 + times ≡ times = omega arith in
     text_of_ticks media 0 times ∙ ap tick_lines e
 
--- an event that is no tick stands alone
+-- an event that is no tick has lines of its own
 pub history_of_command : (media : List MediaNameView) (tag : Tag) (cmd : Cmd) → history_text media (Do tag cmd ∷ []) ≡ command_line media tag cmd
 unfolding history_text tick_lines
 history_of_command media tag cmd = append-nil (command_line media tag cmd)

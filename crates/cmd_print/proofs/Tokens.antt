@@ -31,7 +31,7 @@ plain_part c (d ∷ ds) h = rw h refl
 abbrev name_part : ℕ → Part
 name_part c = cond (c == 34) (Escape 34) (cond (c == 92) (Escape 92) (cond (c == 10) (Escape 10) (part.Plain c)))
 
--- what holds of the three escapes, and of another character as it stands, holds of each character and the part that it makes
+-- what holds of the three escapes, and of any other character as itself, holds of each character and the part that it makes
 each_character : (P : List ℕ → Part → Type 0) (c : ℕ)
     → (c ≡ 34 → P (codes "\\\"") (Escape 34)) → (c ≡ 92 → P (codes "\\\\") (Escape 92)) → (c ≡ 10 → P (codes "\\n") (Escape 10))
     → ((c == 34) ≡ false → (c == 92) ≡ false → P (c ∷ []) (part.Plain c)) → P (escaped c) (name_part c)
@@ -186,7 +186,7 @@ are_read (word ∷ words) h =
       roles = ap (λ roles. Gap ∷ roles) (roles_of_word word (spaced_parts words) fit.0 ∙ ap (λ roles. word_roles word ++ roles) rest.roles);
     }
 
--- the characters of a word stand in no gap
+-- the characters of a word are in no gap
 letters_join : (cs : List ℕ) (rest : List Role) → list_any is_gap (map Letter cs ++ rest) ≡ list_any is_gap rest
 letters_join [] rest = refl
 letters_join (c ∷ cs) rest = letters_join cs rest

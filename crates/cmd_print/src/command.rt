@@ -12,11 +12,11 @@ use crate::word::{add_flag, add_number, add_place, add_rec_name, add_word};
 use play_outside::{Gather, Sent, Sink};
 use play_types::{Cmd, MediaNames, Place, RecName, Setting, Take};
 
-/// Writes the text of a command: its name and its words, with one space between them. It takes no memory, and a text of at
-/// most 4,096 bytes is one write.
+/// Writes the text of a command: its name and its words, with one space between them. A text of at most 4,096 bytes is one
+/// write.
 ///
-/// A clip is named as in `media`, and has no name if `media` does not have its number. A line of this text asks for the
-/// command if the configuration and `media` are those by which the command was read. The result is `Failed` only if
+/// A clip is named as in `media`, and its name is empty if `media` has no clip of its number. A line of this text asks for
+/// the command if the configuration and `media` are those by which the command was read. The result is `Failed` only if
 /// `to` failed, and then a prefix of the text was written.
 pub fn print<K: Sink>(cmd: &Cmd, media: &MediaNames, to: &mut K) -> Sent
     ensures { Sends result (encode_utf8_all (command_text media.now cmd.now)) (K.state to.old) (K.state to.new) }
@@ -87,7 +87,7 @@ fn add_place_and_take<const ROOM: usize, K: Sink>(
     add_take(take, media, text, to)
 }
 
-/// Adds the place of a setting and what the setting says.
+/// Adds the place of a setting and the words after it.
 fn add_place_and_setting<const ROOM: usize, K: Sink>(
     setting: Setting,
     text: &mut Gather<ROOM>,
@@ -99,7 +99,7 @@ fn add_place_and_setting<const ROOM: usize, K: Sink>(
     add_setting(setting, text, to)
 }
 
-/// Adds two places, and whether their mixer values are exchanged too.
+/// Adds two places, and TRANSFORMS if their mixer values are exchanged too.
 fn add_layers<const ROOM: usize, K: Sink>(
     one: Place,
     other: Place,
@@ -116,7 +116,7 @@ fn add_layers<const ROOM: usize, K: Sink>(
     add_flag(transforms, "TRANSFORMS", text, to)
 }
 
-/// Adds two channels, and whether their mixer values are exchanged too.
+/// Adds two channels, and TRANSFORMS if their mixer values are exchanged too.
 fn add_channels<const ROOM: usize, K: Sink>(
     one: u8,
     other: u8,

@@ -13,10 +13,10 @@ use crate::text::Text;
 use history_model::MAX_TICKS_PER_LINE;
 use itoa::Buffer;
 use play_outside::{Gather, Sent, Sink};
-use play_types::{Cmd, CmdList, Event, MediaNames, Tag};
+use play_types::{Cmd, Event, MediaNames, Tag};
 
-/// Writes the lines of the text of a history for an event that stands in it `times` times in a row: at least once, and once
-/// if it is no tick. It takes no memory, and lines of at most 4,096 bytes together are one write.
+/// Writes the lines of a script for an event that a history has `times` times in a row: at least once, and only once if it is
+/// no tick. Lines of at most 4,096 bytes together are one write.
 ///
 /// Clips are named as in `media`. The result is `Failed` only if `to` failed, and then a prefix of the lines was written.
 pub fn print_event<K: Sink>(event: &Event, times: u64, media: &MediaNames, to: &mut K) -> Sent
@@ -28,11 +28,10 @@ pub fn print_event<K: Sink>(event: &Event, times: u64, media: &MediaNames, to: &
     text.finish(to)
 }
 
-/// Adds to a text that is gathered the lines that `print_event` writes, so that the lines of many events go out in one
-/// write. It takes no memory.
+/// Adds the lines that `print_event` writes to `text`, so that the lines of many events go out in one write.
 ///
-/// What waits in the text afterwards is for the caller to write. The result is `Failed` only if `to` failed; then a prefix
-/// of what waited and the lines was written, and nothing waits.
+/// What `text` holds afterwards is for the caller to write. The result is `Failed` only if `to` failed; then a prefix of
+/// what `text` held and of the lines was written, and `text` is empty.
 pub fn add_event<const ROOM: usize, K: Sink>(
     event: &Event,
     times: u64,
@@ -45,14 +44,14 @@ pub fn add_event<const ROOM: usize, K: Sink>(
 {
     match event {
         Event::Do(tag, cmd) => add_command_line(*tag, cmd, media, text, to),
-        Event::Batch(tag, cmds) => add_batch(*tag, cmds, media, text, to),
+        Event::Batch(tag, cmds) => add_batch(*tag, cmds.as_slice(), media, text, to),
         Event::Tick => add_ticks(times, text, to),
         Event::Stop(tag) => add_stop(*tag, text, to),
     }
 }
 
-/// Adds the line of a command.
-fn add_command_line<const ROOM: usize, K: Sink>(
+/// Adds the line of a command, as `add_event` does.
+pub fn add_command_line<const ROOM: usize, K: Sink>(
     tag: Tag,
     cmd: &Cmd,
     media: &MediaNames,
@@ -66,10 +65,10 @@ fn add_command_line<const ROOM: usize, K: Sink>(
     text.add(b"\n", to)
 }
 
-/// Adds the lines of commands that happen together.
-fn add_batch<const ROOM: usize, K: Sink>(
+/// Adds the lines of commands that happen together, as `add_event` does.
+pub fn add_batch<const ROOM: usize, K: Sink>(
     tag: Tag,
-    cmds: &CmdList,
+    cmds: &[Cmd],
     media: &MediaNames,
     text: &mut Gather<ROOM>,
     to: &mut K,
@@ -84,21 +83,25 @@ fn add_batch<const ROOM: usize, K: Sink>(
 /// Adds a line for each command.
 fn add_commands<const ROOM: usize, K: Sink>(
     tag: Tag,
-    cmds: &CmdList,
+    cmds: &[Cmd],
     media: &MediaNames,
     text: &mut Gather<ROOM>,
     to: &mut K,
 ) -> Sent
     ensures { Adds result (text.old ++ flat_map (command_line media.now tag) cmds.now) text.new (K.state to.old) (K.state to.new) }
 {
-    for cmd in cmds.iter() {
+    for cmd in cmds {
         add_command_line(tag, cmd, media, text, to)?;
     }
     Sent::All
 }
 
-/// Adds the lines of ticks.
-fn add_ticks<const ROOM: usize, K: Sink>(times: u64, text: &mut Gather<ROOM>, to: &mut K) -> Sent
+/// Adds the lines of ticks in a row, as `add_event` does: at least one.
+pub fn add_ticks<const ROOM: usize, K: Sink>(
+    times: u64,
+    text: &mut Gather<ROOM>,
+    to: &mut K,
+) -> Sent
     requires { 1 ≤ times }
     ensures { Adds result (text.old ++ tick_lines times) text.new (K.state to.old) (K.state to.new) }
 {
@@ -120,8 +123,8 @@ fn add_tick_line<const ROOM: usize, K: Sink>(
     text.add_parts(&[b"T ", Buffer::new().format(count).as_bytes(), b"\n"], to)
 }
 
-/// Adds the line of a stop: of the server itself, whose tag has two zeros, or of a connection.
-fn add_stop<const ROOM: usize, K: Sink>(tag: Tag, text: &mut Gather<ROOM>, to: &mut K) -> Sent
+/// Adds the line of a stop, as `add_event` does: of the server itself, whose tag has two zeros, or of a connection.
+pub fn add_stop<const ROOM: usize, K: Sink>(tag: Tag, text: &mut Gather<ROOM>, to: &mut K) -> Sent
     ensures { Adds result (text.old ++ stop_line tag) text.new (K.state to.old) (K.state to.new) }
 {
     if is_server(tag) {
@@ -138,7 +141,7 @@ fn is_server(tag: Tag) -> bool
     tag.worker == 0 && tag.session == 0
 }
 
-/// Adds a line of a connection, which says `words`.
+/// Adds a line of a connection: its tag, and `words`.
 fn add_line<const ROOM: usize, K: Sink>(
     tag: Tag,
     words: &[u8],
@@ -151,7 +154,7 @@ fn add_line<const ROOM: usize, K: Sink>(
     text.add_parts(&[words, b"\n"], to)
 }
 
-/// Adds what stands before a line of a connection.
+/// Adds the tag at the beginning of a line of a connection: its worker, its session and a space, as `1.2 `.
 fn add_tag<const ROOM: usize, K: Sink>(tag: Tag, text: &mut Gather<ROOM>, to: &mut K) -> Sent
     ensures { Adds result (text.old ++ tag_text tag) text.new (K.state to.old) (K.state to.new) }
 {

@@ -12,9 +12,8 @@ ghost use Rattle.history_model.specs.text.History.{FollowRun, IsRun, history_tex
 
 /// A client's line with the text of a command asks for that command.
 ///
-/// The text has the words of the command, whatever the command is: quotation marks and escapes shield each character of a
-/// clip's name. If the words of some line ask for the command, by a configuration and names of the media table, these words
-/// ask for the same command by them.
+/// The text is split into the words of the command, whatever characters the name of a clip has, as it is quoted and escaped.
+/// If the words of some line ask for the command, by a configuration and a media table, these words ask for it by them too.
 pub fn printed_commands_read_back()
     ensures words { (media : List MediaNameView) (command : Cmd) →
         words_of (command_text media command) ≡ Ok (map word_meant (command_words media command)) }

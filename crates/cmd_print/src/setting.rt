@@ -14,7 +14,7 @@ use fixed_params::MicroText;
 use play_outside::{Gather, Sent, Sink};
 use play_types::{Curve, Prop, Setting};
 
-/// Adds what a setting says after its place: its property, its numbers, its timing, and whether it waits.
+/// Adds the words of a setting after its place: its property, its numbers, its timing, and DEFER if it waits for a COMMIT.
 pub(crate) fn add_setting<const ROOM: usize, K: Sink>(
     setting: Setting,
     text: &mut Gather<ROOM>,

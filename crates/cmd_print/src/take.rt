@@ -85,7 +85,7 @@ fn capital_digit(number: u32) -> u8
     }
 }
 
-/// Adds which frames of a clip are played, and whether again and again. Another producer has no frames.
+/// Adds which frames of a clip are played, and whether it is looped. Nothing is added for another producer.
 fn add_part<const ROOM: usize, K: Sink>(take: Take, text: &mut Gather<ROOM>, to: &mut K) -> Sent
     ensures { Adds result (text.old ++ spaced (part_words take.spec take)) text.new (K.state to.old) (K.state to.new) }
 {

@@ -1,4 +1,4 @@
-//! Words of a printed command. Each stands after a space.
+//! Words of a printed command, each after a space.
 ghost use Rattle.std.specs.Prelude.{◌∷◌, ◌++◌, []};
 ghost use Rattle.play_outside.specs.Gathered.{Adds};
 ghost use Rattle.history_model.specs.text.Commands.{Plain, place_word, number_word, flag_words, recording_word};
@@ -8,7 +8,7 @@ use itoa::Buffer;
 use play_outside::{Gather, Sent, Sink};
 use play_types::{Place, RecName};
 
-/// Adds a word as it stands.
+/// Adds a word without quotation marks.
 pub(crate) fn add_word<const ROOM: usize, K: Sink>(
     word: &str,
     text: &mut Gather<ROOM>,
@@ -19,7 +19,7 @@ pub(crate) fn add_word<const ROOM: usize, K: Sink>(
     text.add_parts(&[b" ", word.as_bytes()], to)
 }
 
-/// Adds a word, if it is set.
+/// Adds a word if `is_set`.
 pub(crate) fn add_flag<const ROOM: usize, K: Sink>(
     is_set: bool,
     word: &str,

@@ -1,4 +1,4 @@
--- From what is told of the top table to what is read of the bytes.
+-- From the result for the top table to the result for the bytes.
 use Rattle.std.proofs.Common.{◌≡◌, ℕ, Bool, true, false, List, [], ◌∷◌, Some, None, option_map, Result, Ok, Err, IsUtf8, slice_get, refl, sym, ap, ◌∙◌}
 use Rattle.std.specs.Str.{chars, is_utf8}
 use Rattle.std.proofs.lemmas.Str.{IsUtf8-from_is_utf8, is_utf8-from_IsUtf8}
@@ -31,6 +31,6 @@ refused_by : (bytes : List ℕ) (b : Bool) → is_utf8 bytes ≡ b → (IsUtf8 b
 refused_by bytes true e refused = rw (e, refused (IsUtf8-from_is_utf8 bytes e))
 refused_by bytes false e refused = rw e
 
--- bytes that are no text in TOML say no configuration
+-- bytes that are no text in TOML have no configuration
 pub not_toml : (bytes : List ℕ) → (IsUtf8 bytes → parse_document bytes ≡ None) → config_in bytes ≡ None
 not_toml bytes refused = ap (option_map config_of) (refused_by bytes (is_utf8 bytes) refl refused)

@@ -20,7 +20,7 @@ first_after before faults fault none first = rw none first
 pub none_in_both : (before after : List (List ℕ)) → before ≡ [] → after ≡ [] → before ++ after ≡ []
 none_in_both before after none more = rw (none, more)
 
--- a result that is this fault tells it
+-- a result that is the first fault is a right one
 pub told_fault : {A : Type 0} (faults : List (List ℕ)) (value : A) (result : Result A ConfigFault) (fault : ConfigFault) → IsErr result
     → IsErrAnd result (λ told. told ≡ fault) → IsFirst faults fault → IsTold faults value result
 told_fault faults value (Ok told) fault refused same first = absurd (false≢true refused)

@@ -1,4 +1,4 @@
--- What a table says as a configuration: all its faults in order, of which the first is named, and its values.
+-- The configuration of a table: all its faults in order, of which the first is reported, and its values.
 use Rattle.std.specs.Prelude.{ℕ, nat_le, ◌&&◌, if◌then◌else◌, Option, Some, None, option_and_then, unwrap_or, Result, Ok, Err, List, [], ◌∷◌, ◌++◌, length, map, flat_map, codes}
 use Rattle.std.specs.List.{enumerate_from}
 use Rattle.std.specs.Str.{chars}
@@ -22,17 +22,17 @@ some_elements items =
 abbrev pub elements_of : Members → Option (List Data)
 elements_of top = option_and_then some_elements (option_and_then as_array (get_member (codes "channel") top))
 
--- the faults of the element of a number: it is no table, or keys of it break their rules
+-- the faults of the element with this number: it is no table, or keys of it break their rules
 abbrev pub element_faults : ℕ → Option Members → List (List ℕ)
 element_faults number None = channel_name number ∷ []
 element_faults number (Some members) = faults_in (Channel number) channel_keys members
 
--- the least unknown key of the element of a number
+-- the least unknown key of the element with this number
 abbrev pub unknown_of_element : ℕ → Option Members → List (List ℕ)
 unknown_of_element number None = []
 unknown_of_element number (Some members) = unknown_in (Channel number) members
 
--- what a function gives of elements, the first of which has a number
+-- the results of f for all elements, numbered from `first` on, as one list
 abbrev pub of_each : (ℕ → Option Members → List (List ℕ)) → ℕ → List Data → List (List ℕ)
 of_each f first elements = flat_map (λ element. f element.0 (as_table element.1)) (enumerate_from first elements)
 
@@ -49,7 +49,7 @@ faults_of top =
     ++ unknown_in Top top
     ++ of_each unknown_of_element 1 (unwrap_or (elements_of top) [])
 
--- what the table of a channel says
+-- the channel of a table
 abbrev pub channel_of : Members → ChannelView
 channel_of members = record {
   width = number_at width members;
@@ -61,7 +61,7 @@ channel_of members = record {
 abbrev pub channels_of : List Data → List ChannelView
 channels_of elements = map (λ element. channel_of (unwrap_or (as_table element) no_members)) elements
 
--- what the top table says
+-- the values of the top table
 abbrev pub values_of : Members → ConfigView
 values_of top = record {
   listen = text_at listen top;
@@ -77,6 +77,6 @@ abbrev pub first_or : {A : Type 0} → List (List ℕ) → A → Result A (List 
 first_or [] values = Ok values
 first_or (name ∷ rest) values = Err (chars name)
 
--- the configuration that a table says, or the characters of the key that is refused
+-- the configuration of the top table, or the characters of the key that is refused
 abbrev pub config_of : Members → Result ConfigView (List ℕ)
 config_of top = first_or (faults_of top) (values_of top)

@@ -1,4 +1,4 @@
--- The keys of a configuration, in the order in which they are tested, and what may stand at each.
+-- The keys of a configuration, in the order in which they are tested, and what each may hold.
 use Rattle.std.specs.Prelude.{ℕ, pos, ◌==◌, nat_le, ◌&&◌, not, Bool, false, Option, Some, None, is_some, unwrap_or, List, [], ◌∷◌, length, codes}
 use Rattle.std.specs.Str.{chars}
 use Rattle.toml.specs.Data.{Data, Members, string, integer, get_member}
@@ -6,8 +6,8 @@ use Rattle.play_types.specs.declared.config.TheConstants.{MAX_RATE, MAX_CONNECTI
 use Rattle.play_types.specs.declared.geometry.TheConstants.{MAX_SIDE, MAX_PAIRS}
 use Rattle.config_file.specs.declared.defaults.TheConstants.{DEFAULT_CONNECTIONS, DEFAULT_JOURNAL_LIMIT, DEFAULT_PAIRS}
 
--- what may stand at a key: a string that is not empty, or an integer from the least to the greatest. If there is a
--- default, the integer may be left out
+-- what a key may hold: a string that is not empty, or an integer from the least to the greatest. If there is a default,
+-- the integer may be left out
 pub data Rule : Type 0 where
   text : Rule
   number : ℕ → ℕ → Option ℕ → Rule
@@ -57,14 +57,14 @@ top_keys = listen ∷ media ∷ rate ∷ connections ∷ journal_limit ∷ []
 abbrev pub channel_keys : List Key
 channel_keys = width ∷ height ∷ pairs ∷ output ∷ []
 
--- what stands at a key keeps the rule
+-- the value at a key, or its absence, keeps the rule
 abbrev pub is_kept : Rule → Option Data → Bool
 is_kept text (Some (string bytes)) = not (length bytes == 0)
 is_kept (number least greatest default) (Some (integer (pos n))) = nat_le least n && nat_le n greatest
 is_kept (number least greatest default) None = is_some default
 is_kept rule value = false
 
--- the characters of a string, and the number that an integer is, or the default
+-- the characters of a string, and the value of an integer, or the default if it is left out
 abbrev pub text_of : Option Data → List ℕ
 text_of (Some (string bytes)) = chars bytes
 text_of value = []

@@ -12,11 +12,11 @@ use Rattle.config_file.specs.declared.fault.ConfigFault.TheVariants.{NotToml, Ke
 abbrev pub document_of : List ℕ → Option Members
 document_of bytes = if is_utf8 bytes then parse_document bytes else None
 
--- what bytes say as a configuration, or the key that is refused, if they are TOML
+-- the configuration of bytes, or the key that is refused, if they are TOML
 abbrev pub config_in : List ℕ → Option (Result ConfigView (List ℕ))
 config_in bytes = option_map config_of (document_of bytes)
 
--- the result is what the bytes say; memory may run out at any bytes
+-- the result is the configuration of the bytes, the key that is refused, or that they are no TOML; or memory ran out
 abbrev pub IsReadOf : List ℕ → Result ConfigView ConfigFault → Type 0
 IsReadOf bytes (Ok config) = config_in bytes ≡ Some (Ok config)
 IsReadOf bytes (Err (Key name)) = config_in bytes ≡ Some (Err name)

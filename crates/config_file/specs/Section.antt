@@ -30,7 +30,7 @@ abbrev pub names_of : Members → List (List ℕ)
 names_of no_members = []
 names_of (member name value rest) = name ∷ names_of rest
 
--- the name is one of those
+-- the name is in the list
 abbrev pub is_among : List (List ℕ) → List ℕ → Bool
 is_among names name = list_any (bytes_eq name) names
 
@@ -52,6 +52,6 @@ known_names (Channel number) = map (λ key. key.name) channel_keys
 abbrev pub unknown_of : Section → Members → Option (List ℕ)
 unknown_of section table = least (filter (λ name. not (is_among (known_names section) name)) (names_of table))
 
--- its fault, if there is one
+-- the fault of the least unknown key, if there is one
 abbrev pub unknown_in : Section → Members → List (List ℕ)
 unknown_in section table = map (name_in section) (option_to_list (unknown_of section table))

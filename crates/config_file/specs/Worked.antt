@@ -4,19 +4,19 @@ use Prim.Native.String.{String}
 use Rattle.play_types.specs.Config.{ChannelView, ConfigView}
 use Rattle.config_file.specs.Reading.{config_in}
 
--- what a text says
+-- the result of reading a text
 abbrev pub says : String → Option (Result ConfigView (List ℕ))
 says text = config_in (codes text)
 
--- what a text says after lines of the first three keys
+-- the result of reading a text after lines of the first three keys
 abbrev pub then_says : String → Option (Result ConfigView (List ℕ))
 then_says text = config_in (codes "listen = 'a'\nmedia = 'm'\nrate = 25\n" ++ codes text)
 
--- that a key is refused
+-- a key is refused
 abbrev pub refused : String → Option (Result ConfigView (List ℕ))
 refused name = Some (Err (codes name))
 
--- that the text is no TOML
+-- the text is no TOML
 abbrev pub no_toml : Option (Result ConfigView (List ℕ))
 no_toml = None
 

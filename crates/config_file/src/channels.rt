@@ -15,7 +15,7 @@ use play_types::{Channel, ChannelList, MAX_CHANNELS, MAX_PAIRS, MAX_SIDE};
 use std::alloc::Global;
 use toml::Value;
 
-/// Reads the channels that the elements say, in their order.
+/// Reads the channels of the elements, in their order.
 pub(crate) fn read_channels(alloc: Global, elements: &[Value]) -> Result<ChannelList, ConfigFault>
     ensures told { IsTold (of_each element_faults 1 (list_of (items_view elements.now)))
         (channels_of (list_of (items_view elements.now))) result }
@@ -39,7 +39,7 @@ pub(crate) fn check_elements(alloc: Global, elements: &[Value]) -> Result<(), Co
     Ok(())
 }
 
-/// Reads the channel that the element of a number says.
+/// Reads the channel of an element, whose number is counted from 1.
 fn read_element(alloc: Global, number: usize, element: &Value) -> Result<Channel, ConfigFault>
     ensures { IsTold (element_faults number (as_table (view element.now)))
         (channel_of (unwrap_or (as_table (view element.now)) no_members)) result }
@@ -83,7 +83,7 @@ impl<'a> SectionReader<'a> {
         Some(elements)
     }
 
-    /// Reads the channel that the table says.
+    /// Reads the channel of the table.
     fn channel(&self) -> Result<Channel, ConfigFault>
         ensures { IsTold (faults_in self.now.section channel_keys (table_view self.now.table.now)) (channel_of (table_view self.now.table.now)) result }
     {

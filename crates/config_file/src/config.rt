@@ -12,15 +12,15 @@ use play_types::{Config, MAX_CONNECTIONS, MAX_JOURNAL_COMMANDS, MAX_RATE};
 use std::alloc::Global;
 use toml::Table;
 
-/// Reads the configuration that the bytes of a file say.
+/// Reads the configuration in the bytes of a file.
 ///
 /// The text is TOML with the keys `listen`, `media`, `rate`, `connections`, `journal_limit` and `channel`, which is an
 /// array of 1 to 16 tables with the keys `width`, `height`, `pairs` and `output`. `listen`, `media` and `output` are
-/// strings that are not empty. `rate` is 1 to 240 pulses a second, `connections` 1 to 64 or left out for 4,
-/// `journal_limit` 1 to 16,777,216 or left out for 4,194,304. `width` and `height` are 1 to 4,096, and `pairs` 0 to
-/// 4,096 or left out for 0.
+/// strings that are not empty. `rate` is 1 to 240 pulses a second, `connections` 1 to 64, by default 4, and
+/// `journal_limit` 1 to 16,777,216, by default 4,194,304. `width` and `height` are 1 to 4,096, and `pairs` 0 to 4,096,
+/// by default 0.
 ///
-/// `NotToml` comes exactly if the bytes are not UTF-8 or the text is not TOML. `Key` names the first key that is
+/// `NotToml` is returned exactly if the bytes are not UTF-8 or the text is not TOML. `Key` names the first key that is
 /// missing, of another type or out of range in the order above, all keys of one channel before the next channel, and an
 /// element of `channel` that is no table as `channel.n`, counted from 1. After all these it names the least unknown key
 /// of the top table in the order of bytes, and then the least unknown key of the first channel that has one, as
@@ -40,7 +40,7 @@ pub fn read_config(alloc: Global, bytes: &[u8]) -> Result<Config, ConfigFault>
     }
 }
 
-/// Returns the configuration that the top table says.
+/// Returns the configuration of the top table.
 fn config_of(alloc: Global, table: &Table) -> Result<Config, ConfigFault>
     ensures { IsTold (faults_of (table_view table.now)) (values_of (table_view table.now)) result }
 {

@@ -1,4 +1,4 @@
-//! What a configuration says if it leaves a key out.
+//! The values of keys that a configuration leaves out.
 
 /// The connection workers of a configuration without `connections`.
 pub const DEFAULT_CONNECTIONS: u32 = 4;

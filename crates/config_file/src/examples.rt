@@ -1,5 +1,5 @@
-//! Worked texts. Each function does nothing, and its contract says what configuration a text says, or which key is
-//! refused.
+//! Worked texts. Each function does nothing, and its contract says which configuration is read from a text, or which key
+//! is refused.
 #![tactic(auto, unfolding(crate::proofs::OnLiterals::config_on_literals))]
 
 ghost use Rattle.std.specs.Prelude.{◌≡◌, ◌∷◌, [], Some, Ok, codes};

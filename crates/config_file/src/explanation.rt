@@ -15,11 +15,11 @@ use toml::de::Error;
 use toml::{Table, Value};
 
 /// Returns why the bytes of a configuration are refused with a fault: the line and the column of what TOML refuses, or the
-/// value at a key, what is allowed there, and the nearest that is, if one is near. It is a part of a line, as
+/// value at a key, what is allowed there, and the nearest allowed number or key, if there is one. It is a part of a line, as
 /// `rate = 29.97: a whole number from 1 to 240; 30 is the nearest`. Lines and columns count from 1, and a column is a
 /// character.
 ///
-/// `None` comes if memory ran out, or if the fault is not that of the bytes.
+/// Returns `None` if memory ran out, or if the bytes are TOML and do not have this fault.
 pub fn explain(alloc: Global, bytes: &[u8], fault: &ConfigFault) -> Option<String> {
     match toml::table_from_slice(alloc, bytes) {
         Ok(table) => match fault {
@@ -41,8 +41,7 @@ fn explain_text(alloc: Global, bytes: &[u8], error: &Error) -> Option<String> {
     format!(in alloc; "line {line}, column {column}: {why}").ok()
 }
 
-/// Returns the line and the column of what follows these bytes. The mark of the order of bytes at the beginning of a
-/// text is no character of its first line.
+/// Returns the line and the column of what follows these bytes. A byte order mark at the beginning is not counted.
 fn place_after(before: &[u8]) -> (usize, usize) {
     let (mut line, mut column) = (1usize, 1usize);
     for byte in before.strip_prefix(b"\xef\xbb\xbf").unwrap_or(before) {
@@ -56,7 +55,7 @@ fn place_after(before: &[u8]) -> (usize, usize) {
     (line, column)
 }
 
-/// Returns what is wrong at the key that a fault names. A name of a channel's key may be an unknown key of the top table.
+/// Returns what is wrong at the key that a fault names. A name as `channel.1.width` may be an unknown key of the top table.
 fn find_wrong<'a>(alloc: Global, top: &'a Table, name: &'a str) -> Option<Wrong<'a>> {
     match wrong_in_channel(alloc, top, name) {
         Some(wrong) => Some(wrong),
@@ -131,7 +130,7 @@ fn hint_of_missing<'a>(
     }
 }
 
-/// Returns the unknown key of a table that is nearest to a known one, if one is near.
+/// Returns the unknown key of a table that is nearest to the known key `key`, if one is near.
 fn nearest_unknown<'a>(
     alloc: Global,
     section: Section,
@@ -147,7 +146,7 @@ fn nearest_unknown<'a>(
     nearest.name()
 }
 
-/// Returns what may be meant by an unknown key: a known one that is near to it, or the same one of the other tables.
+/// Returns what may be meant by an unknown key: a key of this name of the other tables, or a known one that is near to it.
 fn hint_of_unknown<'a>(alloc: Global, section: Section, key: &str) -> Hint<'a> {
     if Rule::is_elsewhere(section, key) {
         return Hint::Elsewhere;

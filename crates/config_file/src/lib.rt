@@ -1,9 +1,8 @@
 //! The configuration of a server, read from the bytes of its file.
 //!
-//! The bytes are a text in TOML. `read_config` returns the configuration that the text says, with the defaults for what
-//! it leaves out, or the first key that is missing, of another type or out of range, or the first key that is unknown.
-//! Which key that is stands in `specs/`, as the first of a list of faults. `explain` says of bytes that are refused what is
-//! wrong, for a person. The module `examples` shows texts.
+//! The bytes are a text in TOML. `read_config` returns the configuration, with the defaults for what the text leaves out, or
+//! the first key that is missing, of another type or out of range, or else the first key that is unknown. `faults_of` in
+//! `specs/` defines their order. `explain` describes for a person why bytes are refused. The module `examples` shows texts.
 #![tactic(auto)]
 
 mod channels;

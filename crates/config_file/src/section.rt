@@ -12,7 +12,7 @@ use play_types::Text;
 use std::alloc::{AllocError, Global};
 use toml::{Table, Value};
 
-/// Which table a key stands in.
+/// The table that a key is in.
 #[derive(Clone, Copy, Debug)]
 pub(crate) enum Section {
     /// The top table.
@@ -21,7 +21,7 @@ pub(crate) enum Section {
     Channel(usize),
 }
 
-/// Reads the keys of one table. A key that is refused is named with the section that the table is.
+/// Reads the keys of one table. A key that is refused is named with its section.
 #[derive(Clone, Copy)]
 pub(crate) struct SectionReader<'a> {
     pub(crate) alloc: Global,
@@ -118,7 +118,7 @@ fn copy_of(alloc: Global, text: &str) -> Result<Text, AllocError>
     Text::copy(alloc, text)
 }
 
-/// Returns the number that the integer is, from `least` to `greatest`.
+/// Returns the integer as a `u32`, if it is from `least` to `greatest`.
 fn in_range(integer: i64, least: u32, greatest: u32) -> Option<u32>
     ensures value { result ≡ ranged least greatest integer }
     ensures range { IfSome result (λ n. (least ≤ n) × (n ≤ greatest)) }

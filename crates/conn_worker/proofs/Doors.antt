@@ -4,6 +4,7 @@ use Rattle.conn_worker.specs.declared.work_end.TheConstants.{MAX_SESSIONS}
 use Rattle.std.specs.Prelude.{Some, None, Result, Ok, Err}
 use Rattle.std.proofs.lemmas.List.Sums.{sum_by-cons, sum_by_push}
 use Rattle.play_types.specs.History.{stop_at}
+use Rattle.play_types.specs.declared.event.Event.{Event}
 use Rattle.play_types.specs.declared.event.Event.TheVariants.{Stop}
 use Rattle.play_outside.specs.SinkState.{SinkState}
 use Rattle.play_outside.specs.Fresh.{IsNewSink}
@@ -27,32 +28,32 @@ IsUnstopped ends.Killed = Unit {0}
 IsUnstopped ends.LinkFault = Unit {0}
 IsUnstopped (ends.Ended at) = ⊥
 
--- a look leaves the number of the pass, and tells that it has seen no stop
+-- a check of the stage keeps the number of the pass, which has seen no stop
 looks_number : (before after : PassView) → LooksOn before after → after.number ≡ before.number
 looks_number before after looks = ap (λ (p : PassView). p.number) looks.after
 
 looks_running : (before after : PassView) → LooksOn before after → stop_at after.seen ≡ None
 looks_running before after looks = ap (λ (p : PassView). stop_at p.seen) looks.after ∙ sym looks.told
 
--- if the work goes on after a link, a look found no stop
+-- if the work goes on after a link, a check of the stage found no stop
 goes_on_looks : (end : LinkEnd) (before after : PassView) → GoesOnAfter end before after → LooksOn before after
 goes_on_looks ends.Over before after looks = looks
 goes_on_looks ends.Killed before after looks = looks
 goes_on_looks ends.LinkFault before after looks = looks
 goes_on_looks (ends.Ended at) before after none = absurd none
 
--- a look after such a link found no stop, or one
+-- a check of the stage after such a link found no stop, or one
 looked_on : (end : LinkEnd) (before after : PassView) → IsUnstopped end → LooksOn before after → GoesOnAfter end before after
 looked_on ends.Over before after other looks = looks
 looked_on ends.Killed before after other looks = looks
 looked_on ends.LinkFault before after other looks = looks
 looked_on (ends.Ended at) before after other looks = absurd other
 
-looked_ended : (at : ℕ) (end : LinkEnd) (before after : PassView) → IsUnstopped end → FindsEnd at before after → StopsAfter at end before after
-looked_ended at ends.Over before after other looks = looks
-looked_ended at ends.Killed before after other looks = looks
-looked_ended at ends.LinkFault before after other looks = looks
-looked_ended at (ends.Ended position) before after other looks = absurd other
+looked_ended : (given : List Event) (at : ℕ) (end : LinkEnd) (before after : PassView) → IsUnstopped end → FindsEnd given at before after → StopsAfter given at end before after
+looked_ended given at ends.Over before after other looks = looks
+looked_ended given at ends.Killed before after other looks = looks
+looked_ended given at ends.LinkFault before after other looks = looks
+looked_ended given at (ends.Ended position) before after other looks = absurd other
 
 module _ {L : Type 0} where
   -- after a turn the pass has its number, and no more links are away than before
@@ -120,13 +121,13 @@ module _ {L : Type 0} where
   turn_stopped setting served came SessionsOver before middle after running new same door gives few = absurd gives.pass
 
   -- the door had no link yet
-  pub turn_waited : (setting : Setting L) (served : ℕ) (done : Unit {0}) (before after : AtDoor L) → LooksAtStage (Ok done) before.pass after.pass
+  pub turn_waited : (setting : Setting L) (served : ℕ) (done : Unit {0}) (before after : AtDoor L) → LooksAtStage setting.given (Ok done) before.pass after.pass
       → after.door ≡ after_none_came before.door → TakesTurn setting served (Ok served) before after
   turn_waited setting served done before after looks door =
       let same : served ≡ served + 0 = omega arith in
       (NoneYet, ((looks, door), (same, looks_running before.pass after.pass looks)))
 
-  pub turn_ended : (setting : Setting L) (served : ℕ) (end : WorkEnd) (before after : AtDoor L) → LooksAtStage (Err end) before.pass after.pass
+  pub turn_ended : (setting : Setting L) (served : ℕ) (end : WorkEnd) (before after : AtDoor L) → LooksAtStage setting.given (Err end) before.pass after.pass
       → after.door ≡ after_none_came before.door → TakesTurn setting served (Err end) before after
   turn_ended setting served Closed before after looks door = absurd looks
   turn_ended setting served (Ended at) before after looks door = inl (looks, door)
@@ -136,20 +137,20 @@ module _ {L : Type 0} where
   -- the door failed
   pub turn_failed : (setting : Setting L) (served : ℕ) (before after : AtDoor L) (result : Result ℕ Refusal) → stop_at before.pass.seen ≡ None
       → MatchResult result
-      (λ at. Adds before.pass (Stop (stop_tag before.pass.number 0)) (IsStopped at) after.pass)
-      (λ refusal. Looks before.pass (λ history. stop_at history ≡ Some refusal.at) after.pass)
+      (λ at. Adds before.pass (Stop (stop_tag before.pass.number 0)) (IsStopped setting.given at) after.pass)
+      (λ refusal. Looks before.pass (λ history. stop_at (setting.given ++ history) ≡ Some refusal.at) after.pass)
       → after.door ≡ after_listener_fault before.door → TakesTurn setting served (Err DoorFault) before after
   turn_failed setting served before after (Ok at) running adds door = record { running = running; door = door; stops = inl (at, adds) }
   turn_failed setting served before after (Err refusal) running looks door = record { running = running; door = door; stops = inr (refusal.at, looks) }
 
-  -- after a link that no stop of another call ended the history was looked at
-  pub looked_after_link : (result : Result (Unit {0}) WorkEnd) (link_run : LinkRun L) (after : PassView) → IsUnstopped link_run.end
-      → LooksAtStage result link_run.pass after → PassesOn result link_run after
-  looked_after_link (Ok done) link_run after other looks = looked_on link_run.end link_run.pass after other looks
-  looked_after_link (Err Closed) link_run after other looks = absurd looks
-  looked_after_link (Err (Ended at)) link_run after other looks = looked_ended at link_run.end link_run.pass after other looks
-  looked_after_link (Err DoorFault) link_run after other looks = absurd looks
-  looked_after_link (Err SessionsOver) link_run after other looks = absurd looks
+  -- the stage was checked after a link that no stop of another call ended
+  pub looked_after_link : (given : List Event) (result : Result (Unit {0}) WorkEnd) (link_run : LinkRun L) (after : PassView) → IsUnstopped link_run.end
+      → LooksAtStage given result link_run.pass after → PassesOn given result link_run after
+  looked_after_link given (Ok done) link_run after other looks = looked_on link_run.end link_run.pass after other looks
+  looked_after_link given (Err Closed) link_run after other looks = absurd looks
+  looked_after_link given (Err (Ended at)) link_run after other looks = looked_ended given at link_run.end link_run.pass after other looks
+  looked_after_link given (Err DoorFault) link_run after other looks = absurd looks
+  looked_after_link given (Err SessionsOver) link_run after other looks = absurd looks
 
   one_at_most : (turn : Turn L) → links_come turn ≤ 1
   one_at_most (Came link_run) = omega arith

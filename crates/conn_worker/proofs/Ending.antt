@@ -34,7 +34,7 @@ use Rattle.conn_worker.proofs.Finding.{finds_in-none, found_idle, found_step, lo
 use Rattle.conn_worker.proofs.Links.{after_rounds-looked, after_rounds-step, looks_more, looks_step}
 use Rattle.conn_worker.proofs.Going.{stays_quiet}
 
--- what holds of the steps that were followed holds if no step more was left unsent
+-- what holds of the steps that were executed holds if no step more was left unsent
 whole : (P : List Followed → Type 0) (followed : List Followed) → P followed → P (followed ++ [])
 whole P followed holds = subst P (sym (append-nil followed)) holds
 
@@ -63,7 +63,7 @@ explains_wholly service end rounds before after w ends = record {
   ending = ends;
 }
 
--- the steps of bytes of which all have been followed
+-- if all steps of the bytes have been executed, the executed steps are the first of them
 all_first : (service : Service) (followed : List Followed) (bytes : List ℕ) → steps_in followed ≡ steps_of service followed bytes
     → IsPrefix (steps_in followed) (steps_of service followed bytes)
 all_first service followed bytes all = ([], append-nil (steps_in followed) ∙ all)
@@ -74,7 +74,7 @@ last_look-more rounds round = ap (last_or None) (looks_in-more rounds round) ∙
 last_step-more : (followed : List Followed) (one : Followed) → last_or None (steps_in (followed ++ one ∷ [])) ≡ Some one.step
 last_step-more followed one = ap (last_or None) (steps_in-more followed one) ∙ last_or-snoc None (steps_in followed) one.step
 
--- the tokens of all lines are those of the bytes that were read, also after a look that gave none
+-- the tokens of all lines are those of the bytes that were read, also after a read that gave none
 tokens_looked : (past : Past) (now : Now) (round : Round) → IsUnderWay past (bytes_in past.rounds) now → followed_in past.rounds ≡ followed_in (past.rounds ++ round ∷ [])
     → look_bytes round.look ≡ [] → IsPrefix (tokens_in (followed_in (past.rounds ++ round ∷ []))) (tokens (bytes_in (past.rounds ++ round ∷ [])))
 tokens_looked past now round way same none =
@@ -136,9 +136,9 @@ ends_unread past now link between is =
       };
     }
 
--- a look found nothing yet, and the history that was found then holds a stop
+-- a read found nothing yet, and the history that was found then holds a stop
 pub ends_stopped : (past : Past) (now : Now) (link : SinkState) (pass : PassView) (at : ℕ) → IsBetweenLooks past now → link ≡ after_idle now.standing.link
-    → Looks now.standing.pass (λ history. Some at ≡ stop_at history) pass
+    → Looks now.standing.pass (λ history. Some at ≡ stop_at (past.service.given ++ history)) pass
     → IsExplained past.service (Ended at) past.before (record { pass = pass; link = link })
 ends_stopped past now link pass at between is looks =
     let way = between.way in
@@ -166,7 +166,7 @@ ends_stopped past now link pass at between is looks =
     (record {
       whole = refl;
       going = whole (λ fs. list_any is_end (steps_in fs) ≡ false) (followed_in rounds) now_all.going;
-      stopped = ap stop_at seen ∙ sym looks.told;
+      stopped = ap (λ (es : List Event). stop_at (past.service.given ++ es)) seen ∙ sym looks.told;
       next = inl (record {
         all = whole (λ fs. steps_in fs ≡ steps_of past.service fs (bytes_in rounds)) (followed_in rounds) now_all.all;
         last = last_or-snoc None past.rounds round ∙ ap (λ (h : List Event). Some (idle_round h)) (sym seen);
@@ -201,7 +201,7 @@ module _ (past : Past) (piece : List ℕ) (followed : List Followed) (before : S
       given_step past.service here.old here.new here.fed had one here.result here.way.given here.way.going (here.is ∙ ap Some (sym same)) here.gives
       (here.line ∙ ap Some (sym token))
 
-  -- the tokens of what was followed are the first ones of all bytes that were read
+  -- the tokens of what was executed are the first ones of all bytes that were read
   tokens_had : IsPrefix (tokens_in had) (tokens (bytes_in (with_piece past piece followed).rounds))
   tokens_had =
       subst (λ (bs : List ℕ). IsPrefix (tokens_in had) (tokens bs)) here.bytes
@@ -238,7 +238,7 @@ module _ (past : Past) (piece : List ℕ) (followed : List Followed) (before : S
       (record {
         whole = refl;
         going = whole (λ fs. list_any is_end (steps_in fs) ≡ false) had none;
-        stopped = ap stop_at (ap (λ (p : PassView). p.seen) stops.finds.after_is) ∙ stops.finds.stop;
+        stopped = ap (λ (p : PassView). stop_at (past.service.given ++ p.seen)) stops.finds.after_is ∙ stops.finds.stop;
         next = inr (whole (λ fs. IsNextAsked past.service (record { rounds = rounds; failure = NoFailure; pass = after.pass })) had
             (record {
               step = step;
@@ -250,7 +250,7 @@ module _ (past : Past) (piece : List ℕ) (followed : List Followed) (before : S
             }));
       })
 
-  -- the step was followed, and its reply was not wholly written
+  -- the step was executed, and its reply was not wholly written
   unsent_step : (end : LinkEnd) (after : Standing) → ((look : Option Look) → number_refused end look ≡ 0) → (follows : Follows past.service here.told step sent.Failed before after)
       → EndsBy past.service (record { rounds = (with_piece past piece followed).rounds; failure = WriteFailed follows.one; pass = after.pass }) end
       → IsExplained past.service end past.before after
@@ -283,7 +283,7 @@ module _ (past : Past) (piece : List ℕ) (followed : List Followed) (before : S
         running = fails.running;
       })
 
-  -- the step is an end, and all steps were followed with it
+  -- the step is an end, and all steps were executed with it
   all_with : (one : Followed) → one.step ≡ step → one.token ≡ here.told → is_end step ≡ true
       → steps_in (had ++ one ∷ []) ≡ steps_of past.service (had ++ one ∷ []) (bytes_in (with_piece past piece followed).rounds)
   all_with one same token ends =

@@ -1,4 +1,4 @@
--- What the looks of a connection found, and what was found of the stage's history.
+-- What the reads of a connection found, and what was found of the stage's history.
 use Rattle.std.proofs.Common.{◌≡◌, List, [], ◌∷◌, ◌++◌, sym, ap, subst, ◌∙◌, append_assoc, append-nil}
 use Rattle.std.proofs.lemmas.Grind.{flat_map-append}
 use Rattle.std.proofs.lemmas.List.{map-append}
@@ -13,16 +13,16 @@ use Rattle.conn_worker.specs.Explained.{AreInOrder}
 use Rattle.conn_worker.specs.inner.Steps.{MakesStep}
 use Rattle.conn_worker.proofs.Passes.{in_order_more}
 
--- the looks with one more
+-- the reads with one more
 pub looks_in-more : (rounds : List Round) (round : Round) → looks_in (rounds ++ round ∷ []) ≡ looks_in rounds ++ round.look ∷ []
 looks_in-more rounds round = map-append (λ (r : Round). r.look) rounds (round ∷ [])
 
--- a look more that leaves the connection open
+-- one more read that leaves the connection open
 pub open_more : (rounds : List Round) (round : Round) → AreLeftOpen rounds → LeavesOpen round.look → AreLeftOpen (rounds ++ round ∷ [])
 open_more rounds round earlier now =
     subst (All LeavesOpen) (sym (looks_in-more rounds round)) (All-push LeavesOpen (looks_in rounds) round.look earlier now)
 
--- what follows the last look does not close the connection
+-- the steps after the last read do not close the connection
 pub open_step : (rounds : List Round) (look : Look) (followed more : List Followed)
     → AreLeftOpen (rounds ++ record { look = look; followed = followed } ∷ []) → AreLeftOpen (rounds ++ record { look = look; followed = more } ∷ [])
 open_step rounds look followed more earlier =
@@ -35,7 +35,7 @@ finds_in-more rounds round =
     flat_map-append (λ (r : Round). stage_looks r.look ++ r.followed) rounds (round ∷ [])
     ∙ ap (λ (fs : List Followed). finds_in rounds ++ fs) (append-nil (stage_looks round.look ++ round.followed))
 
--- a look after which the stage was not looked at, and nothing was followed yet
+-- a read after which the stage was not checked, and no step was executed yet
 pub finds_in-none : (rounds : List Round) (look : Look) → stage_looks look ≡ [] → finds_in (rounds ++ record { look = look; followed = [] } ∷ []) ≡ finds_in rounds
 finds_in-none rounds look none =
     finds_in-more rounds (record { look = look; followed = [] })
@@ -50,14 +50,14 @@ finds_in-step rounds look followed one =
     ∙ sym (append_assoc (finds_in rounds) (stage_looks look ++ followed) (one ∷ []))
     ∙ ap (λ (fs : List Followed). fs ++ one ∷ []) (sym (finds_in-more rounds (record { look = look; followed = followed })))
 
--- a look found nothing yet, and then a history that goes on
+-- a read found nothing yet, and a check of the stage then found a longer history
 pub found_idle : (service : Service) (seen : List Event) (rounds : List Round) (between history : List Event)
     → AreInOrder service seen (finds_in rounds) between → IsPrefix between history → AreInOrder service seen (finds_in (rounds ++ idle_round history ∷ [])) history
 found_idle service seen rounds between history order grows =
     subst (λ (fs : List Followed). AreInOrder service seen fs history) (sym (finds_in-more rounds (idle_round history)))
     (in_order_more service seen (finds_in rounds) (stage_look history) between history order grows (sym (append-nil history)))
 
--- one step more was followed
+-- one step more was executed
 pub found_step : (service : Service) (seen : List Event) (rounds : List Round) (look : Look) (followed : List Followed) (one : Followed) (between after : PassView)
     → AreInOrder service seen (finds_in (rounds ++ record { look = look; followed = followed } ∷ [])) between.seen → MakesStep service one between after
     → AreInOrder service seen (finds_in (rounds ++ record { look = look; followed = followed ++ one ∷ [] } ∷ [])) after.seen

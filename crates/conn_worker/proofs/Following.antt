@@ -1,5 +1,5 @@
--- A step is followed, and its reply is sent.
-use Rattle.std.proofs.Common.{◌≡◌, ℕ, ◌&&◌, ◌==◌, Bool, true, false, cond, List, [], ◌∷◌, refl, sym, ap, ◌∙◌, subst, eq-eqb}
+-- A step is executed, and its reply is sent.
+use Rattle.std.proofs.Common.{◌≡◌, ℕ, ◌&&◌, ◌==◌, Bool, true, false, cond, List, [], ◌∷◌, ◌++◌, refl, sym, ap, ◌∙◌, subst, eq-eqb}
 use Rattle.std.specs.Prelude.{Option, Some, None, flat_map, Result, Ok, Err}
 use Rattle.play_types.specs.History.{stop_at}
 use Rattle.play_types.specs.declared.event.Tag.{Tag}
@@ -56,7 +56,7 @@ unfolding reply_bytes
 same_bytes service token told answer same =
     ap (λ (t : Option (List ℕ)). flat_map ended (with_token t (reply_lines service.config service.names answer))) (reply_token-kept token told answer same)
 
--- a step was followed, and its reply was sent
+-- a step was executed, and its reply was sent
 sends_step : (service : Service) (told : Option (List ℕ)) (step : model.Step) (one : Followed) (before after : PassView) (link written : SinkState) (bytes : List ℕ) (result : Result (Unit {0}) LinkEnd)
     → is_end step ≡ false → one.step ≡ step → MakesStep service one before after → stop_at after.seen ≡ None → answer_bytes service told (reply_of service one) ≡ bytes
     → SendsBytes bytes result link written → FollowsStep service told (Some step) result (at before link) (at after written)
@@ -153,7 +153,7 @@ sent_of bytes (Err (Ended position)) link written sends = absurd sends
 -- the kill made the stop
 pub kills_stage : (service : Service) (told : Option (List ℕ)) (sizes : Sizes) (worker session position : ℕ) (before after : PassView) (link written : SinkState) (result : Result (Unit {0}) LinkEnd)
     → IsService service sizes worker session → before.number ≡ worker
-    → Adds before (event.Stop (stop_tag before.number session)) (IsStopped position) after
+    → Adds before (event.Stop (stop_tag before.number session)) (IsStopped sizes.given position) after
     → SendsBytes (reply_bytes service.config service.names told (reply.Done name.Kill)) result link written
     → EndsAtStep service told model.KillServer Killed (at before link) (at after written)
 kills_stage service told sizes worker session position before after link written result is mine adds sends =
@@ -173,7 +173,7 @@ kills_stage service told sizes worker session position before after link written
         step_is = refl;
         token_is = refl;
         makes = makes_told service one told before after
-            (makes_added service model.KillServer false before after (event.Stop (stop_tag before.number session)) (IsStopped position) adds
+            (makes_added service model.KillServer false before after (event.Stop (stop_tag before.number session)) (IsStopped sizes.given position) adds
             (ap (λ (t : Tag). event.Stop t ∷ []) (sym tag))
             (subst (λ (t : Tag). is_own before.number (event.Stop t) ≡ true) (sym named) own)
             (ap (λ (t : Tag). (t.worker == 0) && (t.session == 0)) named ∙ final)
@@ -184,7 +184,7 @@ kills_stage service told sizes worker session position before after link written
 
 -- another call had made a stop
 pub kills_late : (service : Service) (told : Option (List ℕ)) (refusal : Refusal) (before after : PassView) (link : SinkState)
-    → Looks before (λ history. stop_at history ≡ Some refusal.at) after
+    → Looks before (λ history. stop_at (service.given ++ history) ≡ Some refusal.at) after
     → EndsAtStep service told model.KillServer (Ended refusal.at) (at before link) (at after link)
 kills_late service told refusal before after link looks = record {
   asked = refl;

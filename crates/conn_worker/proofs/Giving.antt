@@ -119,7 +119,7 @@ module _ (service : Service) (session : SessionState) (fed : List ℕ) (followed
             ∙ l.whole ∙ ap (λ (ss : List model.Step). ss ++ l.added) (sym steps_done);
       }
 
-  -- the same if no line was given up later
+  -- the steps of a longer stream, if no line was given up later
   goes_on : (more : List ℕ) → (added : List model.Step) × (line_steps service.config service.names (given_up_of followed) (lines_of (fed ++ more)) ≡ steps_in followed ++ added)
   goes_on more =
       let g = goes [] more (All-nil (λ k. length followed ≤ k)) in
@@ -270,7 +270,7 @@ given_first service session fed more followed one has going = by_end (is_end one
     by_end false goes = given_prefix service session fed (followed ++ one ∷ []) has more
         (ap (list_any is_end) (steps_in-more followed one) ∙ list_any-more is_end (steps_in followed) one.step going goes)
 
--- a step that was given and not followed is the first one that was not
+-- a step that was given and not executed is the first one that was not
 pub given_next : (service : Service) (session : SessionState) (fed more : List ℕ) (followed : List Followed) (one : Followed)
     → HasGiven service session fed (followed ++ one ∷ []) → list_any is_end (steps_in followed) ≡ false → is_lost one.step ≡ false
     → slice_get (steps_of service followed (fed ++ more)) (length followed) ≡ Some one.step

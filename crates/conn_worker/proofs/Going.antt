@@ -1,10 +1,11 @@
--- A connection goes from look to look and from step to step.
+-- A connection goes from read to read and from step to step.
 use Rattle.std.proofs.Common.{◌≡◌, ℕ, ◌+◌, false, List, [], ◌∷◌, ◌++◌, length, refl, sym, ap, subst, ◌∙◌, arith, append-nil}
 use Rattle.std.specs.Prelude.{Option, Some, None, slice_get}
 use Rattle.std.specs.List.{list_any}
 use Rattle.std.proofs.lemmas.List.Elements.{All-nil}
 use Rattle.amcp_text.specs.Lines.{lines_of}
 use Rattle.play_types.specs.History.{stop_at}
+use Rattle.play_types.specs.declared.event.Event.{Event}
 use Rattle.history_model.specs.commands.Channels.{AreAimed}
 use Rattle.history_model.specs.sessions.Request.{tokens}
 use Rattle.history_model.specs.sessions.Session as model
@@ -17,6 +18,7 @@ use Rattle.play_session.specs.Step.{viewed}
 use Rattle.play_session.specs.declared.step.Step.{Step}
 use Rattle.stage_lock.specs.Views.{PassView}
 use Rattle.stage_lock.specs.Calls.{Looks}
+use Rattle.stage_lock.proofs.Given.{none_since}
 use Rattle.stage_lock.proofs.Prefixes.{prefix_self}
 use Rattle.conn_worker.specs.Followed.{Service, Followed, number_asked, sent_bytes, steps_in, steps_of}
 use Rattle.conn_worker.specs.Rounds.{Look, Got, Nothing, Round, LeavesOpen, bytes_in, finds_in, followed_in, idle_round, look_bytes}
@@ -56,7 +58,7 @@ begins service before session represents batch going running aimed =
       caught_up = caught_up_at_start service;
     }
 
--- a look found a piece
+-- a read found a piece
 pub reads_piece : (past : Past) (now : Now) (piece : List ℕ) (link : SinkState) → IsBetweenLooks past now → link ≡ after_read now.standing.link piece
     → IsUnderWay (with_piece past piece []) (bytes_in past.rounds) (record { standing = record { pass = now.standing.pass; link = link }; session = now.session })
 reads_piece past now piece link between is =
@@ -96,7 +98,7 @@ feeds past fed taken standing before after way grows batch ended = record {
   running = way.running;
 }
 
--- one step more was given and followed
+-- one step more was given and executed
 pub follows_step : (past : Past) (piece : List ℕ) (followed : List Followed) (fed : List ℕ) (before after : Standing) (old new : SessionState) (result : Step) (step : model.Step)
     → IsUnderWay (with_piece past piece followed) fed (record { standing = before; session = old })
     → GivesStep past.service.config past.service.names result new (progress_of fed (followed_in (with_piece past piece followed).rounds))
@@ -129,7 +131,7 @@ follows_step past piece followed fed before after old new result step way gives 
       running = goes.running;
     }
 
--- all bytes were fed, and a step was followed for each line
+-- all bytes were fed, and a step was executed for each line
 pub catches_up : (past : Past) (now : Now) → IsUnderWay past (bytes_in past.rounds) now → length (lines_of (bytes_in past.rounds)) ≡ length (followed_in past.rounds)
     → IsBetweenLooks past now
 catches_up past now way all =
@@ -143,7 +145,7 @@ catches_up past now way all =
       };
     }
 
--- after a look that gave no bytes all steps were followed, as before
+-- after a read that gave no bytes all steps were executed, as before
 pub record IsQuiet (service : Service) (rounds : List Round) : Type 0 where
   pub all : steps_in (followed_in rounds) ≡ steps_of service (followed_in rounds) (bytes_in rounds)
   pub going : list_any is_end (steps_in (followed_in rounds)) ≡ false
@@ -161,7 +163,16 @@ stays_quiet service rounds look none caught_up =
       going = subst (λ (fs : List Followed). list_any is_end (steps_in fs) ≡ false) same caught_up.going;
     }
 
--- a look found nothing yet, and the history that was found then holds no stop
+-- a check of the stage after which no event of all is a stop found no stop
+pub looks_on : (given : List Event) (before after : PassView) → Looks before (λ history. None ≡ stop_at (given ++ history)) after → Looks before (λ history. None ≡ stop_at history) after
+looks_on given before after looks = record {
+  history = looks.history;
+  found = looks.found;
+  told = sym (none_since given looks.history (sym looks.told));
+  after = looks.after;
+}
+
+-- a read found nothing yet, and the history that was found then holds no stop
 pub waits : (past : Past) (now : Now) (link : SinkState) (pass : PassView) → IsBetweenLooks past now → link ≡ after_idle now.standing.link
     → (looks : Looks now.standing.pass (λ history. None ≡ stop_at history) pass)
     → IsBetweenLooks (record past { rounds = past.rounds ++ idle_round looks.history ∷ [] }) (record { standing = record { pass = pass; link = link }; session = now.session })

@@ -15,7 +15,7 @@ after_rounds-more : (service : Service) (rounds : List Round) (round : Round) (l
 after_rounds-more service [] round link = refl
 after_rounds-more service (first ∷ rounds) round link = after_rounds-more service rounds round (after_round service first link)
 
--- a look after which nothing was followed yet
+-- a read after which no step was executed yet
 pub after_rounds-looked : (service : Service) (rounds : List Round) (look : Look) (link : SinkState)
     → after_rounds service (rounds ++ record { look = look; followed = [] } ∷ []) link ≡ after_look look (after_rounds service rounds link)
 after_rounds-looked service rounds look link =
@@ -34,7 +34,7 @@ after_rounds-step service rounds look followed one link =
     ∙ sym (after_taking-after_taking before (replies service followed) (bytes one))
     ∙ ap (λ (s : SinkState). after_taking s (bytes one)) (sym (after_rounds-more service rounds (record { look = look; followed = followed }) link))
 
--- before each look all steps were followed: with one look more
+-- before each read all steps were executed: with one more read
 pub looks_more : (service : Service) (rounds : List Round) (round : Round)
     → ((k : ℕ) → k < length rounds → IsCaughtUp service (take k rounds)) → IsCaughtUp service rounds
     → (k : ℕ) → k < length (rounds ++ round ∷ []) → IsCaughtUp service (take k (rounds ++ round ∷ []))
@@ -45,7 +45,7 @@ looks_more service rounds round earlier now k within =
       | inr same ↦ subst (IsCaughtUp service) (sym (take_at rounds (round ∷ []) k (omega arith))) now
     ]
 
--- what follows the last look changes nothing before it
+-- the steps after the last read change nothing before it
 pub looks_step : (service : Service) (rounds : List Round) (old new : Round)
     → ((k : ℕ) → k < length (rounds ++ old ∷ []) → IsCaughtUp service (take k (rounds ++ old ∷ [])))
     → (k : ℕ) → k < length (rounds ++ new ∷ []) → IsCaughtUp service (take k (rounds ++ new ∷ []))

@@ -16,7 +16,7 @@ pub last_or-snoc : {A : Type 0} (o : Option A) (xs : List A) (x : A) → last_or
 last_or-snoc o [] x = refl
 last_or-snoc o (y ∷ ys) x = last_or-snoc (Some y) ys x
 
--- what stands at the seam of two lists
+-- the first element of the second of two joined lists
 pub slice_get-seam : {A : Type 0} (xs : List A) (x : A) (ys : List A) → slice_get (xs ++ x ∷ ys) (length xs) ≡ Some x
 slice_get-seam [] x ys = refl
 slice_get-seam (y ∷ xs) x ys = slice_get-seam xs x ys
@@ -53,7 +53,7 @@ bytes_in-more rounds round =
 pub number_idle-more : (rounds : List Round) (round : Round) → number_idle (rounds ++ round ∷ []) ≡ number_idle rounds + idle_looks round.look
 number_idle-more rounds round = sum_by_push (λ (r : Round). idle_looks r.look) rounds round
 
--- a round in which nothing was followed yet
+-- a round in which no step was executed yet
 pub followed_in-none : (rounds : List Round) (look : Look) → followed_in (rounds ++ record { look = look; followed = [] } ∷ []) ≡ followed_in rounds
 followed_in-none rounds look = followed_in-more rounds (record { look = look; followed = [] }) ∙ append-nil (followed_in rounds)
 

@@ -94,7 +94,7 @@ makes_nothing service step pass events asked =
       known = λ known. known;
     }
 
--- steps that were followed one after another, with one more
+-- steps that were executed one after another, with one more
 pub in_order_more : (service : Service) (seen : List Event) (followed : List Followed) (one : Followed) (between history : List Event)
     → AreInOrder service seen followed between → IsPrefix between one.found → history ≡ one.found ++ events_of service one
     → AreInOrder service seen (followed ++ one ∷ []) history
@@ -112,7 +112,7 @@ in_order_later service seen [] between history order grows = prefix_trans seen b
 in_order_later service seen (first ∷ followed) between history order grows =
     (order.0, in_order_later service (first.found ++ events_of service first) followed between history order.1 grows)
 
--- a pass that has followed nothing yet
+-- a pass that has executed nothing yet
 pub made_none : (service : Service) (pass : PassView) → HasMade service [] pass pass
 made_none service pass = record {
   stage = refl;
@@ -131,7 +131,7 @@ flat_map-more f start followed one =
     ∙ ap (λ (l : List _). start ++ l)
     (ap (λ (l : List _). flat_map f followed ++ l) (sym (append-nil (f one))) ∙ sym (flat_map-append f followed (one ∷ [])))
 
--- a pass that followed one step more
+-- a pass that executed one step more
 pub made_more : (service : Service) (followed : List Followed) (one : Followed) (before between after : PassView)
     → HasMade service followed before between → MakesStep service one between after
     → HasMade service (followed ++ one ∷ []) before after
@@ -152,7 +152,7 @@ made_more service followed one before between after had makes =
           (makes.known (subst (λ (n : ℕ). made_by n between.seen ≡ between.made) (sym had.number) (had.known known)));
     }
 
--- a pass that looked once more
+-- a pass that checked the stage once more
 pub made_looked : (service : Service) (followed : List Followed) (before between after : PassView) (history : List Event)
     → HasMade service followed before between → IsFound between history → after ≡ looked between history
     → HasMade service followed before after

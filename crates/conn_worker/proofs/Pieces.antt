@@ -1,4 +1,4 @@
--- A piece that was read is fed to the session, and its steps are followed.
+-- A piece that was read is fed to the session, and its steps are executed.
 use Rattle.std.proofs.Common.{◌≡◌, ◌≢◌, ℕ, ◌+◌, ◌-◌, ◌≤◌, Bool, true, false, List, [], ◌++◌, take, drop, length, refl, sym, ap, subst, ◌∙◌, arith, append_assoc, append-nil}
 use Rattle.std.specs.Prelude.{Option, Some, None, Result, Ok, Err}
 use Rattle.std.proofs.lemmas.List.{take_all, take-append-drop, length-drop}

@@ -1,4 +1,4 @@
--- What a session gives next is followed.
+-- The step that a session gives next is executed.
 use Rattle.std.proofs.Common.{◌≡◌, ◌≢◌, ℕ, ◌<◌, false, List, [], ◌∷◌, ◌++◌, length, refl, sym, subst, arith}
 use Rattle.std.proofs.lemmas.Option.{get_or_from_slice_get, slice_get_within}
 use Rattle.play_types.specs.Config.{ConfigView}
@@ -42,7 +42,7 @@ ends_at past piece followed before after step (Ended at) here stops =
 
 module _ (past : Past) (piece : List ℕ) (followed : List Followed) (fed : List ℕ) (before after : Standing) (old new : SessionState)
     (way : IsUnderWay (with_piece past piece followed) fed (record { standing = before; session = old })) where
-  -- a step that was given and followed
+  -- a step that was given and executed
   given_goes : (result : Step) (step : model.Step) (has : HasToken result new (progress_of fed (followed_in (with_piece past piece followed).rounds))) → viewed result new.batch ≡ Some step → new.ended ≡ false → AreAimed past.service.config new.batch
       → GivesStep past.service.config past.service.names result new (progress_of fed (followed_in (with_piece past piece followed).rounds))
       → GoesOn past.service has.token step before after

@@ -1,4 +1,4 @@
--- What a link tells after the rounds of a connection.
+-- What a link has recorded after the rounds of a connection.
 use Rattle.std.proofs.Common.{◌≡◌, ℕ, ◌+◌, ◌-◌, ◌^◌, ◌<◌, ◌≤◌, true, List, [], ◌∷◌, ◌++◌, length, refl, sym, ap, ap₂, ◌∙◌, arith, append-nil, append_assoc, length-append}
 use Rattle.std.specs.Prelude.{Option, Some, None, min, max, option_map}
 use Rattle.std.proofs.lemmas.Grind.{flat_map-append}
@@ -60,7 +60,7 @@ rounds_read service (round ∷ rounds) link =
     rounds_read service rounds (after_round service round link)
     ∙ read_more round.look link.reading link.taken link.faults link.mark link.idle link.at_fault (bytes_in rounds)
 
--- the count of idle looks never falls, and below its greatest value it rises by one for each
+-- the count of idle reads never falls, and below its greatest value it rises by one for each
 idle_grows : (look : Look) (link : SinkState) → link.idle ≤ (after_look look link).idle
 idle_grows (Got bytes) link = omega arith
 idle_grows End link = omega arith
@@ -100,7 +100,7 @@ rounds_idle service (round ∷ rounds) link below =
     counted : (start one more next last all : ℕ) → next ≡ start + one → last ≡ next + more → all ≡ one + more → last ≡ start + all
     counted start one more next last all first rest whole = omega arith
 
--- the looks were told
+-- the reads were recorded
 look_step : (service : Service) (taken added : List ℕ) (reading : Reading) (bytes : List ℕ) (rounds : List Round)
     → (reading.looks ++ record { taken = length taken; read = length reading.bytes } ∷ []) ++ looks_from service (length (taken ++ added)) (length (reading.bytes ++ bytes)) rounds
     ≡ reading.looks ++ record { taken = length taken; read = length reading.bytes } ∷ looks_from service (length taken + length added) (length reading.bytes + length bytes) rounds
@@ -109,7 +109,7 @@ look_step service taken added reading bytes rounds =
     append_assoc reading.looks (one ∷ []) (looks_from service (length (taken ++ added)) (length (reading.bytes ++ bytes)) rounds)
     ∙ ap₂ (λ (a b : ℕ). reading.looks ++ one ∷ looks_from service a b rounds) (length-append taken added) (length-append reading.bytes bytes)
 
--- what a link tells of its looks, if it tells of them
+-- what a link has recorded of its reads, if it records them
 abbrev told_looks : SinkState → Option (List told.Look)
 told_looks link = option_map (λ (r : Reading). r.looks) link.reading
 

@@ -19,28 +19,28 @@ pub record Standing : Type 0 where
   pub pass : PassView
   pub link : SinkState
 
--- the steps were followed one after another: the first found a history that begins with `seen`, each next one a history that
--- begins with what the one before it found and made, and so does `history` in the end
+-- the steps were executed one after another: the first found a history that begins with `seen`, each next one a history that
+-- begins with what the one before it found and made, and `history` begins with what the last one found and made
 abbrev pub AreInOrder : Service → List Event → List Followed → List Event → Type 0
 AreInOrder service seen [] history = IsPrefix seen history
 AreInOrder service seen (one ∷ more) history =
     IsPrefix seen one.found × AreInOrder service (one.found ++ events_of service one) more history
 
--- a pass followed these steps, and made their events alone
+-- a pass executed these steps, and made their events and no others
 pub record HasMade (service : Service) (followed : List Followed) (before after : PassView) : Type 0 where
   pub stage : after.stage ≡ before.stage
   pub number : after.number ≡ before.number
   pub ends : after.ends ≡ before.ends
-  -- each event stands in the history at its place
+  -- each event is in the history at its place
   pub order : AreInOrder service before.seen followed after.seen
-  -- the own events of the pass are those from before, and just those of the steps, in order
+  -- the own events of the pass are those from before, and then exactly those of the steps, in order
   pub own : own_by before.number after.seen ≡ own_by before.number before.seen ++ flat_map (events_of service) followed
   pub made : after.made ≡ before.made ++ flat_map (positions_of service) followed
-  -- the positions that the pass made are those of its own events, if they were before
+  -- the positions that the pass made are those of its own events, if this was so before
   pub known : made_by before.number before.seen ≡ before.made → made_by before.number after.seen ≡ after.made
 
--- after these rounds all steps of the bytes that were read have been followed, and none of them is an end. No look found the end of
--- the link, and none that found nothing yet found a stop
+-- after these rounds all steps of the bytes that were read have been executed, and none of them is an end. No read found the end of
+-- the link, and no check of the stage after an idle read found a stop
 pub record IsCaughtUp (service : Service) (rounds : List Round) : Type 0 where
   pub all : steps_in (followed_in rounds) ≡ steps_of service (followed_in rounds) (bytes_in rounds)
   pub going : list_any is_end (steps_in (followed_in rounds)) ≡ false
@@ -52,29 +52,29 @@ pub record Talk : Type 0 where
   pub failure : Failure
   pub pass : PassView
 
--- all steps that were followed
+-- all steps that were executed
 abbrev pub covered : Talk → List Followed
 covered talk = followed_in talk.rounds ++ unsent talk.failure
 
--- every step of the bytes that were read was followed
+-- every step of the bytes that were read was executed
 abbrev pub AreAllCovered : Service → Talk → Type 0
 AreAllCovered service talk = steps_in (covered talk) ≡ steps_of service (covered talk) (bytes_in talk.rounds)
 
--- what the last look found
+-- what the last read found
 abbrev pub last_look : List Round → Option Look
 last_look rounds = last_or None (looks_in rounds)
 
--- the last look, with the steps that were followed after it
+-- the last read, with the steps that were executed after it
 abbrev pub last_round : List Round → Option Round
 last_round rounds = last_or None rounds
 
--- all steps were followed. The last look found nothing yet, and the history that was found then is the one that the pass has seen
+-- all steps were executed. The last read found nothing yet, and the history that was found then is the one that the pass has seen
 pub record HasFoundStop (service : Service) (talk : Talk) : Type 0 where
   pub all : AreAllCovered service talk
   pub last : last_round talk.rounds ≡ Some (idle_round talk.pass.seen)
 
--- the first step that was not followed is an ask or a kill. The last look found bytes, and no look found the end of the link or a
--- stop
+-- the first step that was not executed is a command, a batch or a kill. The last read found bytes, and no read found the end of the
+-- link or a stop
 pub record IsNextAsked (service : Service) (talk : Talk) : Type 0 where
   pub step : Step
   pub next : slice_get (steps_of service (covered talk) (bytes_in talk.rounds)) (length (covered talk)) ≡ Some step
@@ -83,12 +83,12 @@ pub record IsNextAsked (service : Service) (talk : Talk) : Type 0 where
   pub last : last_look talk.rounds ≡ Some (Got piece)
   pub left_open : AreLeftOpen talk.rounds
 
--- the step that was followed last
+-- the step that was executed last
 abbrev pub last_step : List Followed → Option Step
 last_step followed = last_or None (steps_in followed)
 
--- the last look found the link's end, and nothing followed it, or the client said BYE, and no look found the end: the link did not
--- fail, and no stop was seen
+-- the link did not fail, no stop was seen, and all steps were executed. The last read found the end of the link, and no step came after
+-- it; or the last step is BYE, and no read found the end of the link
 pub record IsOver (service : Service) (talk : Talk) : Type 0 where
   pub whole : talk.failure ≡ NoFailure
   pub running : stop_at talk.pass.seen ≡ None
@@ -96,16 +96,16 @@ pub record IsOver (service : Service) (talk : Talk) : Type 0 where
   pub cause : (last_round talk.rounds ≡ Some end_round)
       ⊎ ((last_step (covered talk) ≡ Some EndConnection) × AreLeftOpen talk.rounds)
 
--- the last step is a kill, which made the stop of the history; its reply was written as far as the link did not fail. No look found
--- the end of the link, and none a stop
+-- no read failed, and all steps were executed. The last step is a kill, which made the stop of the history; its reply was written unless
+-- the link failed. No read found the end of the link, and none a stop
 pub record IsKilled (service : Service) (talk : Talk) : Type 0 where
   pub read : talk.failure ≢ ReadFailed
   pub all : AreAllCovered service talk
   pub cause : last_step (covered talk) ≡ Some KillServer
   pub left_open : AreLeftOpen talk.rounds
 
--- the link failed: no step that was followed is an end, no look found the end of the link, and no stop was seen. Before a read that
--- failed all steps had been followed
+-- the link failed: no executed step is an end, no read found the end of the link, and no stop was seen. Before a read that failed all
+-- steps had been executed
 pub record IsLinkFault (service : Service) (talk : Talk) : Type 0 where
   pub failed : talk.failure ≢ NoFailure
   pub going : list_any is_end (steps_in (covered talk)) ≡ false
@@ -113,24 +113,23 @@ pub record IsLinkFault (service : Service) (talk : Talk) : Type 0 where
   pub caught_up : talk.failure ≡ ReadFailed → IsCaughtUp service talk.rounds
   pub running : stop_at talk.pass.seen ≡ None
 
--- the history holds a stop at this position, and no step that was followed is an end, so another call made it: the last look found
--- nothing yet, and then the stop, after all steps had been followed, or the first step that was not followed was asked for, and the
--- stage refused it. No look found the end of the link
+-- all events hold a stop at this position, and no executed step is an end, so another call made it. Either all steps were executed, the
+-- last read found nothing yet, and the check of the stage then found the stop; or the stage refused the first step that was not
+-- executed. No read found the end of the link
 pub record IsEnded (service : Service) (talk : Talk) (at : ℕ) : Type 0 where
   pub whole : talk.failure ≡ NoFailure
   pub going : list_any is_end (steps_in (covered talk)) ≡ false
-  pub stopped : stop_at talk.pass.seen ≡ Some at
+  pub stopped : stop_at (service.given ++ talk.pass.seen) ≡ Some at
   pub next : HasFoundStop service talk ⊎ IsNextAsked service talk
 
--- the talk ended so
+-- what holds of the talk, by the end
 abbrev pub EndsBy : Service → Talk → LinkEnd → Type 0
 EndsBy service talk Over = IsOver service talk
 EndsBy service talk Killed = IsKilled service talk
 EndsBy service talk LinkFault = IsLinkFault service talk
 EndsBy service talk (Ended at) = IsEnded service talk at
 
--- 1 if the stage was asked for one step more and refused it, since another call had stopped it: then the call ended after a look that
--- found bytes
+-- 1 if the stage was asked for one more step and refused it because another call had stopped it: then the last read found bytes
 abbrev pub number_refused : LinkEnd → Option Look → ℕ
 number_refused Over look = 0
 number_refused Killed look = 0
@@ -140,29 +139,29 @@ number_refused (Ended at) (Some (Got bytes)) = 1
 number_refused (Ended at) (Some End) = 0
 number_refused (Ended at) (Some (Nothing history)) = 0
 
--- what one call to serve a link did, from the pass and the link before it to those after it. There are rounds, each a look at
--- the link and the steps that were followed then, and a failure of the link, or none
+-- what one call to serve a link did, from the pass and the link before it to those after it. There are rounds, each a read of
+-- the link and the steps that were executed after it, and a failure of the link, or none
 pub record IsExplained (service : Service) (end : LinkEnd) (before after : Standing) : Type 0 where
   pub rounds : List Round
   pub failure : Failure
-  -- the steps that were followed are the first ones of the bytes that were read, in order
+  -- the executed steps are the first steps of the bytes that were read, in order
   pub steps : let followed = followed_in rounds ++ unsent failure in
       IsPrefix (steps_in followed) (steps_of service followed (bytes_in rounds))
-  -- and each has the token of its line, which the reply to it has
+  -- each step has the token of its line, which its reply has too
   pub tokens : IsPrefix (tokens_in (followed_in rounds ++ unsent failure)) (tokens (bytes_in rounds))
   -- their events, and no others, are what the pass made, each at its place in the history
   pub made : HasMade service (followed_in rounds ++ unsent failure) before.pass after.pass
-  -- each step, and each look that found nothing yet, found a history that begins with what was found and made before it
+  -- each step, and each check of the stage after an idle read, found a history that begins with what was found and made before it
   pub found : AreInOrder service before.pass.seen (finds_in rounds ++ unsent failure) after.pass.seen
-  -- before each look all steps of the bytes read until then were followed, none of them was an end, and no look had found the end of
-  -- the link or a stop: no look comes after an end
+  -- before each read all steps of the bytes read until then were executed, none of them was an end, and no read had found the end of
+  -- the link or a stop: no read comes after an end
   pub looks : (k : ℕ) → k < length rounds → IsCaughtUp service (take k rounds)
-  -- the link was called just so: after each look the replies to the steps were written, in order, before the next look; a failure comes
-  -- after that
+  -- the calls of the link: after each read the replies to its steps were written, in order, before the next read; a failure comes
+  -- last
   pub link : IsAfterFailure service failure (after_rounds service rounds before.link) after.link
-  -- the pass won the turn once for each ask and each kill, once for each look that found nothing yet, and once if the stage refused a
-  -- step
+  -- the pass won the turn of the stage once for each command, batch and kill, once for each read that found nothing yet, and once if the
+  -- stage refused a step
   pub turns : after.pass.turns ≡ before.pass.turns + number_asked (followed_in rounds ++ unsent failure) + number_idle rounds
       + number_refused end (last_look rounds)
-  -- what the end tells
+  -- what holds of the talk, by the end
   pub ending : EndsBy service (record { rounds = rounds; failure = failure; pass = after.pass }) end

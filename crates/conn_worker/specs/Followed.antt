@@ -1,5 +1,5 @@
--- What is said of one step of a connection that was followed.
-use Rattle.std.specs.Prelude.{ℕ, Bool, false, Option, Some, None, List, [], length, filter_map, flat_map, map, sum_by}
+-- One executed step of a connection: its event, its reply, and its turn at the stage.
+use Rattle.std.specs.Prelude.{ℕ, Bool, false, Option, Some, None, List, [], ◌++◌, length, filter_map, flat_map, map, sum_by}
 use Rattle.std.specs.List.{enumerate_from, range_with_len}
 use Rattle.play_types.specs.Config.{ConfigView}
 use Rattle.play_types.specs.Media.{MediaNameView}
@@ -12,21 +12,23 @@ use Rattle.history_model.specs.sessions.Session.{Step, Local, Ask, AskBatch, Kil
 use Rattle.history_model.specs.text.Replies.{reply_bytes}
 use Rattle.play_session.specs.Step.{is_out_of_memory}
 
--- what a connection is served with: the configuration, the names of the media table, and the tag of what it asks for
+-- what a connection is served with: the configuration, the names of the media table, the tag of what it asks for, and the events that
+-- the stage was given before it was shared
 pub record Service : Type 0 where
   pub config : ConfigView
   pub names : List MediaNameView
   pub tag : Tag
+  pub given : List Event
 
--- a step of a connection that was followed: the history that was found then, whether the stage had no memory for what the
--- step asks for, and the token of the line
+-- an executed step of a connection: the step, the history since the stage was shared that it found, whether the stage had no memory for
+-- it, and the token of its line
 pub record Followed : Type 0 where
   pub step : Step
   pub found : List Event
   pub no_memory : Bool
   pub token : Option (List ℕ)
 
--- a look at the stage, as a step that does nothing: it found this history, and made no event
+-- a check of the stage, as a step that does nothing: it found this history, and made no event
 abbrev pub stage_look : List Event → Followed
 stage_look history = record { step = Skip; found = history; no_memory = false; token = None }
 
@@ -34,15 +36,15 @@ stage_look history = record { step = Skip; found = history; no_memory = false; t
 abbrev pub playout_of : Service → Playout
 playout_of service = record { config = service.config; names = service.names; clips = []; digests = false }
 
--- when the stage was asked for a step
+-- the turn of a step: it comes after the events that the stage was given and the history that was found
 abbrev pub turn_of : Service → Followed → Turn
-turn_of service one = record { playout = playout_of service; events = one.found; tag = service.tag; no_memory = one.no_memory }
+turn_of service one = record { playout = playout_of service; events = service.given ++ one.found; tag = service.tag; no_memory = one.no_memory }
 
 -- the event of a step, if it made one: its command, its batch or its stop
 abbrev pub events_of : Service → Followed → List Event
 events_of service one = step_events (turn_of service one) (Some one.step)
 
--- the position of that event in the history
+-- the position of that event in the history since the stage was shared
 abbrev pub positions_of : Service → Followed → List ℕ
 positions_of service one = range_with_len (length one.found) (length (events_of service one))
 
@@ -70,7 +72,7 @@ steps_in followed = map (λ (one : Followed). one.step) followed
 abbrev pub tokens_in : List Followed → List (Option (List ℕ))
 tokens_in followed = map (λ (one : Followed). one.token) followed
 
--- whether a step gives its line up, out of memory
+-- whether a step gives its line up because memory ran out
 abbrev pub is_lost : Step → Bool
 is_lost (Local answer) = is_out_of_memory answer
 is_lost (Ask command) = false
@@ -83,7 +85,7 @@ is_lost Skip = false
 abbrev pub given_up_of : List Followed → List ℕ
 given_up_of followed = filter_map number_given_up (enumerate_from 0 (map (λ (one : Followed). is_lost one.step) followed))
 
--- all steps of these bytes, of which the lines of these steps were given up that say so
+-- all steps of these bytes, if the lines that the executed steps gave up are given up
 abbrev pub steps_of : Service → List Followed → List ℕ → List Step
 steps_of service followed bytes = steps service.config service.names (given_up_of followed) bytes
 
@@ -96,6 +98,6 @@ times_asked KillServer = 1
 times_asked EndConnection = 0
 times_asked Skip = 0
 
--- how many of these steps are asks and kills
+-- how often the stage is asked for these steps
 abbrev pub number_asked : List Followed → ℕ
 number_asked followed = sum_by (λ (one : Followed). times_asked one.step) followed

@@ -1,4 +1,4 @@
--- The looks at a link, and what followed each of them.
+-- The reads of a link, and the steps that were executed after each.
 use Rattle.std.specs.Prelude.{◌≡◌, ℕ, ◌+◌, None, List, [], ◌∷◌, ◌++◌, All, flat_map, length, map, sum_by}
 use Rattle.play_types.specs.History.{stop_at}
 use Rattle.play_types.specs.declared.event.Event.{Event}
@@ -8,33 +8,33 @@ use Rattle.play_outside.specs.Sink.{Fails}
 use Rattle.play_outside.specs.Link.{after_read, after_end, after_idle, after_failed_read}
 use Rattle.conn_worker.specs.Followed.{Service, Followed, replies, sent_bytes, stage_look}
 
--- what a look at a link found: bytes, the end, or nothing yet. In the last case the stage was looked at next, and this is the history
+-- what a read of a link found: bytes, the end, or nothing yet. In the last case the stage was checked next, and this is the history
 -- that was found
 pub data Look : Type 0 where
   Got : List ℕ → Look
   End : Look
   Nothing : List Event → Look
 
--- a look, and the steps that were followed after it and before the next look, each with its reply written before the next step
+-- a read, and the steps that were executed after it and before the next read, each with its reply written before the next step
 pub record Round : Type 0 where
   pub look : Look
   pub followed : List Followed
 
--- the round of a look that found the end of the link: nothing follows it
+-- the round of a read that found the end of the link: no step comes after it
 abbrev pub end_round : Round
 end_round = record { look = End; followed = [] }
 
--- the round of a look that found nothing yet, and then this history
+-- the round of a read that found nothing yet, and of a check of the stage that then found this history
 abbrev pub idle_round : List Event → Round
 idle_round history = record { look = Nothing history; followed = [] }
 
--- the bytes that a look found
+-- the bytes that a read found
 abbrev pub look_bytes : Look → List ℕ
 look_bytes (Got bytes) = bytes
 look_bytes End = []
 look_bytes (Nothing history) = []
 
--- 1 if a look found nothing yet
+-- 1 if a read found nothing yet
 abbrev pub idle_looks : Look → ℕ
 idle_looks (Got bytes) = 0
 idle_looks End = 0
@@ -44,62 +44,62 @@ idle_looks (Nothing history) = 1
 abbrev pub bytes_in : List Round → List ℕ
 bytes_in rounds = flat_map (λ (round : Round). look_bytes round.look) rounds
 
--- all steps that were followed
+-- all steps that were executed
 abbrev pub followed_in : List Round → List Followed
 followed_in rounds = flat_map (λ (round : Round). round.followed) rounds
 
--- how many looks found nothing yet
+-- how many reads found nothing yet
 abbrev pub number_idle : List Round → ℕ
 number_idle rounds = sum_by (λ (round : Round). idle_looks round.look) rounds
 
--- what the looks found, in order
+-- what the reads found, in order
 abbrev pub looks_in : List Round → List Look
 looks_in rounds = map (λ (round : Round). round.look) rounds
 
--- a look leaves the connection open: it did not find the end of the link, and, if it found nothing yet, no stop either
+-- a read leaves the connection open: it did not find the end of the link, and, if it found nothing yet, the history has no stop
 abbrev pub LeavesOpen : Look → Type 0
 LeavesOpen (Got bytes) = Unit {0}
 LeavesOpen End = ⊥
 LeavesOpen (Nothing history) = stop_at history ≡ None
 
--- each look left the connection open
+-- each read left the connection open
 abbrev pub AreLeftOpen : List Round → Type 0
 AreLeftOpen rounds = All LeavesOpen (looks_in rounds)
 
--- the look at the stage that followed a look which found nothing yet
+-- the check of the stage after a read that found nothing yet
 abbrev pub stage_looks : Look → List Followed
 stage_looks (Got bytes) = []
 stage_looks End = []
 stage_looks (Nothing history) = stage_look history ∷ []
 
--- all steps that were followed and all looks at the stage, in order
+-- all executed steps and all checks of the stage, in order
 abbrev pub finds_in : List Round → List Followed
 finds_in rounds = flat_map (λ (round : Round). stage_looks round.look ++ round.followed) rounds
 
--- the link after a look
+-- the link after a read
 abbrev pub after_look : Look → SinkState → SinkState
 after_look (Got bytes) link = after_read link bytes
 after_look End link = after_end link
 after_look (Nothing history) link = after_idle link
 
--- the link after a look, and after the replies to the steps that were followed were written
+-- the link after a read, and after the replies to the steps executed after it were written
 abbrev pub after_round : Service → Round → SinkState → SinkState
 after_round service round link = after_taking (after_look round.look link) (replies service round.followed)
 
--- the link after these looks and replies, in their order
+-- the link after these reads and replies, in order
 abbrev pub after_rounds : Service → List Round → SinkState → SinkState
 after_rounds service [] link = link
 after_rounds service (round ∷ rounds) link = after_rounds service rounds (after_round service round link)
 
--- what a link tells of its looks in these rounds, if it had taken and given so many bytes before: a look comes when the replies
--- to all steps before it have been taken
+-- what a link records of its reads in these rounds, after it took `taken` bytes and gave `read` bytes: at each read the replies to all
+-- steps before it have been taken
 abbrev pub looks_from : Service → ℕ → ℕ → List Round → List told.Look
 looks_from service taken read [] = []
 looks_from service taken read (round ∷ rounds) =
     record { taken = taken; read = read }
     ∷ looks_from service (taken + length (replies service round.followed)) (read + length (look_bytes round.look)) rounds
 
--- whether a link failed in the end: in no call, in a read, or in a write of the reply to this step, which was followed too
+-- where a link failed: in no call, in a read, or in a write of the reply to this step, which was executed
 pub data Failure : Type 0 where
   NoFailure : Failure
   ReadFailed : Failure

@@ -11,4 +11,10 @@ pub record HasStageOfConfig (server : Server) : Type 0 where
 
 -- what the links of a door are served with by the worker whose pass has this number
 abbrev pub setting_in : {L : Type 0} → Server → ℕ → (L → SinkState) → Setting L
-setting_in server number tells = record { config = server.config.now; names = server.media.now; worker = number; tells = tells }
+setting_in server number tells = record {
+  config = server.config.now;
+  names = server.media.now;
+  worker = number;
+  tells = tells;
+  given = server.stage.now.sizes.given;
+}

@@ -1,4 +1,4 @@
-//! What is done for one step of a connection.
+//! The execution of one step of a connection.
 ghost use Rattle.std.specs.Prelude.{◌≡◌, ◌<◌, ℕ, List, None, Option, IfOk, false, length, option_map};
 ghost use Rattle.play_types.specs.History.{stop_at};
 ghost use Rattle.history_model.specs.commands.Channels.{IsAimed, AreAimed};
@@ -14,13 +14,13 @@ use crate::server::Server;
 use amcp_text::ReqToken;
 use play_outside::{Link, Sent};
 use play_session::Step;
-use play_types::{Answer, Cmd, Name, Reply};
+use play_types::{Answer, Cmd, JOURNAL_FULL, Name, OUT_OF_MEMORY, Reply};
 use return_codes::send_reply;
 use stage_core::{ApplyFault, Ended};
 use stage_lock::Pass;
 use std::sync::Wait;
 
-/// A connection of a server: it has this number, at least 1, among those of its pass.
+/// A connection of a server. Its number, at least 1, is that of its session among those of its pass.
 #[derive(Clone, Copy)]
 pub(crate) struct Connection<'a> {
     pub server: Server<'a>,
@@ -28,8 +28,8 @@ pub(crate) struct Connection<'a> {
 }
 
 impl Connection<'_> {
-    /// Executes a step, and sends its reply with the token of its line, if there is one. `batch` holds the commands of a batch that
-    /// is asked for.
+    /// Executes a step, and sends its reply with the token of its line, if there is one. `batch` holds the commands of an
+    /// `AskBatch` step.
     pub(crate) fn follow<R: Wait, L: Link>(
         &self,
         rt: &R,
@@ -66,7 +66,7 @@ impl Connection<'_> {
         }
     }
 
-    /// Asks the stage for a command, and returns the reply.
+    /// Asks the stage to execute `cmd`, and returns the reply.
     fn ask<R: Wait>(&self, rt: &R, pass: &mut Pass, cmd: Cmd) -> Result<Reply, LinkEnd>
         requires ready { IsReady self.now }
         requires of { pass.old.stage ≡ self.now.server.stage.now }
@@ -82,7 +82,7 @@ impl Connection<'_> {
         reply_to(cmd.name(), answered)
     }
 
-    /// Asks the stage for a batch, and returns the reply.
+    /// Asks the stage to execute `cmds` as a batch, and returns the reply.
     fn ask_batch<R: Wait>(&self, rt: &R, pass: &mut Pass, cmds: &[Cmd]) -> Result<Reply, LinkEnd>
         requires ready { IsReady self.now }
         requires of { pass.old.stage ≡ self.now.server.stage.now }
@@ -99,7 +99,7 @@ impl Connection<'_> {
         reply_to(Name::Commit, answered)
     }
 
-    /// Stops the stage. If this call made the stop, it sends the reply, as far as the link takes it.
+    /// Stops the stage. If this call made the stop, it sends the reply, and ignores a failure of the link.
     fn kill<R: Wait, L: Link>(
         &self,
         rt: &R,
@@ -122,7 +122,7 @@ impl Connection<'_> {
         }
     }
 
-    /// Sends a reply, with a token if there is one.
+    /// Sends `reply`, with `token` if there is one.
     fn send<L: Link>(
         &self,
         reply: &Reply,
@@ -142,15 +142,15 @@ impl Connection<'_> {
     }
 }
 
-/// Returns the reply to a command or a batch of this name: 503 if the journal is full, and 501 if the stage had no
-/// memory.
+/// Returns the reply to a command or a batch of this name: 503 if the journal is full, and 501 if the stage had no memory. Returns
+/// `Ended` if the stage was stopped before.
 fn reply_to(name: Name, answered: Result<Answer, ApplyFault>) -> Result<Reply, LinkEnd>
     ensures { result ≡ replied name answered }
 {
     match answered {
         Ok(answer) => Ok(Reply::to_answer(name, answer)),
-        Err(ApplyFault::JournalFull { .. }) => Ok(Reply::Refused(503, name)),
-        Err(ApplyFault::OutOfMemory) => Ok(Reply::Refused(501, name)),
+        Err(ApplyFault::JournalFull { .. }) => Ok(Reply::Refused(JOURNAL_FULL, name)),
+        Err(ApplyFault::OutOfMemory) => Ok(Reply::Refused(OUT_OF_MEMORY, name)),
         Err(ApplyFault::Ended { at }) => Err(LinkEnd::Ended { at }),
     }
 }

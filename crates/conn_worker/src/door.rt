@@ -17,11 +17,12 @@ use stage_lock::{Pass, SharedStage};
 use std::alloc::Global;
 use std::sync::Wait;
 
-/// Serves the links of a door, one after another, until the door is closed or failed, or the stage was stopped.
+/// Serves the links of a door, one after another, until the door is closed or fails, the stage is stopped, or [`MAX_SESSIONS`] links
+/// were served.
 ///
-/// Each link is served as the next session, from 1 on, and given back. After each link, and if the door has no link yet, the worker
-/// checks whether the stage was stopped, before it asks the door again. So links that come and go do not keep it from ending. If the
-/// door fails, it stops the stage with tag 0.0, unless a stop came before.
+/// Each link is served as the next session, from 1 on, and given back. After each link, and when the door has no link yet, the worker
+/// checks whether the stage was stopped before it asks the door again, so that links that come and go do not keep it from ending. If
+/// the door fails, the worker stops the stage with tag 0.0, unless a stop came before.
 pub fn work<R: Wait, D: Listener>(
     rt: &R,
     alloc: Global,
@@ -39,7 +40,7 @@ pub fn work<R: Wait, D: Listener>(
     requires away { (D.state door.old).away < MOST_AWAY }
     ensures of { pass.new.stage ≡ stage.now }
     ensures worked { HasWorked
-        (record { config = config.now; names = media.now; worker = pass.old.number; tells = D.Line.state })
+        (record { config = config.now; names = media.now; worker = pass.old.number; tells = D.Line.state; given = stage.now.sizes.given })
         result (record { pass = pass.old; door = D.state door.old }) (record { pass = pass.new; door = D.state door.new }) }
 {
     let server = Server {
@@ -52,9 +53,10 @@ pub fn work<R: Wait, D: Listener>(
 }
 
 impl Server<'_> {
-    /// Serves the links of a door, one after another, until the door is closed or failed, or the stage was stopped.
+    /// Serves the links of a door, one after another, until the door is closed or fails, the stage is stopped, or [`MAX_SESSIONS`]
+    /// links were served.
     ///
-    /// It does what [`work`](crate::work) does with what the server holds.
+    /// It does what [`work`](crate::work) does, with the stage, the configuration and the names of the server.
     pub fn work<R: Wait, D: Listener>(
         &self,
         rt: &R,
@@ -83,8 +85,8 @@ impl Server<'_> {
         unreachable!()
     }
 
-    /// Asks the door once, after `served` links were served, and returns how many were served then. A link that came is served. Then,
-    /// and if there is none yet, the worker checks whether the stage was stopped.
+    /// Asks the door once, after `served` links were served, and returns the new count of links. A link that came is served. After it,
+    /// or if there is none yet, the worker checks whether the stage was stopped.
     fn ask_door<R: Wait, D: Listener>(
         &self,
         rt: &R,
@@ -119,7 +121,7 @@ impl Server<'_> {
         }
     }
 
-    /// Serves a link as the session of this number, gives it back, and checks whether the stage was stopped, unless that came to light
+    /// Serves a link as the session of this number, gives it back, and checks whether the stage was stopped, unless a stop was found
     /// while the link was served.
     fn serve_line<R: Wait, D: Listener>(
         &self,
@@ -148,11 +150,11 @@ impl Server<'_> {
         }
     }
 
-    /// Checks whether the history holds a stop: if it does, returns the end.
+    /// Returns `Ended` if the history holds a stop.
     fn look<R: Wait>(&self, rt: &R, pass: &mut Pass) -> Result<(), WorkEnd>
         requires { pass.old.stage ≡ self.now.stage.now }
         ensures of { pass.new.stage ≡ self.now.stage.now }
-        ensures looks { LooksAtStage result pass.old pass.new }
+        ensures looks { LooksAtStage self.now.stage.now.sizes.given result pass.old pass.new }
     {
         match self.stage.ended(rt, pass) {
             None => Ok(()),

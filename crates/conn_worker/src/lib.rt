@@ -1,8 +1,8 @@
 //! Connections that are served from one stage.
 //!
-//! [`serve_link`] reads a client's bytes from a link, asks the shared stage for what each line says, and writes the reply
-//! before it goes on to the next line. However the bytes are cut, the events of the connection stand in the stage's history
-//! once each and in their order, and each reply is the one that the definitions give after the history that was found.
+//! [`serve_link`] reads a client's bytes from a link, executes each line on the shared stage, and writes the reply before it
+//! goes on to the next line. However the bytes are split, the history of the stage has each event of the connection once and in
+//! order, and each reply is the one that the definitions give after the history that was found.
 //! [`work`] serves the links of a door, one after another. A [`Server`] holds what all connections of a server share.
 #![tactic(auto)]
 

@@ -21,10 +21,10 @@ use std::sync::Wait;
 /// The most bytes that are read from a link at once.
 const PIECE: usize = 4_096;
 
-/// Serves a link until its client has ended, the link failed, or the stage was stopped.
+/// Serves a link until its client ends, the link fails, or the stage is stopped.
 ///
-/// The connection is the one of this number, at least 1, among those of the pass. Its lines are followed one after another, and
-/// the reply to each is written before the next one is followed.
+/// `number`, at least 1, is that of the session among those of the pass. The lines are executed one after another, and the reply
+/// to each is written before the next one is executed.
 pub fn serve_link<R: Wait, L: Link>(
     rt: &R,
     alloc: Global,
@@ -42,7 +42,7 @@ pub fn serve_link<R: Wait, L: Link>(
     requires number { 1 ≤ number }
     requires running { stop_at pass.old.seen ≡ None }
     ensures of { pass.new.stage ≡ stage.now }
-    ensures explained { IsExplained (record { config = config.now; names = media.now; tag = tag_of pass.old.number number }) result
+    ensures explained { IsExplained (record { config = config.now; names = media.now; tag = tag_of pass.old.number number; given = stage.now.sizes.given }) result
         (record { pass = pass.old; link = L.state link.old }) (record { pass = pass.new; link = L.state link.new }) }
 {
     let server = Server {
@@ -55,7 +55,7 @@ pub fn serve_link<R: Wait, L: Link>(
 }
 
 impl Connection<'_> {
-    /// Serves a link until its client has ended, the link failed, or the stage was stopped.
+    /// Serves a link until its client ends, the link fails, or the stage is stopped.
     pub(crate) fn serve<R: Wait, L: Link>(
         &self,
         rt: &R,
@@ -114,7 +114,7 @@ impl Connection<'_> {
         }
     }
 
-    /// Feeds a piece to the session, and executes the step of each line.
+    /// Feeds `piece` to the session, and executes the step of each line that ends in it.
     fn take_piece<R: Wait, L: Link>(
         &self,
         rt: &R,

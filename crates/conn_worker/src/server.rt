@@ -4,10 +4,10 @@ use play_types::{Config, MediaNames};
 use stage_lock::SharedStage;
 use std::alloc::Global;
 
-/// What the connections of a server share: the memory, the stage, its configuration, and the names of the clips.
+/// What the connections of a server share: the allocator, the stage, its configuration, and the names of the clips.
 #[derive(Clone, Copy)]
 pub struct Server<'a> {
-    /// The memory that sessions, commands and replies are made from.
+    /// The allocator of sessions, commands and replies.
     pub alloc: Global,
     /// The stage.
     pub stage: &'a SharedStage,

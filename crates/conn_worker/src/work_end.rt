@@ -1,6 +1,6 @@
 //! How the work at a door ends.
 
-/// How many sessions a pass has at most: their numbers go from 1 to this one.
+/// The maximum number of sessions of a pass. Their numbers go from 1 to this one.
 pub const MAX_SESSIONS: u32 = 4_294_967_295;
 
 /// How the work at a door ended.
@@ -12,6 +12,6 @@ pub enum WorkEnd {
     Ended { at: u64 },
     /// The door failed. The stage was stopped, if it was not before.
     DoorFault,
-    /// As many links were served as there are numbers of sessions.
+    /// [`MAX_SESSIONS`] links were served.
     SessionsOver,
 }

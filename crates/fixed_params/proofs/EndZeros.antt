@@ -51,7 +51,7 @@ without_end_zeros-cons d ds some = elim (cases_Bool (list_all is_zero ds)) [
       rw more refl
 ]
 
--- the digits are back once zeros stand at their end again
+-- the digits without the zeros at their end, followed by zeros, are the digits again
 pub with_end_zeros : (ds : List ℕ) → take (length ds) (without_end_zeros ds ++ replicate (length ds) 48) ≡ ds
 with_end_zeros [] = refl
 with_end_zeros (d ∷ ds) =

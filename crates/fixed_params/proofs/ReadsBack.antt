@@ -46,7 +46,7 @@ record ReadsAs (text : List ℕ) (n : ℕ) : Type 0 where
   value : unsigned_micro text ≡ n
   first : 48 ≤ get_or text 0 0
 
--- a text is read by what stands before its point and after it
+-- a text is read by what is before its point and after it
 reads_parts : (text whole places : List ℕ) (n : ℕ) → before_first is_point text ≡ whole → after_first is_point text ≡ places
     → are_digits whole ≡ true → are_digits places ≡ true → 0 < length whole → 48 ≤ get_or text 0 0
     → digits_value 10 whole * 1000000 + digits_value 10 (six_places places) ≡ n → ReadsAs text n

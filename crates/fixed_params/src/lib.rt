@@ -1,6 +1,6 @@
 //! Parameters as text: decimals in millionths, read and printed, and names in quotation marks.
 //!
-//! A value lies within -1000 to 1000. What is printed reads back to the value. No call takes memory.
+//! A value is from -1000 to 1000. What is printed reads back to the value.
 #![tactic(auto)]
 
 mod print;

@@ -10,8 +10,8 @@ use std::marker::Model;
 /// The longest text of a value, in bytes: a sign, four digits, a point and six digits.
 const ROOM: usize = 12;
 
-/// Writes a value in millionths: a minus if it is negative, the whole part, and if the rest is not zero a point
-/// and the rest without zeros at its end. What is written reads back to the value. It takes no memory.
+/// Writes a value in millionths, from -1000 to 1000: a minus if it is negative, the whole part, and if the rest is not zero
+/// a point and the rest without zeros at its end. What is written reads back to the value.
 pub fn print_micro<K: Sink>(value: i64, to: &mut K) -> Sent
     requires low { neg_ℤ (pos 1000000000) ≤ℤ value }
     requires high { value ≤ℤ pos 1000000000 }
@@ -39,8 +39,8 @@ impl Model for MicroText {
 }
 
 impl MicroText {
-    /// Returns the text of a value: a minus if it is negative, the whole part, and if the rest is not zero a point
-    /// and the rest without zeros at its end. It takes no memory.
+    /// Returns the text of a value in millionths, from -1000 to 1000: a minus if it is negative, the whole part, and if the
+    /// rest is not zero a point and the rest without zeros at its end.
     pub fn of(value: i64) -> MicroText
         requires low { neg_ℤ (pos 1000000000) ≤ℤ value }
         requires high { value ≤ℤ pos 1000000000 }

@@ -7,8 +7,8 @@ ghost use Rattle.play_outside.specs.Gathered.{Adds};
 use amcp_text::escape_of;
 use play_outside::{Gather, Sent, Sink};
 
-/// Adds a name in quotation marks to a text that is gathered: a backslash stands before each quotation mark and each
-/// backslash of the name, and a line feed becomes `\n`. It takes no memory.
+/// Adds a name in quotation marks to a text that is gathered: a backslash is put before each quotation mark and each
+/// backslash of the name, and a line feed becomes `\n`.
 pub fn add_quoted<const ROOM: usize, K: Sink>(
     name: &str,
     text: &mut Gather<ROOM>,

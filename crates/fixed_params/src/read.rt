@@ -12,7 +12,7 @@ const LIMIT: u32 = 1_000_000_000;
 /// Reads the value of a decimal, in millionths. Digits after the sixth place are dropped before the range is tested.
 ///
 /// A decimal is an optional sign, digits, and optionally a point and digits, with at least one digit in all. The result is
-/// `None` exactly if the text is no decimal, or its value is outside -1000 to 1000. It takes no memory.
+/// `None` exactly if the text is no decimal, or its value is outside -1000 to 1000.
 pub fn read_micro(text: &str) -> Option<i64>
     ensures value { result ≡ micro_of (chars text.now) }
     ensures range { IfSome result
@@ -46,7 +46,7 @@ fn is_negative(text: &[u8]) -> bool
     matches!(text, [b'-', ..])
 }
 
-/// Returns the text without the sign that it begins with, if it does.
+/// Returns the text without its sign, if it begins with one.
 fn without_sign(text: &[u8]) -> &[u8]
     ensures { result.now ≡ without_leading_sign text.now }
 {
@@ -82,7 +82,7 @@ fn all_digits(text: &[u8]) -> bool
     text.iter().all(|byte| byte.is_ascii_digit())
 }
 
-/// Reads the number that digits write, and returns 1001 for each number that is greater.
+/// Reads the number that digits write, or returns 1001 if it is greater.
 fn capped_whole(digits: &[u8]) -> u32
     requires { IsTrue (are_digits digits.now) }
     ensures { result ≡ min (digits_value 10 digits.now) 1001 }
@@ -94,7 +94,7 @@ fn capped_whole(digits: &[u8]) -> u32
     value
 }
 
-/// Reads the millionths that the digits after a point write.
+/// Reads the first six digits after a point, as millionths.
 fn millionths(digits: &[u8]) -> u32
     requires { IsTrue (are_digits digits.now) }
     ensures value { result ≡ digits_value 10 (six_places digits.now) }

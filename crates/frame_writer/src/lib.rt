@@ -1,7 +1,7 @@
 //! Writes frames: raw, as lines of hexadecimal, or as digests.
 //!
-//! A writer takes no memory. It returns `Failed` only if the sink failed, and then a prefix of the text was written,
-//! but not all of it. Channels and ticks are counted from 1.
+//! A writer returns `Failed` only if the sink failed, and then a prefix of the text was written, but not all of it. Channels
+//! and ticks are counted from 1.
 #![tactic(auto)]
 
 mod digest_line;

@@ -1,4 +1,4 @@
-//! Frames as they are.
+//! Frames as raw bytes.
 ghost use Rattle.std.specs.Prelude.{◌++◌};
 ghost use Rattle.play_outside.specs.Sink.{Sends};
 

@@ -27,14 +27,14 @@ use Rattle.history_model.proofs.Recordings.{acts_of-mark}
 abbrev some_over : List Act → ℕ → Bool
 some_over past t = list_any (is_over past t) (channels past)
 
--- ticks leave each channel within its limits, or over them
+-- ticks do not change whether some channel is over a limit
 some_over-ticks : (past : List Act) (t u : ℕ) → some_over past t ≡ some_over past u
 some_over-ticks past t u =
     λ i. list_any
     (λ channel. nat_lt MAX_LIVE_LAYERS (length (live_layers-ticks past t u channel i)) || nat_lt MAX_WAITING_SETTINGS (length (waiting_settings past channel)))
     (channels past)
 
--- an accepted command leaves none over
+-- after an accepted command no channel is over a limit
 within_by : (test : Bool) (more past : List Act) (t : ℕ) → some_over more t ≡ test → some_over past t ≡ false →
     some_over (unwrap_or (if test then None else Some more) past) t ≡ false
 within_by true more past t is was = was
@@ -45,7 +45,7 @@ within_command cmd past t was =
     let more = acts_of t cmd ++ past in
     within_by (some_over more t) more past t refl was
 
--- and so do accepted commands
+-- after accepted commands no channel is over a limit
 within_rest : (cmds : List Cmd) (past kept : List Act) (t : ℕ) (first : Option (List Act)) → some_over (unwrap_or first past) t ≡ false →
     some_over kept t ≡ false →
     ((more : List Act) → some_over more t ≡ false → some_over (unwrap_or (with_commands more t cmds) kept) t ≡ false) →
@@ -68,7 +68,7 @@ within_back (Batch tag cmds ∷ back) =
 within_back (Tick ∷ back) = some_over-ticks (acts_back back) (1 + ticks back) (ticks back) ∙ within_back back
 within_back (Stop tag ∷ back) = within_back back
 
--- what holds of no number of a list by one test holds of none by a narrower test
+-- if no number of a list passes a test, none passes a narrower one
 none_of_fewer : (wide narrow : ℕ → Bool) → ((n : ℕ) → wide n ≡ false → narrow n ≡ false) → (numbers : List ℕ) →
     list_any wide numbers ≡ false → list_any narrow numbers ≡ false
 none_of_fewer wide narrow each [] none = refl
@@ -76,7 +76,7 @@ none_of_fewer wide narrow each (n ∷ numbers) none =
     let parts = or_parts (wide n) (list_any wide numbers) none in
     ap (λ b. b || list_any narrow numbers) (each n parts.0) ∙ none_of_fewer wide narrow each numbers parts.1
 
--- a commit leaves the live layers of a channel, and no more settings that wait
+-- after a commit a channel has the live layers of before, and no more waiting settings
 fewer_wait : (live own : Bool) (waiting : List SettingView) → (live || nat_lt MAX_WAITING_SETTINGS (length waiting)) ≡ false →
     (live || nat_lt MAX_WAITING_SETTINGS (length {A = SettingView} (if own then [] else waiting))) ≡ false
 fewer_wait live true waiting within = ap (λ b. b || false) (or_parts live (nat_lt MAX_WAITING_SETTINGS (length waiting)) within).0

@@ -45,7 +45,7 @@ IsAimedParsed config asked.Version = Unit {0}
 IsAimedParsed config asked.Bye = Unit {0}
 IsAimedParsed config asked.Kill = Unit {0}
 
--- what holds of each value of the next step holds of the value of both
+-- what holds of each value of the next step holds of the value of both steps
 bound : {A B : Type 0} (P : B → Type 0) (first : Result A Refusal) (next : A → Result B Refusal) → ((value : A) → first ≡ Ok value → IfOk (next value) P) → IfOk (first >>= next) P
 bound P (Ok value) next each = each value refl
 bound P (Err reason) next each = tt
@@ -75,7 +75,7 @@ ok_or-is None reason value is = absurd (err-ok reason value is)
     err-ok reason value e = cc
 ok_or-is (Some other) reason value is = ap Some (let same : other ≡ value = cc in same)
 
--- what is known of a value that is there
+-- what holds of the value of a result, if it has this one
 known : {A : Type 0} (P : A → Type 0) (result : Result A Refusal) (value : A) → IfOk result P → result ≡ Ok value → P value
 known P result value all is = subst (λ r. IfOk r P) is all
 
@@ -97,16 +97,16 @@ area_at-aimed : (line : Line) (at : ℕ) → IfOk (area_at line at) (IsAimedArea
 area_at-aimed line at =
     bound (IsAimedArea line) (word_at line at) (λ word. area_of line at word) (λ word has. area_of-aimed line at word)
 
--- a value of a result that is there
+-- the value of a result that is an `Ok`
 result_ok-is : {A : Type 0} (result : Result A Refusal) (value : A) → result_ok result ≡ Some value → result ≡ Ok value
 result_ok-is (Ok other) value is = ap Ok (same_Some other value is)
 result_ok-is (Err reason) value is = absurd (none-some value is)
 
--- a producer that is a route is one to a configured channel
+-- if a producer is a route, its channel is a configured one
 abbrev IsRoutedProducer : Line → Producer → Type 0
 IsRoutedProducer line producer = IsRouted (length line.config.channels) producer.spec
 
--- the route of a take is one to a configured channel
+-- if a take has a route, its channel is a configured one
 abbrev IsRoutedTake : Line → TakeView → Type 0
 IsRoutedTake line take = IsRouted (length line.config.channels) take.spec
 
@@ -127,7 +127,7 @@ named_producer-routed : (line : Line) (word : List ℕ) (colour : Option ℕ) �
 named_producer-routed line word (Some value) = tt
 named_producer-routed line word None = clip_producer-routed line (clip_named line.media word)
 
--- a route is read as an area is, so that one to a channel that is not configured is refused
+-- the area of a route is on a configured channel, since it is read as an area is
 producer_of-routed : (line : Line) (at : ℕ) (word : List ℕ) → IfOk (producer_of line at word) (IsRoutedProducer line)
 unfolding producer_of
 producer_of-routed line at word = by_word (is_colour_word word) (is_route_word word)
@@ -186,7 +186,7 @@ play-aimed line =
         bound (IsAimed line.config) (take_at line 2) (λ take. Ok (cmd.PlayTake (place_of area) (played take)))
         (λ take found. (aimed, known (IsRoutedTake line) (take_at line 2) take (take_at-routed line 2) found))
 
--- what a value keeps at the end of its line
+-- what holds of a value holds of it at the end of its line
 ended-keeps : {A : Type 0} (P : A → Type 0) (line : Line) (at : ℕ) (value : A) → P value → IfOk (ended line at value) P
 ended-keeps {A = A} P line at value has = by_length (nat_lt at (length line.words))
   where
@@ -240,7 +240,7 @@ clear-aimed line =
     (λ area found. ended-keeps (IsAimed line.config) line 2 (cleared area.channel area.layer)
     (cleared-aimed line.config area.channel area.layer (known (IsAimedArea line) (area_at line 1) area (area_at-aimed line 1) found)))
 
--- an exchange of two areas on configured channels
+-- a swap of two areas on configured channels
 exchange-aimed : (line : Line) (one other : Area) (layer layer' : Option ℕ) → IsAimedArea line one → IsAimedArea line other
     → IfOk (legal line 2 (swapped one other layer layer') >>= (λ command. flag_at line 3 (codes "TRANSFORMS") >>= (λ transforms. Ok (command transforms)))) (IsAimed line.config)
 exchange-aimed line one other None None first second =

@@ -19,7 +19,7 @@ use Rattle.history_model.specs.sessions.Session.{Step, Local, Ask, AskBatch, Kil
 use Rattle.history_model.proofs.EachAsk.{asked-holds}
 use Rattle.history_model.proofs.Requests.{requested_by}
 
--- a reply that fits, an ask of a command that words ask for, or another step
+-- a reply that a server gives, a request for a command that words ask for, or another step
 abbrev pub IsGiven : ConfigView → List MediaNameView → Step → Type 0
 IsGiven config media (Local answer) = IsReplyTo config answer
 IsGiven config media (Ask command) = (words : List (List ℕ)) × (parsed config media words ≡ Ok (Stage command))
@@ -39,7 +39,7 @@ refusal_fits config line (refusal.Illegal name at) = code (omega arith) (omega a
 refusal_fits config line (refusal.NotFound name) = code (omega arith) (omega arith)
 refusal_fits config line (refusal.Unreadable name) = inr (omega arith, omega arith)
 
--- 403 is one of the codes
+-- 403 is one of the codes of refusals
 refused : IsRefusalCode 403
 refused = code (omega arith) (omega arith)
 
@@ -47,7 +47,7 @@ commit_given : (config : ConfigView) (media : List MediaNameView) (commands : Li
 commit_given config media [] = tt
 commit_given config media (command ∷ commands) = tt
 
--- what is done for an ask, if this batch is open or none is
+-- what is done for what a line asks for, while this batch is open or none is
 pub asked_given : (config : ConfigView) (media : List MediaNameView) (open_now : Bool) (commands : List Cmd) (words : List (List ℕ)) (asked : Parsed) → parsed config media words ≡ Ok asked
     → IsGiven config media (if open_now then step_inside commands asked else step_outside asked)
 asked_given config media open_now commands words asked is =
@@ -56,7 +56,7 @@ asked_given config media open_now commands words asked is =
     open_now commands asked (commit_given config media commands)
     (λ command same. (words, subst (λ (a : Parsed). parsed config media words ≡ Ok a) same is))
 
--- a refusal whose reply fits, or what words ask for
+-- a refusal with a reply that a server gives, or what words ask for
 abbrev pub IsMeant : ConfigView → List MediaNameView → LineMeaning → Type 0
 IsMeant config media Blank = Unit {0}
 IsMeant config media (Wrong answer) = IsReplyTo config answer
@@ -72,7 +72,7 @@ words_meant config media line (Ok (word ∷ words)) = by_parsed (requested confi
     by_parsed (Ok asked) is = requested_by config media (word ∷ words) asked is
     by_parsed (Err reason) is = refusal_fits config line reason
 
--- what a line means
+-- the meaning of a line is one of these
 pub line_meant : (config : ConfigView) (media : List MediaNameView) (line : Line) → IsMeant config media (line_meaning config media line)
 unfolding line_meaning
 line_meant config media (Text line) = words_meant config media line (words_of line)

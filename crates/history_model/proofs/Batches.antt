@@ -27,7 +27,7 @@ use Rattle.history_model.proofs.Timelines.{reverse-cons, kept_by_all}
 abbrev asked_back : Tag → List Cmd → List Event → List Event
 asked_back tag cmds back = reverse (map (Do tag) cmds) ++ back
 
--- a batch whose first command is accepted is the rest of it after that
+-- a batch whose first command is accepted is the rest of the batch after that command
 first_accepted : (tag : Tag) (cmd : Cmd) (back : List Event) (more : List Act) → with_command (acts_back back) (ticks back) cmd ≡ Some more →
     acts_back (Do tag cmd ∷ back) ≡ more
 first_accepted tag cmd back more e = ap (λ entered. unwrap_or entered (acts_back back)) e
@@ -40,7 +40,7 @@ rest_after tag cmd cmds back more e =
     ap (option_and_then (λ past. with_commands past (ticks back) cmds)) e
     ∙ ap (λ past. with_commands past (ticks back) cmds) (sym (first_accepted tag cmd back more e))
 
--- one whose first command is refused is refused
+-- a batch whose first command is refused is refused
 none_then : (cmd : Cmd) (cmds : List Cmd) (back : List Event) → with_command (acts_back back) (ticks back) cmd ≡ None →
     with_commands (acts_back back) (ticks back) (cmd ∷ cmds) ≡ None
 none_then cmd cmds back e = ap (option_and_then (λ past. with_commands past (ticks back) cmds)) e
@@ -64,7 +64,7 @@ acts_one_by_one tag [] back accepted = refl
 acts_one_by_one tag (cmd ∷ cmds) back accepted =
     acts_by tag cmd cmds back (with_command (acts_back back) (ticks back) cmd) refl accepted (acts_one_by_one tag cmds (Do tag cmd ∷ back))
 
--- and its entries are theirs
+-- the entries of an accepted batch are those of its commands one by one
 entry_by : (tag : Tag) (cmd : Cmd) (cmds : List Cmd) (back : List Event) (first : Option (List Act)) →
     with_command (acts_back back) (ticks back) cmd ≡ first →
     is_none (with_commands (acts_back back) (ticks back) (cmd ∷ cmds)) ≡ false →
@@ -85,7 +85,7 @@ entries_one_by_one tag [] back accepted = refl
 entries_one_by_one tag (cmd ∷ cmds) back accepted =
     entry_by tag cmd cmds back (with_command (acts_back back) (ticks back) cmd) refl accepted (entries_one_by_one tag cmds (Do tag cmd ∷ back))
 
--- a history with an accepted batch agrees with the one with its commands in all that later definitions look at
+-- a history with an accepted batch agrees with the history with its commands in everything that is looked at later
 IsSame-batch_one_by_one : (setup : Setup) (tag : Tag) (cmds : List Cmd) (back : List Event) →
     is_none (with_commands (acts_back back) (ticks back) cmds) ≡ false → IsSame setup (Batch tag cmds ∷ back) (asked_back tag cmds back)
 IsSame-batch_one_by_one setup tag cmds back accepted = record {
@@ -102,7 +102,7 @@ timeline_back-batch tag cmds back accepted =
     ap (λ (refused : Bool). if refused then timeline_back back else reverse (map Did cmds) ++ timeline_back back) accepted
     ∙ sym (entries_one_by_one tag cmds back accepted)
 
--- histories that agree so, and have equal timelines, have equal ones after any events more
+-- histories that agree in this and have equal timelines still have equal timelines after more events
 timeline_back-later : (setup : Setup) (later a b : List Event) → IsSame setup a b → timeline_back a ≡ timeline_back b →
     timeline_back (later ++ a) ≡ timeline_back (later ++ b)
 timeline_back-later setup [] a b h e = e
@@ -111,7 +111,7 @@ timeline_back-later setup (event ∷ later) a b h e =
     let rest : timeline_back (later ++ a) ≡ timeline_back (later ++ b) = timeline_back-later setup later a b h e in
     λ i. if is_none (with_event (same.acts i) (same.ticks i) event) then rest i else entries_of event ++ rest i
 
--- the same for histories that are read forward
+-- these claims for histories that are read forward
 refused_back : (before : List Event) (event : Event) →
     is_none (with_event (acts_back (reverse before)) (ticks (reverse before)) event) ≡ is_refused before event
 unfolding is_refused acts
@@ -219,7 +219,7 @@ accepted-each before tag first cmd rest accepted =
     sym (asked_refused before tag first cmd)
     ∙ accepted_back tag first cmd rest (reverse before) (refused_back before (Batch tag (first ++ cmd ∷ rest)) ∙ accepted)
 
--- and some command of a refused one is refused after those before it, which are an accepted one
+-- some command of a refused batch is refused after those before it, which are an accepted batch
 abbrev IsRefusedAt : Tag → List Event → List Cmd → List Cmd → Cmd → List Cmd → Type 0
 IsRefusedAt tag back cmds first cmd rest =
     (cmds ≡ first ++ cmd ∷ rest) × (is_none (with_commands (acts_back back) (ticks back) first) ≡ false)
@@ -257,7 +257,7 @@ refused-one before tag cmds refused =
     let (first, cmd, rest, (parts, accepted, at)) = refused_at tag cmds (reverse before) (refused_back before (Batch tag cmds) ∙ refused) in
     (first, cmd, rest, parts, sym (refused_back before (Batch tag first)) ∙ accepted, sym (asked_refused before tag first cmd) ∙ at)
 
--- a refused batch leaves the timeline
+-- a refused batch does not change the timeline
 pub timeline-refused : (before : List Event) (tag : Tag) (cmds : List Cmd) (later : List Event) →
     is_refused before (Batch tag cmds) ≡ true → timeline (before ++ Batch tag cmds ∷ later) ≡ timeline (before ++ later)
 unfolding timeline

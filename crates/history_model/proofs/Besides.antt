@@ -1,4 +1,4 @@
--- A connection after lines with one that changes nothing among them and after the lines without it.
+-- A connection after lines that include one that changes nothing, and after the lines without it.
 use Rattle.std.proofs.Common.{◌≡◌, ℕ, Bool, true, false, cond, ◌||◌, List, [], ◌∷◌, ◌++◌, refl, sym, ap, ◌∙◌, subst, subst₂, append-nil, if◌then◌else◌}
 use Rattle.std.specs.Prelude.{Option, Some, None}
 use Rattle.std.specs.List.{cons_option, list_any}
@@ -17,7 +17,7 @@ use Rattle.history_model.proofs.OpenBatch.{IsSameBatch, IsSameBatch-snoc, Leaves
 use Rattle.history_model.proofs.Sides.{Side, Side-other, Side-said, asked_of, asked_of-said, has_ended, has_ended-said, own_ask, own_step, said_step-own}
 use Rattle.history_model.proofs.Streams.{given_up_of-other, stream_of-other}
 
--- a connection after lines with the struck one among them, and without it: it has ended in both, or the same batch is open
+-- a connection after lines with the struck line and without it: it has ended in both, or both have one open batch
 pub record Beside (playout : Playout) (tag : Tag) (a b : List PlayedLine) : Type 0 where
   pub long : Side tag a
   pub short : Side tag b
@@ -49,14 +49,14 @@ more_asked : (a b : List Parsed) (ask : Option Parsed) → IsSameBatch a b → I
 more_asked a b None h = subst₂ IsSameBatch (sym (append-nil a)) (sym (append-nil b)) h
 more_asked a b (Some ask) h = IsSameBatch-snoc a b ask h
 
--- a connection that goes on does the same for its next line
+-- a connection that goes on has one step for its next line in both
 own_step-same : (playout : Playout) (tag : Tag) (a b : List PlayedLine) (text : List ℕ) (given_up : Bool) → Beside playout tag a b →
     has_ended playout tag a ≡ false → own_step playout tag a text given_up ≡ own_step playout tag b text given_up
 own_step-same playout tag a b text given_up h going =
     ap (λ (step : Step). if given_up then Local reply.NoMemory else step)
     (step-same (asked_of playout tag a) (asked_of playout tag b) (line_meaning playout.config playout.names (line_of_text text)) (h.batch going))
 
--- and so it does in both, if it has ended in both too
+-- the next line has one step in both, also if the connection has ended in both
 both_ways : {C : Type 0} (playout : Playout) (tag : Tag) (a b : List PlayedLine) (text : List ℕ) (given_up : Bool) (ended : Bool) (by : Bool → Step → C) →
     ((one other : Step) → by true one ≡ by true other) → Beside playout tag a b → has_ended playout tag a ≡ ended →
     by (has_ended playout tag a) (own_step playout tag a text given_up) ≡ by (has_ended playout tag b) (own_step playout tag b text given_up)
@@ -89,7 +89,7 @@ Beside-said playout tag a b line text said one h = record {
       (more_asked (asked_of playout tag a) (asked_of playout tag b) (own_ask playout text line.given_up) (h.batch parts.0));
 }
 
--- the struck line: what its step is
+-- the step of the struck line does not change the open batch
 leaves_batch : (turn : Turn) (step : Step) → ChangesNothing turn (Some step) → LeavesBatch step
 leaves_batch turn (Local answer) idle = idle
 leaves_batch turn (Ask command) idle = tt
@@ -133,7 +133,7 @@ pub own_idle : (turn : Turn) (ended : Bool) (step : Step) → ChangesNothing tur
 own_idle turn true step idle going = absurd (false≢true (sym going))
 own_idle turn false step idle going = leaves_batch turn step idle
 
--- it leaves what the connection asked for, given up or not
+-- the struck line does not change what the connection asked for, given up or not
 asked-left : (playout : Playout) (asked : List Parsed) (text : List ℕ) (given_up : Bool) →
     LeavesBatch (if given_up then Local reply.NoMemory else step_of_meaning asked (line_meaning playout.config playout.names (line_of_text text))) →
     IsSameBatch (asked ++ cons_option (own_ask playout text given_up) []) asked

@@ -1,4 +1,4 @@
--- A commit starts its group: after it a timeline agrees with the one in which the group stands in its place.
+-- A commit starts its group: the timeline after it agrees with the one that has the group in its place.
 use Rattle.std.proofs.Common.{◌≡◌, ℕ, Bool, true, false, ◌&&◌, ◌==◌, List, [], ◌∷◌, ◌++◌, map, refl, sym, ap, ap₂, subst, ◌∙◌, if◌then◌else◌}
 use Rattle.std.proofs.lemmas.Bool.{false≢true}
 use Rattle.play_types.specs.Place.{PlaceView}
@@ -18,13 +18,13 @@ use Rattle.history_model.specs.pictures.TimelineFrame.{timeline_foregrounds, tim
 use Rattle.history_model.proofs.Listed.{waiting_settings-listed}
 use Rattle.history_model.proofs.Groups.{IsWithout, IsCut, IsCut-did, IsCut-ticked, pixel-same, sample-same, value-same, statuses-same, without-cut}
 
--- settings that take place at once leave the ticks, and what was shown and sounded
+-- settings that take effect at once do not change the ticks, and what was shown and sounded
 kept_by_group : {C : Type 0} (look : List Entry → C) → ((setting : SettingView) (rest : List Entry) → look (at_once setting ∷ rest) ≡ look rest) →
     (settings : List SettingView) (rest : List Entry) → look (map at_once settings ++ rest) ≡ look rest
 kept_by_group look each [] rest = refl
 kept_by_group look each (setting ∷ settings) rest = each setting (map at_once settings ++ rest) ∙ kept_by_group look each settings rest
 
--- their acts, all after the ticks before them
+-- the acts of such settings, all after the ticks before them
 group_ticks : (settings : List SettingView) (rest : List Entry) → timeline_ticks (map at_once settings ++ rest) ≡ timeline_ticks rest
 group_ticks settings rest = kept_by_group timeline_ticks (λ setting rest. refl) settings rest
 
@@ -34,7 +34,7 @@ group_acts [] rest = refl
 group_acts (setting ∷ settings) rest =
     ap₂ {A = ℕ} {B = List Act} {C = List Act} (λ now past. settled_act now setting ∷ past) (group_ticks settings rest) (group_acts settings rest)
 
--- such settings take place as they are, name no layer and no content, and do not wait
+-- such settings are resolved to themselves, name no layer and no content, and do not wait
 kept_by_settings : {C : Type 0} (t : ℕ) (look : List Act → C) → ((setting : SettingView) (rest : List Act) → look (settled_act t setting ∷ rest) ≡ look rest) →
     (settings : List SettingView) (rest : List Act) → look (map (settled_act t) settings ++ rest) ≡ look rest
 kept_by_settings t look each [] rest = refl
@@ -46,7 +46,7 @@ resolved_settings : (t : ℕ) (settings : List SettingView) (rest : List Act) �
 resolved_settings t [] rest = refl
 resolved_settings t (setting ∷ settings) rest = ap (λ past. settled_act t setting ∷ past) (resolved_settings t settings rest)
 
--- what waits after the commit is what waits without the group
+-- the settings that wait after the commit are those that wait without the group
 waiting_then : (committed channel : ℕ) (own : Bool) (a b : List Act) → (committed == channel) ≡ own →
     IsWithout (λ other. committed == other) a b → waiting_list a channel ≡ (if own then [] else waiting_list b channel)
 waiting_then committed channel true a b is h = h.none channel is
@@ -69,7 +69,7 @@ IsWithout-group committed t u settings a b now group h = record {
   none = λ channel on. absurd (false≢true on);
 }
 
--- the timeline with the group in place of the commit, and with what follows
+-- the timeline with the group in place of the commit, and with later entries
 group-cut : (setup : Setup) (committed : ℕ) (before : List Entry) →
     IsCut setup (λ other. false) (with_group committed before) (Did (CommitMixer committed) ∷ before)
 group-cut setup committed before =
@@ -115,7 +115,7 @@ later-cut setup (Did cmd ∷ later) a b h =
 later-cut setup (Ticked ∷ later) a b h =
     IsCut-ticked setup (λ other. false) (later ++ a) (later ++ b) (later-cut setup later a b h)
 
--- so all that is shown, sounded, answered and reported later is equal
+-- everything that is shown, sounded, answered and reported later is equal
 after_commit : (setup : Setup) (later before : List Entry) (committed : ℕ) →
     IsCut setup (λ other. false) (later ++ with_group committed before) (later ++ Did (CommitMixer committed) ∷ before)
 after_commit setup later before committed =

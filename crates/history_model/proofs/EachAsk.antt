@@ -1,4 +1,4 @@
--- What holds of the step of an ask, by what holds of the replies that a session gives by itself, of a command and of a batch.
+-- A claim about the step of what a line asks for, by the claim about replies without the stage, commands and batches.
 use Rattle.std.proofs.Common.{◌≡◌, Bool, true, false, List, length, refl}
 use Rattle.std.specs.Prelude.{nat_lt, if◌then◌else◌}
 use Rattle.play_types.specs.Commands.{command_name, is_query}
@@ -11,7 +11,7 @@ use Rattle.play_types.specs.declared.reply.Name.TheVariants as name
 use Rattle.play_types.specs.declared.reply.Reply.TheVariants as reply
 use Rattle.history_model.specs.sessions.Session.{Step, Local, Ask, KillServer, EndConnection, step_commit, step_inside, step_outside, step_waiting}
 
--- it holds of each step of an ask for which the stage is not asked
+-- it holds of each step without the stage
 pub record HoldsAlone (Holds : Step → Type 0) : Type 0 where
   pub done : (command : Name) → Holds (Local (reply.Done command))
   pub refused : (command : Name) → Holds (Local (reply.Refused 403 command))
@@ -53,7 +53,7 @@ module _ (Holds : Step → Type 0) (alone : HoldsAlone Holds) where
   outside-holds Bye ask = alone.ended
   outside-holds Kill ask = alone.kill
 
-  -- an ask if this batch is open or none is
+  -- what a line asks for, while this batch is open or none is
   pub asked-holds : (open_now : Bool) (commands : List Cmd) (asked : Parsed) → Holds (step_commit commands)
       → ((command : Cmd) → asked ≡ Stage command → Holds (Ask command)) → Holds (if open_now then step_inside commands asked else step_outside asked)
   asked-holds true commands asked commit ask = inside-holds commands asked commit

@@ -1,4 +1,4 @@
--- What holds of each step of a stream of lines, by what holds of its replies and of what its lines ask for.
+-- A claim about each step of a stream of lines, by a claim about its replies and about what its lines ask for.
 use Rattle.std.proofs.Common.{◌≡◌, ℕ, zero, suc, ◌+◌, Bool, true, false, List, [], ◌∷◌, ◌++◌, take, length, refl, subst}
 use Rattle.std.specs.Prelude.{Option, Some, None, Ok, IfSome, All, get_or, filter_map, slice_get, if◌then◌else◌}
 use Rattle.std.specs.List.{after_first, cons_option, enumerate_from, position_or_len}
@@ -61,7 +61,7 @@ batch-each Asked Batched each asked all =
     All-take Batched MAX_BATCH_COMMANDS (filter_map batched (after_first is_begin (since_closing asked)))
     (All-filter_map Asked Batched batched (after_first is_begin (since_closing asked)) (batched-each Asked Batched each) opened)
 
--- it holds of each step of a line, if the lines ask for such things
+-- it holds of each step of a line, if the lines ask for what `Asked` holds of
 pub record HoldsOfLines (Asked : Parsed → Type 0) (Holds : Step → Type 0) : Type 0 where
   pub replied : (answer : Reply) → Holds (Local answer)
   pub kill : Holds KillServer
@@ -69,12 +69,12 @@ pub record HoldsOfLines (Asked : Parsed → Type 0) (Holds : Step → Type 0) : 
   pub skip : Holds Skip
   -- of a command that is asked for
   pub ask : (command : Cmd) → Asked (Stage command) → Holds (Ask command)
-  -- of a COMMIT after these asks
+  -- of a COMMIT after what was asked for
   pub commit : (before : List Parsed) → All Asked before → Holds (step_commit (batch before))
 
 module _ (config : ConfigView) (media : List MediaNameView) (Asked : Parsed → Type 0) (Holds : Step → Type 0)
     (by_words : (words : List (List ℕ)) (asked : Parsed) → parsed config media words ≡ Ok asked → Asked asked) (holds : HoldsOfLines Asked Holds) where
-  -- what lines ask for
+  -- `Asked` holds of what lines ask for
   asked_by-each : (meant : LineMeaning) → IsMeant config media meant → IfSome (asked_by meant) Asked
   asked_by-each Blank is = tt
   asked_by-each (Wrong answer) is = tt
@@ -128,7 +128,7 @@ module _ (config : ConfigView) (media : List MediaNameView) (Asked : Parsed → 
       All-map Holds (step_of_line config media given_up lines) (enumerate_from 0 lines)
       (λ k line inside. line-each given_up lines (get_or (enumerate_from 0 lines) k line))
 
-  -- the steps of a stream, whichever of its lines were given up
+  -- it holds of the steps of a stream, whichever of its lines were given up
   pub steps-each : (given_up stream : List ℕ) → All Holds (steps config media given_up stream)
   unfolding steps
   steps-each given_up stream = All-take Holds _ (line_steps config media given_up (lines_of stream)) (line_steps-each given_up (lines_of stream))

@@ -1,4 +1,4 @@
--- Events that change nothing later: queries and refused events. Histories that agree go on to agree.
+-- Events that change nothing later: queries, marks of recordings and refused events. Histories that agree still agree after more events.
 use Rattle.std.proofs.Common.{◌≡◌, ◌+◌, Bool, true, false, List, [], ◌∷◌, ◌++◌, reverse, refl, sym, ap, ap₂, ◌∙◌, if◌then◌else◌, unwrap_or, is_none, append_assoc, add_comm}
 use Rattle.std.proofs.lemmas.List.{reverse-append}
 use Rattle.std.specs.Prelude.{Option, Some, None}
@@ -24,7 +24,7 @@ use Rattle.history_model.specs.pictures.Frame.{scene_pixel, frames_back}
 use Rattle.history_model.specs.pictures.Sound.{scene_sample, sounds_back}
 use Rattle.history_model.proofs.Recordings.{acts_of-mark}
 
--- two histories that are read backward agree in all that later definitions look at
+-- two histories that are read backward agree in everything that later definitions look at
 pub record IsSame (setup : Setup) (a b : List Event) : Type 0 where
   pub acts : acts_back a ≡ acts_back b
   pub ticks : ticks a ≡ ticks b
@@ -80,13 +80,13 @@ IsSame-cons setup (Stop tag) a b h = record {
   sounds = h.sounds;
 }
 
--- and after any number of events more
+-- they agree after any number of events more
 pub IsSame-append : (setup : Setup) (later a b : List Event) → IsSame setup a b →
     IsSame setup (later ++ a) (later ++ b)
 IsSame-append setup [] a b h = h
 IsSame-append setup (event ∷ later) a b h = IsSame-cons setup event (later ++ a) (later ++ b) (IsSame-append setup later a b h)
 
--- a command or a batch that leaves the acts leaves all
+-- a command or a batch that does not change the acts changes nothing
 pub IsSame-do : (setup : Setup) (tag : Tag) (cmd : Cmd) (back : List Event) →
     acts_back (Do tag cmd ∷ back) ≡ acts_back back → IsSame setup (Do tag cmd ∷ back) back
 IsSame-do setup tag cmd back e = record { acts = e; ticks = refl; foregrounds = refl; frames = refl; sounds = refl }
@@ -95,7 +95,7 @@ pub IsSame-batch : (setup : Setup) (tag : Tag) (cmds : List Cmd) (back : List Ev
     acts_back (Batch tag cmds ∷ back) ≡ acts_back back → IsSame setup (Batch tag cmds ∷ back) back
 IsSame-batch setup tag cmds back e = record { acts = e; ticks = refl; foregrounds = refl; frames = refl; sounds = refl }
 
--- a query leaves the acts, whether a channel is over a limit or not
+-- a query does not change the acts, whether a channel is over a limit or not
 kept : (test : Bool) (acts : List Act) → unwrap_or (if test then None else Some acts) acts ≡ acts
 kept true acts = refl
 kept false acts = refl
@@ -109,7 +109,7 @@ pub acts_back-info : (tag : Tag) (back : List Event) → acts_back (Do tag Info 
 acts_back-info tag back =
     kept (list_any (is_over (acts_back back) (ticks back)) (channels (acts_back back))) (acts_back back)
 
--- so does a mark of a recording
+-- a mark of a recording does not change the acts
 pub acts_back-mark : (tag : Tag) (cmd : Cmd) (mark : Recording) (back : List Event) → mark_of cmd ≡ Some mark →
     acts_back (Do tag cmd ∷ back) ≡ acts_back back
 acts_back-mark tag cmd mark back is =
@@ -118,7 +118,7 @@ acts_back-mark tag cmd mark back is =
     ap (λ (own : List Act). unwrap_or (if list_any (is_over (own ++ past) now) (channels (own ++ past)) then None else Some (own ++ past)) past) (acts_of-mark now cmd mark is)
     ∙ kept (list_any (is_over past now) (channels past)) past
 
--- what is refused leaves the acts
+-- a refused event does not change the acts
 none_kept : (entered : Option (List Act)) (acts : List Act) → is_none entered ≡ true → unwrap_or entered acts ≡ acts
 none_kept None acts e = refl
 none_kept (Some more) acts e = cc

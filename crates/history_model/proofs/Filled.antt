@@ -20,6 +20,6 @@ steps_are_filled config media =
     steps-each config media (λ asked. Unit {0}) IsFilledStep (λ words asked is. tt)
     (record { replied = λ answer. tt; kill = tt; ended = tt; skip = tt; ask = λ command any. tt; commit = λ before any. commit-filled (batch before) })
 
--- nor is one of a connection's line in a script
+-- no batch of a connection's line in a script is empty
 pub said_is_filled : (playout : Playout) (before : List PlayedLine) (line : PlayedLine) (tag : Tag) → IfSome (said_step playout before line tag) IsFilledStep
 said_is_filled playout = said-each playout IsFilledStep (steps_are_filled playout.config playout.names)

@@ -55,7 +55,7 @@ length-raw_frame setup history channel =
     length-append (picture_bytes setup history channel) (sound_bytes setup history channel)
     ∙ rw (length-picture setup history channel, length-sound setup history channel) refl
 
--- recorded ticks are some, and not more than a clip may have frames
+-- there is at least one recorded tick, and at most as many as a clip may have frames
 record IsShort (span : Span) : Type 0 where
   some : 1 ≤ span.frames
   few : span.frames ≤ MAX_FRAMES

@@ -29,7 +29,7 @@ below_limit limit state some = omega (arith, some)
 abbrev pub is_printable : ℕ → Bool
 is_printable c = nat_le 32 c
 
--- a text of such characters, of which there are at most so many
+-- a text of such characters, at most `most` of them
 pub record IsPiece (text : List ℕ) (most : ℕ) : Type 0 where
   pub printable : list_all is_printable text ≡ true
   pub short : length text ≤ most
@@ -92,7 +92,7 @@ step-drawn state =
       worker = let low = below_limit 3 (next_state third) (omega arith) in omega (arith, low);
     }
 
--- a text that is drawn for a step: its numbers are digits
+-- the text of a number that is drawn for a step is a digit
 digit_drawn : (limit state : ℕ) → 0 < limit → limit ≤ 10 → IsPiece (decimal (number_of limit state)) 1
 digit_drawn limit state some low =
     piece_digit (number_of limit state) (let below = below_limit limit state some in omega (arith, below, low))
@@ -104,7 +104,7 @@ module _ (step : Step) (drawn : IsDrawn step) where
   place_piece : {text : List ℕ} {most : ℕ} → IsPiece text most → IsPiece (on_place step text) (3 + most)
   place_piece piece = channel_piece and_then literal (codes "-") refl and_then piece_digit step.layer drawn.layer and_then piece
 
-  -- a text that the step's connection says
+  -- a line of the step's connection
   record Speaks (made : Made) : Type 0 where
     text : List ℕ
     says : made.text ≡ said_by step text
@@ -243,7 +243,7 @@ made_line state =
     by_kind false false false false false false true = speaks_line step drawn (made_load step) (load_speaks step drawn)
     by_kind false false false false false false false = speaks_line step drawn (made_query step) (query_speaks step drawn)
 
--- no line end stands in such a line
+-- a line of such characters has no line end
 printable_other : (text : List ℕ) → list_all is_printable text ≡ true → list_any is_line_end text ≡ false
 printable_other [] all = refl
 printable_other (c ∷ text) all =
@@ -281,7 +281,7 @@ unfolding step_state
 step_state-snoc zero state = refl
 step_state-snoc (suc steps) state = step_state-snoc steps (made_in state).state
 
--- each line is such a line
+-- each line of the steps is a line that a script may have
 step_lines-made : (steps state : ℕ) → All IsMadeLine (step_lines steps state)
 unfolding step_lines
 step_lines-made zero state = All-nil IsMadeLine

@@ -1,4 +1,4 @@
--- Settings that wait change nothing, and a commit starts its group: what two timelines agree in.
+-- Waiting settings change nothing, and a commit starts its group: where two timelines agree.
 use Rattle.std.proofs.Common.{◌≡◌, ℕ, ◌+◌, min, Bool, true, false, not, ◌&&◌, ◌==◌, List, [], ◌∷◌, ◌++◌, map, refl, sym, ap, ap₂, ◌∙◌, eqb-true, eq-eqb, if◌then◌else◌}
 use Rattle.std.proofs.lemmas.Bool.{false≢true, and_parts}
 use Rattle.std.specs.Prelude.{Option, Some, option_map, filter_map}
@@ -30,7 +30,7 @@ use Rattle.history_model.specs.pictures.Sound.{scene_sample}
 use Rattle.history_model.specs.pictures.TimelineFrame.{timeline_foregrounds, timeline_frames, timeline_pixel, timeline_sample, timeline_sounds, timeline_statuses}
 use Rattle.history_model.proofs.Listed.{resolved_acts-listed, waiting_settings-listed}
 
--- the acts a have what the acts b have, without the settings that wait on the channels that pass the test
+-- the acts a are like the acts b without the settings that wait on the channels that pass the test
 pub record IsWithout (which : ℕ → Bool) (a b : List Act) : Type 0 where
   pub layers : layers a ≡ layers b
   pub trails : (place : PlaceView) → trail a place ≡ trail b place
@@ -38,7 +38,7 @@ pub record IsWithout (which : ℕ → Bool) (a b : List Act) : Type 0 where
   pub others : (channel : ℕ) → which channel ≡ false → waiting_list a channel ≡ waiting_list b channel
   pub none : (channel : ℕ) → which channel ≡ true → waiting_list a channel ≡ []
 
--- a commit leaves none of its channel, and a channel that fails the test before it fails it after it
+-- after a commit its channel fails the test, and so does each channel that failed it before
 committed_fails : (b : Bool) (channel : ℕ) → (b && not (channel == channel)) ≡ false
 committed_fails false channel = refl
 committed_fails true channel = ap not (eq-eqb channel channel refl)
@@ -47,7 +47,7 @@ fails_still : (which : ℕ → Bool) (cmd : Cmd) (channel : ℕ) → which chann
 fails_still which (CommitMixer committed) channel e = ap (λ b. b && not (committed == channel)) e
 fails_still which cmd channel e = e
 
--- what stands for a command depends on the waiting settings of the channel that it commits alone
+-- the acts that replace a command depend only on the waiting settings of the channel that it commits
 resolved_act-same : (which : ℕ → Bool) (cmd : Cmd) (t : ℕ) (a b : List Act) →
     ((channel : ℕ) → and_not_committed which cmd channel ≡ false → waiting_list a channel ≡ waiting_list b channel) →
     resolved_act cmd t a ≡ resolved_act cmd t b
@@ -88,7 +88,7 @@ not_among which setting channel waiting true false is e off = refl
 not_among which setting channel waiting true true is e off =
     absurd (false≢true (sym off ∙ ap which (sym (eqb-true setting.place.channel channel is)) ∙ e))
 
--- after a command that stays on both sides
+-- one more command that both sides keep
 IsWithout-act : (which : ℕ → Bool) (t u : ℕ) (cmd : Cmd) (a b : List Act) → t ≡ u → is_deferred_of which cmd ≡ false →
     IsWithout (and_not_committed which cmd) a b → IsWithout which (act_after t cmd ∷ a) (act_after u cmd ∷ b)
 IsWithout-act which t u cmd a b now kept h = record {
@@ -113,7 +113,7 @@ IsWithout-did which t u (Value place prop) a b now kept h = h
 IsWithout-did which t u Info a b now kept h = h
 IsWithout-did which t u cmd a b now kept h = IsWithout-act which t u cmd a b now kept h
 
--- after a setting that is left out on one side
+-- one more setting that one side leaves out
 IsWithout-left : (which : ℕ → Bool) (u : ℕ) (setting : SettingView) (a b : List Act) →
     (setting.deferred && which setting.place.channel) ≡ true → IsWithout which a b → IsWithout which a (act_after u (Set setting) ∷ b)
 IsWithout-left which u setting a b out h = record {
@@ -129,7 +129,7 @@ IsWithout-left which u setting a b out h = record {
   none = h.none;
 }
 
--- a timeline without such settings agrees with the timeline in all that is seen of them later
+-- a timeline without such settings agrees with the timeline in everything that is looked at later
 pub record IsCut (setup : Setup) (which : ℕ → Bool) (a b : List Entry) : Type 0 where
   pub acts : IsWithout which (timeline_acts a) (timeline_acts b)
   pub ticks : timeline_ticks a ≡ timeline_ticks b
@@ -158,11 +158,11 @@ IsCut-left setup which (Set setting) a b out h = record {
 }
 IsCut-left setup which cmd a b out h = absurd (false≢true out)
 
--- and so the same settings take place
+-- the resolved acts are equal
 resolved-same : (which : ℕ → Bool) (a b : List Act) → IsWithout which a b → resolved_acts a ≡ resolved_acts b
 resolved-same which a b h = resolved_acts-listed a ∙ h.resolved ∙ sym (resolved_acts-listed b)
 
--- they show the same layers at the next tick
+-- the places show equal foregrounds at the next tick
 foregrounds-same : (which : ℕ → Bool) (a b : List Act) (t u : ℕ) → IsWithout which a b → t ≡ u → foreground_at a t ≡ foreground_at b u
 foregrounds-same which a b t u h now = λ i. λ place. (ready (life (h.trails place i) (now i))).foreground
 
@@ -213,7 +213,7 @@ IsCut-ticked setup which a b h = record {
   sounds = sounds-same setup which a b h;
 }
 
--- and so all that is shown, sounded, answered and reported after them
+-- everything that is shown, sounded, answered and reported later is equal
 pub pixel-same : (setup : Setup) (which : ℕ → Bool) (a b : List Entry) → IsCut setup which a b → (channel x y : ℕ) →
     timeline_pixel setup a channel x y ≡ timeline_pixel setup b channel x y
 unfolding timeline_pixel
@@ -236,7 +236,7 @@ statuses-same setup which a b h =
     (λ layer. (life (h.acts.trails (record { channel = channel; layer = layer }) i) (h.ticks i)).foreground) (h.acts.layers i)))
     (channel_numbers setup)
 
--- a timeline without settings that wait agrees so with the timeline
+-- a timeline without waiting settings agrees with the timeline
 cut_by : (setup : Setup) (which : ℕ → Bool) (cmd : Cmd) (a b : List Entry) (out : Bool) → is_deferred_of which cmd ≡ out →
     IsCut setup (and_not_committed which cmd) a b → IsCut setup which (if out then a else Did cmd ∷ a) (Did cmd ∷ b)
 cut_by setup which cmd a b true is h = IsCut-left setup which cmd a b is h
@@ -289,7 +289,7 @@ pub waiting-without : (which : ℕ → Bool) (entries : List Entry) (channel : �
 waiting-without which entries channel on =
     waiting_settings-listed (timeline_acts (without_waiting which entries)) channel ∙ (without-cut no_media which entries).acts.none channel on
 
--- what stands before a moment of it is what stood there without such settings
+-- an earlier part of the shorter timeline is that part of the timeline, without waiting settings too
 cut_at : (out : Bool) (cmd : Cmd) (a later : List Entry) (before : List Entry) → (some : ℕ → Bool) × (a ≡ later ++ without_waiting some before) →
     (some : ℕ → Bool) × ((if out then a else Did cmd ∷ a) ≡ (if out then later else Did cmd ∷ later) ++ without_waiting some before)
 cut_at true cmd a later before (some, e) = (some, e)

@@ -1,4 +1,4 @@
--- What a query, a mark of a recording or a refused event leaves of all later answers, and frames before the first act.
+-- A query, a mark of a recording or a refused event changes no later answer. Frames before the first act.
 use Rattle.std.proofs.Common.{◌≡◌, ℕ, Bool, true, false, List, [], ◌∷◌, ◌++◌, reverse, length, map, pos, refl, sym, ap, ap₂, ◌∙◌, subst₂, is_none}
 use Rattle.std.proofs.lemmas.List.{reverse-append}
 use Rattle.std.specs.Prelude.{Some, flat_map}
@@ -27,7 +27,7 @@ use Rattle.history_model.specs.pictures.Sound.{scene_sample, sounds_back, frame_
 use Rattle.history_model.specs.stage.Answer.{Answered, Frames, channel_frame, channel_numbers, numbers_below, number_count, statuses, status_of, channel_foregrounds, outcome_of, command_answer, answer}
 use Rattle.history_model.proofs.Events.{IsSame, IsSame-cons, IsSame-append, IsSame-do, IsSame-batch, acts_back-value, acts_back-info, acts_back-mark, acts_back-refused, ticks-reverse, reverse-middle}
 
--- two histories agree in all that later definitions look at
+-- two histories agree in everything that later definitions look at
 abbrev pub SameHistory : Setup → List Event → List Event → Type 0
 SameHistory setup g h = IsSame setup (reverse g) (reverse h)
 
@@ -107,14 +107,14 @@ answer-same setup g h s (Batch tag cmds) e =
 answer-same setup g h s Tick e = frames-same setup g h s
 answer-same setup g h s (Stop tag) e = cc
 
--- a history without an event that leaves all as it was
+-- a history without an event that changes nothing
 pub SameHistory-without : (setup : Setup) (before : List Event) (event : Event) (later : List Event) →
     IsSame setup (event ∷ reverse before) (reverse before) → SameHistory setup (before ++ event ∷ later) (before ++ later)
 SameHistory-without setup before event later s =
     subst₂ (IsSame setup) (sym (reverse-middle before event later)) (sym (reverse-append before later))
     (IsSame-append setup (reverse later) (event ∷ reverse before) (reverse before) s)
 
--- a query leaves all as it was
+-- a query changes nothing
 pub SameHistory-value : (setup : Setup) (before : List Event) (tag : Tag) (place : PlaceView) (prop : Prop) (later : List Event) →
     SameHistory setup (before ++ Do tag (ValueOf place prop) ∷ later) (before ++ later)
 SameHistory-value setup before tag place prop later =
@@ -127,14 +127,14 @@ SameHistory-info setup before tag later =
     SameHistory-without setup before (Do tag InfoOf) later
     (IsSame-do setup tag InfoOf (reverse before) (acts_back-info tag (reverse before)))
 
--- so does a mark of a recording
+-- a mark of a recording changes nothing
 pub SameHistory-mark : (setup : Setup) (before : List Event) (tag : Tag) (cmd : Cmd) (mark : Recording) (later : List Event) → mark_of cmd ≡ Some mark →
     SameHistory setup (before ++ Do tag cmd ∷ later) (before ++ later)
 SameHistory-mark setup before tag cmd mark later is =
     SameHistory-without setup before (Do tag cmd) later
     (IsSame-do setup tag cmd (reverse before) (acts_back-mark tag cmd mark (reverse before) is))
 
--- so does a refused event
+-- a refused event changes nothing
 refused_same : (setup : Setup) (event : Event) (back : List Event) →
     is_none (with_event (acts_back back) (ticks back) event) ≡ true → IsSame setup (event ∷ back) back
 refused_same setup (Do tag cmd) back e = IsSame-do setup tag cmd back (acts_back-refused (Do tag cmd) back e)

@@ -1,4 +1,4 @@
--- The list that is kept of waiting settings agrees with the definitions that look ahead.
+-- The list of waiting settings agrees with the definitions by the acts that follow.
 use Rattle.std.proofs.Common.{◌≡◌, ℕ, ◌==◌, eqb, Bool, true, false, ◌&&◌, ◌||◌, not, inl, inr, List, [], ◌∷◌, ◌++◌, map, reverse, refl, sym, ap, ap₂, ◌∙◌, eq-eqb, eqb-true, ne_eqb, append-nil, if◌then◌else◌}
 use Rattle.std.specs.Prelude.{filter, filter_map, Some, None}
 use Rattle.std.specs.List.{cons_option, list_any}
@@ -16,7 +16,7 @@ use Rattle.history_model.specs.stage.Resolved.{Commits, Deferral, Defers, Neithe
 use Rattle.history_model.specs.stage.Trail.{tuning}
 use Rattle.history_model.specs.stage.Value.{tuned_value, value_at}
 
--- the test for equal numbers may be turned round
+-- the test for equal numbers is symmetric
 pub eqb_turned : (m n : ℕ) → eqb m n ≡ eqb n m
 eqb_turned m n = elim (cases_eq m n) [
   | inl e ↦ eq-eqb m n e ∙ sym (eq-eqb n m (sym e))
@@ -60,7 +60,7 @@ committed-last channel (first ∷ acts) act =
     or_apart true y z = refl
     or_apart false y z = refl
 
--- what one act more at the end makes of the settings that wait
+-- the settings that wait after one act more at the end
 abbrev with_last : Deferral → ℕ → List SettingView → List SettingView
 with_last (Defers setting) channel settings = if setting.place.channel == channel then settings ++ setting ∷ [] else settings
 with_last (Commits committed) channel settings = if committed == channel then [] else settings
@@ -110,7 +110,7 @@ waiting_in_order-last (first ∷ acts) act channel =
     (committed-last channel acts act) (waiting_in_order-last acts act channel)
     ∙ waiting_step (deferral act.cmd) (deferral first.cmd) channel (is_committed channel acts) (waiting_in_order acts channel)
 
--- the same of the list that has the last setting first
+-- the settings that wait after one act more, in the list that has the last setting first
 abbrev waiting_by : Deferral → ℕ → List SettingView → List SettingView
 waiting_by (Defers setting) channel earlier = if setting.place.channel == channel then setting ∷ earlier else earlier
 waiting_by (Commits committed) channel earlier = if committed == channel then [] else earlier
@@ -169,7 +169,7 @@ waiting_settings-listed [] channel = refl
 waiting_settings-listed (act ∷ before) channel =
     waiting_settings-act act before channel ∙ ap (waiting_after act.cmd channel) (waiting_settings-listed before channel)
 
--- the list is what waits among the acts in their order, turned round
+-- the list is that of the acts in their order, reversed
 waiting_in_order-listed : (acts : List Act) (channel : ℕ) → reverse (waiting_in_order (reverse acts) channel) ≡ waiting_list acts channel
 waiting_in_order-listed [] channel = refl
 waiting_in_order-listed (act ∷ before) channel =
@@ -179,7 +179,7 @@ waiting_in_order-listed (act ∷ before) channel =
     ∙ sym (waiting_after-by act.cmd channel (reverse (waiting_in_order (reverse before) channel)))
     ∙ ap (waiting_after act.cmd channel) (waiting_in_order-listed before channel)
 
--- settling adds no commit
+-- moving a setting behind its commit adds no commit
 committed-settled : (setting : SettingView) (acts : List Act) (channel : ℕ) → is_committed channel (with_settled setting acts) ≡ is_committed channel acts
 committed-settled setting [] channel = refl
 committed-settled setting (act ∷ later) channel =
@@ -205,7 +205,7 @@ committed-resolved [] channel = refl
 committed-resolved (act ∷ later) channel =
     committed-with channel (deferral act.cmd) act later (resolved_in_order later) refl (committed-resolved later channel)
 
--- a setting among acts in two parts, and among settings that take place
+-- a setting that is moved among acts in two parts, and among settings that take effect
 with_settled-append : (setting : SettingView) (front back : List Act) →
     with_settled setting (front ++ back)
     ≡ with_settled setting front ++ (if is_committed setting.place.channel front then back else with_settled setting back)
@@ -233,7 +233,7 @@ added (Defers setting) act acts = []
 added (Commits committed) act acts = act ∷ map (settled_act act.ticks) (waiting_in_order acts committed)
 added Neither act acts = act ∷ []
 
--- it adds the same behind an act that is no deferred setting
+-- it adds these acts too if an act that is no deferred setting comes first
 waiting_unchanged : (first : Act) (acts : List Act) (channel : ℕ) →
     ((settings : List SettingView) → with_deferred (deferral first.cmd) channel settings ≡ settings) →
     waiting_in_order acts channel ≡ waiting_in_order (first ∷ acts) channel
@@ -253,7 +253,7 @@ added_unchanged (Commits committed) first act acts same =
     ap (λ (settings : List SettingView). act ∷ map (settled_act act.ticks) settings) (waiting_unchanged first acts committed (same committed))
 added_unchanged Neither first act acts same = refl
 
--- and behind a deferred one what the commits of its channel leave
+-- if a deferred setting comes first, it adds what the commits of its channel leave
 commit_tail : (act : Act) (setting : SettingView) (settings : List SettingView) (rest : List Act) (here there own : Bool) →
     rest ≡ map (settled_act act.ticks) settings → (own ≡ true → here ≡ there) →
     (if here then act ∷ map (settled_act act.ticks) settings
@@ -325,7 +325,7 @@ resolved_in_order-last (first ∷ acts) act =
     ap (resolved_with (deferral first.cmd) first) (resolved_in_order-last acts act)
     ∙ resolved_step (deferral first.cmd) first act acts refl
 
--- what stands for an act
+-- the acts that replace an act
 reverse-map : (ticks : ℕ) (settings : List SettingView) → reverse (map (settled_act ticks) settings) ≡ map (settled_act ticks) (reverse settings)
 reverse-map ticks [] = refl
 reverse-map ticks (setting ∷ settings) =

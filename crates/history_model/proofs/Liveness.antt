@@ -15,7 +15,7 @@ use Rattle.history_model.specs.stage.Live.{is_live, live_layers, layers}
 use Rattle.history_model.specs.stage.Acts.{acts, acts_back}
 use Rattle.history_model.proofs.Lives.{after-none, after-early, after-late}
 
--- running leaves the foreground
+-- ticks do not change whether there is a foreground
 some_run : (foreground : Option Foreground) (k : ℕ) → is_some (option_map (shown_for k) foreground) ≡ is_some foreground
 some_run None k = refl
 some_run (Some f) k = refl
@@ -38,7 +38,7 @@ after_by : (s : Life) (k : ℕ) (wait : Option ℕ) → delay s ≡ wait → is_
 after_by s k None e = ap is_live (after-none s k e) ∙ is_live-run_for s k
 after_by s k (Some a) e = after_some s k a e (cases_lt a k)
 
--- ticks leave a place live, or not
+-- ticks do not change whether a place is live
 pub is_live-after : (s : Life) (k : ℕ) → is_live (after s k) ≡ is_live s
 is_live-after s k = after_by s k (delay s) refl
 
@@ -57,6 +57,6 @@ pub acts-tick : (history : List Event) → acts (history ++ Tick ∷ []) ≡ act
 unfolding acts
 acts-tick history = ap acts_back (reverse-append history (Tick ∷ []))
 
--- so it leaves every trail
+-- a tick changes no trail
 pub trail-tick : (history : List Event) (place : PlaceView) → trail (acts (history ++ Tick ∷ [])) place ≡ trail (acts history) place
 trail-tick history place = ap (λ past. trail past place) (acts-tick history)

@@ -1,4 +1,4 @@
--- Lives over time: ticks add up, and an automatic start comes at its tick however one gets there.
+-- Lives over time: ticks add up, and an automatic start comes at its tick whether ticks pass one by one or at once.
 use Rattle.std.proofs.Common.{◌≡◌, ℕ, zero, suc, ◌+◌, ◌-◌, ◌<◌, ◌≤◌, Bool, true, false, ◌&&◌, refl, sym, ap, ◌∙◌, ◌⊎◌, inl, inr, arith, add-zero, add-one, add_assoc, lt-ltb, le-ltb, if◌then◌else◌}
 use Rattle.std.proofs.lemmas.Bool.{cases_lt}
 use Rattle.std.specs.Prelude.{Option, Some, None, option_map}
@@ -174,7 +174,7 @@ steps_are_after (suc n) s =
     ap step (steps_are_after n s) ∙ step_is_after (after s n) ∙ after-add s n 1
     ∙ ap (after s) (add-one n)
 
--- before an automatic start is due the next tick shows the place as it stands, when it is due the tick starts it
+-- before an automatic start is due the next tick shows the place unchanged, and when it is due the tick starts it
 pub ready_before : (s : Life) (a j : ℕ) → delay s ≡ Some a → j < a → ready (after s j) ≡ after s j
 ready_before s a j e h =
     let early : j ≤ a = omega arith in

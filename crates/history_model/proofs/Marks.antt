@@ -40,7 +40,7 @@ over_step config media given_up later lines line over high =
     ∙ ap (λ ss. slice_get ss (length lines)) (until_end-lines_ended config media [] later first more high over.ended)
     ∙ slice_get_past (until_end (line_steps config media [] first)) (length lines) (omega (arith, many, few, each))
 
--- and stays ended
+-- an ended connection stays ended
 pub over-more : (config : ConfigView) (media : List MediaNameView) (given_up later : List ℕ) (lines : List Line) (line : Line)
     → (over : IsOver config media given_up lines) → All (λ k. length over.first ≤ k) later → IsOver config media later (lines ++ line ∷ [])
 over-more config media given_up later lines line over high = record {
@@ -51,7 +51,7 @@ over-more config media given_up later lines line over high = record {
   ended = over.ended;
 }
 
--- a line more that is given up comes after the end
+-- one more line that is given up comes after the end
 pub over-lost : (config : ConfigView) (media : List MediaNameView) (given_up : List ℕ) (lines : List Line) (n : ℕ)
     → (over : IsOver config media given_up lines) → length lines ≡ n → All (λ k. length over.first ≤ k) (given_up ++ n ∷ [])
 over-lost config media given_up lines n over is =
@@ -94,7 +94,7 @@ next_step config media given_up lines line high goes =
     ∙ ap (slice_get (before ++ step ∷ [])) (sym (length-line_steps config media [] lines))
     ∙ last_step before step
 
--- it is a 500 if the line is given up
+-- the step is a 500 if the line is given up
 pub given_up_here : (n : ℕ) → is_given_up (n ∷ []) n ≡ true
 given_up_here n = ap (λ (b : Bool). b || false) (eq-eqb n n refl)
 

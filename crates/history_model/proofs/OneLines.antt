@@ -1,4 +1,4 @@
--- The lines of an input are lines: no text of a connection has a line end.
+-- No text of a connection in the lines of an input has a line end.
 use Rattle.std.proofs.Common.{◌≡◌, ℕ, zero, suc, ◌+◌, ◌-◌, eqb, ◌==◌, Bool, true, false, cond, List, [], ◌∷◌, ◌++◌, drop, take, length, map, refl, sym, ap, ◌∙◌, subst}
 use Rattle.std.specs.Prelude.{Option, Some, None, nat_le, nat_lt, position, slice_index, if◌then◌else◌}
 use Rattle.std.specs.Option.{option_map, option_and_then}
@@ -30,7 +30,7 @@ drop_one_line zero text none = none
 drop_one_line (suc n) [] none = refl
 drop_one_line (suc n) (c ∷ text) none = drop_one_line n text (or_parts (is_line_end c) (list_any is_line_end text) none).1
 
--- nor is there one without its carriage return
+-- a line without its carriage return has no line end either
 pub stripped_one_line : (line text : List ℕ) → line ≡ strip_carriage_return text → HasNoLineEnd text → HasNoLineEnd line
 stripped_one_line line text is none = ap (list_any is_line_end) is ∙ by_end (slice_index text (length text - 1) == 13)
   where
@@ -38,7 +38,7 @@ stripped_one_line line text is none = ap (list_any is_line_end) is ∙ by_end (s
     by_end true = take_one_line (length text - 1) text none
     by_end false = none
 
--- the text of a connection's line has none if the line has none
+-- the text of a connection's line has no line end if the line has none
 abbrev HaveNoLineEnd : Option (List ℕ × List ℕ) → Type 0
 HaveNoLineEnd None = Unit {0}
 HaveNoLineEnd (Some parts) = HasNoLineEnd parts.1
@@ -103,7 +103,7 @@ meaning_one_line line none = by_length (nat_lt MAX_SCRIPT_LINE_BYTES (length lin
 pub text_one_line : (line : List ℕ) (tag : Tag) (text : List ℕ) → Said tag text ≡ meaning line → HasNoLineEnd line → HasNoLineEnd text
 text_one_line line tag text is none = subst IsOneLine (sym is) (meaning_one_line line none)
 
--- the parts of an input have none
+-- the parts of an input have no line ends
 abbrev pub AreWithoutLineEnds : List (List ℕ) → Type 0
 AreWithoutLineEnds [] = Unit {0}
 AreWithoutLineEnds (text ∷ texts) = HasNoLineEnd text × AreWithoutLineEnds texts
@@ -157,7 +157,7 @@ received_without bytes false =
     both_without (ended_parts (parts bytes)) (overlong (last_part (parts bytes))) (ended_without (parts bytes) (parts_without bytes))
     (overlong_without (last_part (parts bytes)) (last_without (parts bytes) (parts_without bytes)))
 
--- and so what they say
+-- the texts of connections in these lines have no line ends
 pub said_lines : (texts : List (List ℕ)) → AreWithoutLineEnds texts → AreLines (map meaning texts)
 said_lines [] none = tt
 said_lines (text ∷ texts) none = (meaning_one_line text none.0, said_lines texts none.1)
@@ -165,7 +165,7 @@ said_lines (text ∷ texts) none = (meaning_one_line text none.0, said_lines tex
 pub AreLines-input : (bytes : List ℕ) (ended : Bool) → AreLines (input_lines bytes ended)
 AreLines-input bytes ended = said_lines (received bytes ended) (received_without bytes ended)
 
--- up to the first stop, and in parts
+-- nor have those of the lines up to the first stop, or of a part of the lines
 pub AreLines-until_stop : (lines : List ScriptLine) → AreLines lines → AreLines (until_stop lines)
 AreLines-until_stop [] whole = tt
 AreLines-until_stop (Comment ∷ lines) whole = (tt, AreLines-until_stop lines whole.1)

@@ -1,4 +1,4 @@
--- The open batch after one more ask, and which asks leave it as it was.
+-- The open batch after one more thing that is asked for, and what leaves it unchanged.
 use Rattle.std.proofs.Common.{◌≡◌, ℕ, ◌+◌, ◌-◌, ◌<◌, Bool, true, false, cond, not, ◌||◌, List, [], ◌∷◌, ◌++◌, take, length, refl, sym, ap, ◌∙◌, arith, inl, inr, append-nil}
 use Rattle.std.specs.Prelude.{Option, None, nat_lt, filter_map}
 use Rattle.std.specs.List.{list_any, suffix_len, after_first, after_last, position_or_len, cons_option}
@@ -18,7 +18,7 @@ use Rattle.history_model.specs.sessions.Session.{Step, Local, Ask, AskBatch, Kil
 use Rattle.history_model.specs.scripts.Struck.{ReportsNoChange}
 use Rattle.history_model.proofs.Sessions.{position_or_len-append}
 
--- the step of a line that leaves the batch: a reply that says so, a command that the stage is asked for, or none
+-- the step of a line that does not change the batch: a reply that reports no change, a command that the stage is asked for, or none
 abbrev pub LeavesBatch : Step → Type 0
 LeavesBatch (Local answer) = ReportsNoChange answer
 LeavesBatch (Ask command) = Unit {0}
@@ -27,7 +27,7 @@ LeavesBatch KillServer = ⊥
 LeavesBatch EndConnection = ⊥
 LeavesBatch Skip = Unit {0}
 
--- what stands after the last element that passes, in a list with one more element at its end
+-- the elements after the last one that passes, in a list with one more element at its end
 after_last-passes : {X : Type 0} (p : X → Bool) (xs : List X) (x : X) → p x ≡ true → after_last p (xs ++ x ∷ []) ≡ []
 after_last-passes p xs x passes =
     let none : suffix_len (λ y. not (p y)) (xs ++ x ∷ []) ≡ 0 = rw (reverse-append xs (x ∷ []), passes) refl in
@@ -40,7 +40,7 @@ after_last-fails p xs x fails =
     let same : length (xs ++ x ∷ []) - (1 + k) ≡ length xs - k = omega (arith, length-append xs (x ∷ [])) in
     rw (more, same) (drop-append-le (length xs - k) xs (x ∷ []) (omega arith))
 
--- what stands after the first element that passes, in a list with more elements at its end
+-- the elements after the first one that passes, in a list with more elements at its end
 after_first-append : {X : Type 0} (p : X → Bool) (xs ys : List X) → list_any p xs ≡ true → after_first p (xs ++ ys) ≡ after_first p xs ++ ys
 after_first-append p xs ys h =
     let within = position_or_len_some p xs h in
@@ -60,7 +60,7 @@ take-snoc n xs x = elim (cases_lt (length xs) n) [
       rw (take-append-le n xs (x ∷ []) long, le-ltb (length (take n xs)) n (omega (arith, length-take n xs))) refl
 ]
 
--- whether a batch is open after one more ask
+-- whether a batch is open after one more thing is asked for
 pub is_open-closing : (asked : List Parsed) (ask : Parsed) → is_closing ask ≡ true → is_open (asked ++ ask ∷ []) ≡ false
 is_open-closing asked ask closes = ap (list_any is_begin) (after_last-passes is_closing asked ask closes)
 
@@ -70,7 +70,7 @@ is_open-other asked ask other =
     ap (list_any is_begin) (after_last-fails is_closing asked ask other)
     ∙ list_any-append is_begin (since_closing asked) (ask ∷ [])
 
--- the commands of the open batch after one more ask
+-- the commands of the open batch after one more thing is asked for
 batch-other : (asked : List Parsed) (ask : Parsed) → is_closing ask ≡ false → is_open asked ≡ true
     → batch (asked ++ ask ∷ [])
     ≡ take MAX_BATCH_COMMANDS (filter_map batched (after_first is_begin (since_closing asked)) ++ filter_map batched (ask ∷ []))
@@ -79,7 +79,7 @@ batch-other asked ask other opened =
     ∙ ap (λ (since : List Parsed). take MAX_BATCH_COMMANDS (filter_map batched since)) (after_first-append is_begin (since_closing asked) (ask ∷ []) opened)
     ∙ ap (take MAX_BATCH_COMMANDS) (filter_map-append batched (after_first is_begin (since_closing asked)) (ask ∷ []))
 
--- an ask that is no command for the batch leaves it
+-- what is no command for the batch does not change it
 pub batch-same : (asked : List Parsed) (ask : Parsed) → is_closing ask ≡ false → is_open asked ≡ true → batched ask ≡ None
     → batch (asked ++ ask ∷ []) ≡ batch asked
 batch-same asked ask other opened none =
@@ -104,7 +104,7 @@ batch-command asked command opened = elim (cases_Bool (is_query command)) [
       ∙ sym (batch-other asked (Stage command) refl opened)))
 ]
 
--- a command that is no query waits if there is room
+-- a command that is no query is added if there is room
 pub batch-waits : (asked : List Parsed) (command : Cmd) → is_open asked ≡ true → is_query command ≡ false → length (batch asked) < MAX_BATCH_COMMANDS
     → batch (asked ++ Stage command ∷ []) ≡ batch asked ++ command ∷ []
 batch-waits asked command opened acts room =
@@ -115,12 +115,12 @@ batch-begin asked closed =
     ap (λ (since : List Parsed). take MAX_BATCH_COMMANDS (filter_map batched (after_first is_begin since))) (after_last-fails is_closing asked Begin refl)
     ∙ ap (λ (since : List Parsed). take MAX_BATCH_COMMANDS (filter_map batched since)) (after_first_at is_begin (since_closing asked) Begin [] closed refl)
 
--- two lists of asks leave the same batch open, or none
+-- two lists of what was asked for leave one batch open in both, or none
 pub record IsSameBatch (a b : List Parsed) : Type 0 where
   pub opened : is_open a ≡ is_open b
   pub commands : is_open a ≡ true → batch a ≡ batch b
 
--- and so they do after one more ask
+-- they do so after one more thing is asked for
 both_closed : (a b : List Parsed) (ask : Parsed) → is_closing ask ≡ true → IsSameBatch (a ++ ask ∷ []) (b ++ ask ∷ [])
 both_closed a b ask closes = record {
   opened = is_open-closing a ask closes ∙ sym (is_open-closing b ask closes);
@@ -132,7 +132,7 @@ both_opened : (a b : List Parsed) (ask : Parsed) → is_closing ask ≡ false �
 both_opened a b ask other h =
     is_open-other a ask other ∙ ap (λ o. o || list_any is_begin (ask ∷ [])) h.opened ∙ sym (is_open-other b ask other)
 
--- an ask that is no BEGIN opens none
+-- what is no BEGIN opens no batch
 was_open : (a : List Parsed) (ask : Parsed) → is_closing ask ≡ false → list_any is_begin (ask ∷ []) ≡ false → is_open (a ++ ask ∷ []) ≡ true → is_open a ≡ true
 was_open a ask other none opens = or_false (is_open a) (ap (λ b. is_open a || b) (sym none) ∙ sym (is_open-other a ask other) ∙ opens)
   where
@@ -171,7 +171,7 @@ IsSameBatch-snoc a b Version h = both_other a b Version refl refl refl h
 IsSameBatch-snoc a b Bye h = both_other a b Bye refl refl refl h
 IsSameBatch-snoc a b Kill h = both_other a b Kill refl refl refl h
 
--- such lists give the next line one step
+-- after both lists what is asked for next has one step
 step_by : (open_now : Bool) (a b : List Parsed) (ask : Parsed) → is_open a ≡ open_now → IsSameBatch a b → step_after a ask ≡ step_after b ask
 step_by true a b ask is h =
     ap (λ (o : Bool). cond o (step_inside (batch a) ask) (step_outside ask)) is
@@ -186,7 +186,7 @@ step-same a b Blank h = refl
 step-same a b (Wrong answer) h = refl
 step-same a b (Asks ask) h = step_by (is_open a) a b ask refl h
 
--- an ask with such a step leaves the batch
+-- what is asked for with a step that leaves the batch does not change it
 closed_still : (a : List Parsed) (ask : Parsed) → is_open a ≡ false → is_open (a ++ ask ∷ []) ≡ false → IsSameBatch (a ++ ask ∷ []) a
 closed_still a ask was now = record {
   opened = now ∙ sym was;
@@ -245,7 +245,7 @@ left_by false a ask is refused = outside_left a ask is refused
 pub same_batch : (a : List Parsed) → IsSameBatch a a
 same_batch a = record { opened = refl; commands = λ opens. refl }
 
--- so does a line with such a step
+-- a line with a step that leaves the batch does not change it
 pub batch-left : (a : List Parsed) (meaning : LineMeaning) → LeavesBatch (step_of_meaning a meaning) → IsSameBatch (a ++ cons_option (asked_by meaning) []) a
 batch-left a Blank refused = rw (append-nil a) (same_batch a)
 batch-left a (Wrong answer) refused = rw (append-nil a) (same_batch a)

@@ -11,7 +11,7 @@ pub first_goes_on : (b more : Bool) → cond b false more ≡ true → (b ≡ fa
 first_goes_on true more on = absurd (false≢true on)
 first_goes_on false more on = (refl, on)
 
--- one line more: it goes on after all of them and does not end at the next
+-- the run goes on after all lines and one more, if it goes on after the lines and does not end at the next
 goes_on_after-snoc : (playout : Playout) (before lines : List PlayedLine) (line : PlayedLine) → goes_on_after playout before lines ≡ true
     → ends_at playout (before ++ lines) line line.line ≡ false → goes_on_after playout before (lines ++ line ∷ []) ≡ true
 unfolding goes_on_after

@@ -92,7 +92,7 @@ pub ended_lines-feed : (bytes : List ℕ) → ended_lines (bytes ++ 10 ∷ []) �
 unfolding ended_lines unended
 ended_lines-feed bytes = ap ended_parts (parts-feed bytes) ∙ ended_parts-snoc (parts bytes) [] (some_parts bytes)
 
--- and nothing follows it
+-- after a line feed nothing is unended
 pub unended-feed : (bytes : List ℕ) → unended (bytes ++ 10 ∷ []) ≡ []
 unfolding unended
 unended-feed bytes = ap last_part (parts-feed bytes) ∙ last_part-snoc (parts bytes) []
@@ -102,12 +102,12 @@ pub ended_lines-other : (bytes : List ℕ) (byte : ℕ) → eqb byte 10 ≡ fals
 unfolding ended_lines
 ended_lines-other bytes byte other = ap ended_parts (parts-other bytes byte other) ∙ ended_parts-onto_last (parts bytes) byte
 
--- and stands at the end of what follows the last line feed
+-- another byte is added to what follows the last line feed
 pub unended-other : (bytes : List ℕ) (byte : ℕ) → eqb byte 10 ≡ false → unended (bytes ++ byte ∷ []) ≡ unended bytes ++ byte ∷ []
 unfolding unended
 unended-other bytes byte other = ap last_part (parts-other bytes byte other) ∙ last_part-onto_last (parts bytes) byte
 
--- what has not ended is a line at the end of the input, if it is not empty
+-- the unended part is a line at the end of the input, if it is not empty
 unfoldable pub last_line : List ℕ → List (List ℕ)
 last_line text = cond (eqb (length text) 0) [] (text ∷ [])
 
@@ -131,7 +131,7 @@ ended_lines-more_by bytes c true is =
     is_ten c is = grind (arith, nat_tests)
 ended_lines-more_by bytes c false is = ([], ended_lines-other bytes c is ∙ sym (append-nil (ended_lines bytes)))
 
--- the lines that have ended stand first among those of more bytes
+-- the lines of more bytes begin with the lines that have ended
 pub ended_lines-more : (bytes rest : List ℕ) → (more : List (List ℕ)) × (ended_lines (bytes ++ rest) ≡ ended_lines bytes ++ more)
 ended_lines-more bytes [] = ([], ap ended_lines (append-nil bytes) ∙ sym (append-nil (ended_lines bytes)))
 ended_lines-more bytes (c ∷ rest) =

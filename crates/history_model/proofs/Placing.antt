@@ -1,4 +1,4 @@
--- Placing by the default values: every column and row shows itself, and a pixel is the raster's.
+-- Placing by the default values: every column and row shows that of its number, and a pixel is the raster's.
 use Rattle.std.proofs.Common.{◌≡◌, ℕ, ◌+◌, ◌*◌, ◌/◌, ◌<◌, ◌≤◌, Bool, true, ◌&&◌, pos, ◌-ℤ◌, ◌*ℤ◌, ap, ap₂, ◌∙◌, arith, add-zero, mul-zero, lt-ltb, le-leb, if◌then◌else◌}
 use Rattle.std.specs.Prelude.{Some, None, int_le, int_lt}
 use Rattle.play_types.specs.declared.geometry.Geometry.{Geometry}
@@ -17,7 +17,7 @@ middle_column x = omega arith
 no_part : (width : ℕ) → twice_part width (pos 0) ≡ pos 0
 no_part width = ap pos (mul-zero (2 * width))
 
--- every column shows itself
+-- every column shows the column of its number
 pub filled_column-default : (width x : ℕ) → x < width → filled_column width (pos 0) (pos 1000000) x ≡ Some x
 filled_column-default width x h =
     ap (λ z. column_in width (floor_div (twice_middle x -ℤ z) (pos 2 *ℤ pos 1000000))) (no_part width)
@@ -25,7 +25,7 @@ filled_column-default width x h =
     ∙ ap (λ n. column_in width (pos n)) (middle_column x)
     ∙ ap (λ (t : Bool). if t then Some x else None) (lt-ltb x width h)
 
--- and is kept
+-- every column is kept
 pub is_kept-default : (width x : ℕ) → x < width → is_kept width (pos 0) (pos 1000000) x ≡ true
 is_kept-default width x h =
     ap (λ z. int_le z (twice_middle x) && int_lt (twice_middle x) (twice_part width (pos 1000000))) (no_part width)
@@ -34,7 +34,7 @@ is_kept-default width x h =
     lt-ltb ((2 * x + 1) * 1000000) (2 * width * 1000000) below)
     ∙ ap (λ t. t && true) (let above : 0 ≤ (2 * x + 1) * 1000000 = omega arith in le-leb 0 ((2 * x + 1) * 1000000) above)
 
--- every raster column and row shows itself by the default fill and clip
+-- every column and row shows that of its number by the default fill and clip
 pub visible_column-default_columns : (width x : ℕ) → x < width → visible_column width (default_of Fill) (default_of Clip) 0 x ≡ Some x
 visible_column-default_columns width x h =
     ap (λ (t : Bool). if t then filled_column width (pos 0) (pos 1000000) x else None) (is_kept-default width x h)

@@ -1,4 +1,4 @@
--- A script of one connection, line by line: what it did and wrote so far, and what the next line does and writes.
+-- A script of one connection, line by line: its history and its output so far, and those of the next line.
 use Rattle.std.proofs.Common.{◌≡◌, ℕ, true, false, cond, ◌||◌, List, [], ◌∷◌, ◌++◌, replicate, refl, ap, ◌∙◌, if◌then◌else◌}
 use Rattle.std.specs.Prelude.{Some, None}
 use Rattle.std.specs.List.{cons_option, list_any}
@@ -19,13 +19,13 @@ use Rattle.history_model.proofs.Besides.{same_asks, same_ended}
 use Rattle.history_model.proofs.Sides.{Side, Side-none, Side-other, Side-said, asked_of, asked_of-said, has_ended, has_ended-said, own_step, said_step-own}
 use Rattle.history_model.proofs.Tags.{text_by-own}
 
--- what the connection asked for so far, and what the script did and wrote
+-- what the connection asked for so far, and the history and the output of the script
 pub record Progress : Type 0 where
   pub asked : List Parsed
   pub events : List Event
   pub output : List ℕ
 
--- after these lines the run and the connection go on, and it came to this
+-- after these lines the run and the connection go on, with this progress
 pub record HasRun (playout : Playout) (tag : Tag) (lines : List PlayedLine) (so_far : Progress) : Type 0 where
   pub goes : goes_on playout lines ≡ true
   pub events : script_events playout lines ≡ so_far.events
@@ -49,7 +49,7 @@ run_none playout tag = record {
   ended = refl;
 }
 
--- a line of the connection, by what it means
+-- the step of a line of the connection, by its meaning
 abbrev pub step_then : Progress → LineMeaning → Step
 step_then so_far meaning = step_of_meaning so_far.asked meaning
 

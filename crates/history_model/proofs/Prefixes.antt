@@ -1,4 +1,4 @@
--- The output and the history of the first lines of a script stand at the beginning of those of the script.
+-- The output and the history of a script begin with those of its first lines.
 use Rattle.std.proofs.Common.{◌≡◌, ℕ, Bool, true, false, cond, List, [], ◌∷◌, ◌++◌, refl, sym, ap, ◌∙◌, append_assoc, append-nil}
 use Rattle.play_types.specs.declared.event.Event.{Event}
 use Rattle.history_model.specs.scripts.History.{Playout, PlayedLine, Past, events_at, ends_at, events_after, script_events}
@@ -24,7 +24,7 @@ pub script_output-later : (playout : Playout) (lines later : List PlayedLine) �
 unfolding script_output
 script_output-later playout lines later = output_after-later playout [] lines later
 
--- what lines do comes after what was done before them
+-- the events of lines come after those of the lines before them
 added_by : (ends : Bool) (here all : List Event) → (more : List Event) × (all ≡ here ++ more) → (more : List Event) × (cond ends here all ≡ here ++ more)
 added_by true here all found = ([], sym (append-nil here))
 added_by false here all found = found

@@ -4,7 +4,7 @@ use Rattle.std.proofs.lemmas.Bool.{false≢true}
 use Rattle.play_types.specs.declared.reply.Reply.{Reply}
 use Rattle.play_types.specs.declared.event.Event.{Event}
 use Rattle.history_model.specs.scripts.History.{Playout, PlayedLine, Past, ends_at, events_after, events_at, goes_on, goes_on_after, script_events}
-use Rattle.history_model.specs.scripts.Memory.{HasMemory, HasMemoryAfter, IsNoneOrOfMemory, UnlessEnded, reply_at}
+use Rattle.history_model.specs.scripts.Memory.{HasMemory, HasMemoryAfter, HadMemoryIfAny, UnlessEnded, reply_at}
 use Rattle.history_model.specs.scripts.Replies.{replies_after, reply_list, script_replies}
 use Rattle.history_model.proofs.Outputs.{first_goes_on}
 
@@ -39,13 +39,13 @@ pub script_replies-none : (playout : Playout) → script_replies playout [] ≡ 
 unfolding script_replies replies_after
 script_replies-none playout = refl
 
--- one line more of which the reply does not say that memory ran out
+-- one more line whose reply does not say that memory ran out
 HasMemoryAfter-snoc : (playout : Playout) (before lines : List PlayedLine) (line : PlayedLine) → goes_on_after playout before lines ≡ true
-    → HasMemoryAfter playout before lines → IsNoneOrOfMemory (reply_at playout (before ++ lines) line line.line)
+    → HasMemoryAfter playout before lines → HadMemoryIfAny (reply_at playout (before ++ lines) line line.line)
     → HasMemoryAfter playout before (lines ++ line ∷ [])
 unfolding goes_on_after
 HasMemoryAfter-snoc playout before [] line on without one =
-    (subst (λ ls. IsNoneOrOfMemory (reply_at playout ls line line.line)) (append-nil before) one, nothing_after (ends_at playout before line line.line))
+    (subst (λ ls. HadMemoryIfAny (reply_at playout ls line line.line)) (append-nil before) one, nothing_after (ends_at playout before line line.line))
   where
     nothing_after : (b : Bool) → UnlessEnded b (Unit {0})
     nothing_after true = tt
@@ -57,15 +57,15 @@ HasMemoryAfter-snoc playout before (first ∷ lines) line on without one =
       without.0,
       subst (λ b. UnlessEnded b (HasMemoryAfter playout (before ++ first ∷ []) (lines ++ line ∷ []))) (sym parts.0)
           (HasMemoryAfter-snoc playout (before ++ first ∷ []) lines line parts.1 later
-          (subst (λ ls. IsNoneOrOfMemory (reply_at playout ls line line.line)) (sym (append_assoc before (first ∷ []) lines)) one)),
+          (subst (λ ls. HadMemoryIfAny (reply_at playout ls line line.line)) (sym (append_assoc before (first ∷ []) lines)) one)),
     )
 
 pub HasMemory-snoc : (playout : Playout) (lines : List PlayedLine) (line : PlayedLine) → goes_on playout lines ≡ true
-    → HasMemory playout lines → IsNoneOrOfMemory (reply_at playout lines line line.line) → HasMemory playout (lines ++ line ∷ [])
+    → HasMemory playout lines → HadMemoryIfAny (reply_at playout lines line line.line) → HasMemory playout (lines ++ line ∷ [])
 unfolding goes_on
 HasMemory-snoc playout lines line on without one = HasMemoryAfter-snoc playout [] lines line on without one
 
--- what follows a line at which the run ends does nothing
+-- lines after one at which the run ends have no events
 events_after-ended : (playout : Playout) (past : Past) (lines : List PlayedLine) (line : PlayedLine) (rest : List PlayedLine)
     → goes_on_after playout past.lines lines ≡ true → ends_at playout (past.lines ++ lines) line line.line ≡ true
     → events_after playout past (lines ++ line ∷ rest) ≡ events_after playout past (lines ++ line ∷ [])
@@ -87,7 +87,7 @@ pub script_events-ended : (playout : Playout) (lines : List PlayedLine) (line : 
 unfolding script_events goes_on
 script_events-ended playout lines line rest on ends = events_after-ended playout (record { lines = []; events = [] }) lines line rest on ends
 
--- and is not replied
+-- such lines have no replies
 replies_after-ended : (playout : Playout) (before lines : List PlayedLine) (line : PlayedLine) (rest : List PlayedLine)
     → goes_on_after playout before lines ≡ true → ends_at playout (before ++ lines) line line.line ≡ true
     → replies_after playout before (lines ++ line ∷ rest) ≡ replies_after playout before (lines ++ line ∷ [])
@@ -107,14 +107,14 @@ pub script_replies-ended : (playout : Playout) (lines : List PlayedLine) (line :
 unfolding script_replies goes_on
 script_replies-ended playout lines line rest on ends = replies_after-ended playout [] lines line rest on ends
 
--- so it is not replied that memory ran out
+-- no reply to such lines says that memory ran out
 HasMemoryAfter-ended : (playout : Playout) (before lines : List PlayedLine) (line : PlayedLine) (rest : List PlayedLine)
     → goes_on_after playout before lines ≡ true → ends_at playout (before ++ lines) line line.line ≡ true
-    → HasMemoryAfter playout before lines → IsNoneOrOfMemory (reply_at playout (before ++ lines) line line.line)
+    → HasMemoryAfter playout before lines → HadMemoryIfAny (reply_at playout (before ++ lines) line line.line)
     → HasMemoryAfter playout before (lines ++ line ∷ rest)
 unfolding goes_on_after
 HasMemoryAfter-ended playout before [] line rest on ends without one = (
-  subst (λ ls. IsNoneOrOfMemory (reply_at playout ls line line.line)) (append-nil before) one,
+  subst (λ ls. HadMemoryIfAny (reply_at playout ls line line.line)) (append-nil before) one,
   subst (λ b. UnlessEnded b (HasMemoryAfter playout (before ++ line ∷ []) rest))
       (sym (ap (λ ls. ends_at playout ls line line.line) (sym (append-nil before)) ∙ ends)) tt,
 )
@@ -126,11 +126,11 @@ HasMemoryAfter-ended playout before (first ∷ lines) line rest on ends without 
       subst (λ b. UnlessEnded b (HasMemoryAfter playout (before ++ first ∷ []) (lines ++ line ∷ rest))) (sym parts.0)
           (HasMemoryAfter-ended playout (before ++ first ∷ []) lines line rest parts.1
           (ap (λ ls. ends_at playout ls line line.line) (append_assoc before (first ∷ []) lines) ∙ ends) later
-          (subst (λ ls. IsNoneOrOfMemory (reply_at playout ls line line.line)) (sym (append_assoc before (first ∷ []) lines)) one)),
+          (subst (λ ls. HadMemoryIfAny (reply_at playout ls line line.line)) (sym (append_assoc before (first ∷ []) lines)) one)),
     )
 
 pub HasMemory-ended : (playout : Playout) (lines : List PlayedLine) (line : PlayedLine) (rest : List PlayedLine) → goes_on playout lines ≡ true
-    → ends_at playout lines line line.line ≡ true → HasMemory playout lines → IsNoneOrOfMemory (reply_at playout lines line line.line)
+    → ends_at playout lines line line.line ≡ true → HasMemory playout lines → HadMemoryIfAny (reply_at playout lines line line.line)
     → HasMemory playout (lines ++ line ∷ rest)
 unfolding goes_on
 HasMemory-ended playout lines line rest on ends without one = HasMemoryAfter-ended playout [] lines line rest on ends without one

@@ -9,7 +9,7 @@ use Rattle.history_model.specs.commands.Command.{parsed}
 use Rattle.history_model.specs.commands.Line.{◌>>=◌}
 use Rattle.history_model.specs.sessions.Request.{behind_token, first_token, is_req, requested, token_among, without_token}
 
--- what a line asks for, the words of its command ask for
+-- what a line asks for is what the words of its command ask for
 pub requested_by : (config : ConfigView) (media : List MediaNameView) (words : List (List ℕ)) (asked : Parsed) → requested config media words ≡ Ok asked
     → (command : List (List ℕ)) × (parsed config media command ≡ Ok asked)
 requested_by config media words asked is = by_words (without_token words) is

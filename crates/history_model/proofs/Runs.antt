@@ -1,5 +1,5 @@
--- Two runs of equal lines that memory does not disturb are equal: each is the run of its lines without marks.
-use Rattle.std.proofs.Common.{◌≡◌, ℕ, Bool, true, false, cond, inl, inr, List, [], ◌∷◌, ◌++◌, length, map, refl, sym, ap, ◌∙◌, subst, if◌then◌else◌}
+-- Two runs of equal lines in which memory does not run out are equal: each is the run of its lines without marks.
+use Rattle.std.proofs.Common.{◌≡◌, ℕ, Bool, true, false, true≢false, cond, inl, inr, List, [], ◌∷◌, ◌++◌, length, map, refl, sym, ap, ◌∙◌, subst, if◌then◌else◌}
 use Rattle.std.specs.Prelude.{Option, Some, None}
 use Rattle.play_types.specs.Commands.{command_name}
 use Rattle.play_types.specs.declared.answer.Answer.{Answer}
@@ -17,42 +17,42 @@ use Rattle.history_model.specs.scripts.History.{Playout, PlayedLine, Past, Turn,
 use Rattle.history_model.specs.scripts.Replies.{replies_after, reply_list, script_replies}
 use Rattle.history_model.specs.scripts.Output.{output_after, output_at, answer_output, script_output, step_reply, ticks_output, verdict_reply}
 use Rattle.history_model.specs.sessions.Request.{text_token}
-use Rattle.history_model.specs.scripts.Memory.{AreLines, HasMemory, HasMemoryAfter, IsNoneOrOfMemory, IsOfMemory, IsOneLine, UnlessEnded, lines_played, reply_at}
+use Rattle.history_model.specs.scripts.Memory.{AreLines, HasMemory, HasMemoryAfter, HadMemoryIfAny, HadMemory, IsOneLine, UnlessEnded, lines_played, reply_at}
 use Rattle.history_model.proofs.Outputs.{goes_on-none, goes_on-snoc, script_events-snoc}
 use Rattle.history_model.proofs.Tags.{same_tag-equal, text_by-else, text_by-own}
 use Rattle.history_model.proofs.Unmarked.{Keeps, Keeps-none, Keeps-other, Outcome, outcome, unmarked, unmarked-append}
 
--- a line that is answered 500 says so
-no_500 : (turn : Turn) (found : Option Step) → found ≡ Some (Local reply.NoMemory) → IsNoneOrOfMemory (step_reply turn found) → ⊥
-no_500 turn found is h = subst (λ f. IsNoneOrOfMemory (step_reply turn f)) is h
+-- if memory does not run out, no line is answered 500
+no_500 : (turn : Turn) (found : Option Step) → found ≡ Some (Local reply.NoMemory) → HadMemoryIfAny (step_reply turn found) → ⊥
+no_500 turn found is h = absurd (true≢false (subst (λ f. HadMemoryIfAny (step_reply turn f)) is h))
 
--- and so does a command or a batch that is answered 501: else what becomes of it is what becomes of it with memory
+-- nor is a command or a batch answered 501, so its verdict is that with memory
 verdict_by : Bool → Bool → Verdict
 verdict_by full no_memory = if full then JournalFull else if no_memory then OutOfMemory else Taken
 
 with_memory_by : (asked : Name) (found : Answer) (full no_memory : Bool) →
-    IsOfMemory (verdict_reply asked found (verdict_by full no_memory)) → verdict_by full no_memory ≡ verdict_by full false
+    HadMemory (verdict_reply asked found (verdict_by full no_memory)) → verdict_by full no_memory ≡ verdict_by full false
 unfolding verdict_by
 with_memory_by asked found true no_memory h = refl
 with_memory_by asked found false false h = refl
-with_memory_by asked found false true h = absurd (h refl)
+with_memory_by asked found false true h = absurd (true≢false h)
 
--- when the stage is asked, with memory
+-- a request to the stage, with memory for it
 abbrev with_memory : Turn → Turn
 with_memory turn = record { playout = turn.playout; events = turn.events; tag = turn.tag; no_memory = false }
 
 verdict-with_memory : (turn : Turn) (asked : Name) (found : Answer) (commands : ℕ) →
-    IsOfMemory (verdict_reply asked found (verdict turn commands)) → verdict turn commands ≡ verdict (with_memory turn) commands
+    HadMemory (verdict_reply asked found (verdict turn commands)) → verdict turn commands ≡ verdict (with_memory turn) commands
 unfolding verdict_by
 verdict-with_memory turn asked found commands h =
     with_memory_by asked found (is_full turn.playout turn.events commands) turn.no_memory h
 
--- the reply and the events of a step are those with memory
+-- the reply and the events of a step are those of the request with memory
 record IsWithMemory (turn : Turn) (found : Option Step) : Type 0 where
   reply : step_reply turn found ≡ step_reply (with_memory turn) found
   events : step_events turn found ≡ step_events (with_memory turn) found
 
-step-with_memory : (turn : Turn) (found : Option Step) → IsNoneOrOfMemory (step_reply turn found) → IsWithMemory turn found
+step-with_memory : (turn : Turn) (found : Option Step) → HadMemoryIfAny (step_reply turn found) → IsWithMemory turn found
 step-with_memory turn None h = record { reply = refl; events = refl }
 step-with_memory turn (Some (Local answer)) h = record { reply = refl; events = refl }
 step-with_memory turn (Some (Ask command)) h =
@@ -74,7 +74,7 @@ step-with_memory turn (Some KillServer) h = record { reply = refl; events = refl
 step-with_memory turn (Some EndConnection) h = record { reply = refl; events = refl }
 step-with_memory turn (Some Skip) h = record { reply = refl; events = refl }
 
--- after these lines the run goes on, with marks and without, and made equal events
+-- after these lines the run goes on, with marks and without, and both have equal events
 record At (playout : Playout) (before : List PlayedLine) : Type 0 where
   goes : goes_on playout before ≡ true
   goes_unmarked : goes_on playout (map unmarked before) ≡ true
@@ -84,7 +84,7 @@ record At (playout : Playout) (before : List PlayedLine) : Type 0 where
 abbrev past_of : Playout → List PlayedLine → Past
 past_of playout before = record { lines = before; events = script_events playout before }
 
--- a line writes and does what it writes and does without marks
+-- a line has the output and the events that it has without marks
 record IsLike (playout : Playout) (before : List PlayedLine) (line : PlayedLine) (says : ScriptLine) : Type 0 where
   output : output_at playout before line says ≡ output_at playout (map unmarked before) (unmarked line) says
   reply : reply_at playout before line says ≡ reply_at playout (map unmarked before) (unmarked line) says
@@ -92,7 +92,7 @@ record IsLike (playout : Playout) (before : List PlayedLine) (line : PlayedLine)
   ends : ends_at playout before line says ≡ ends_at playout (map unmarked before) (unmarked line) says
   keeps : (tag : Tag) → Keeps playout tag (before ++ line ∷ [])
 
--- the connections after a line of one of them
+-- `Keeps` holds of each connection after a line of one of them
 keeps_by : (playout : Playout) (before : List PlayedLine) (line : PlayedLine) (tag other : Tag) (text : List ℕ) (same : Bool) →
     line.line ≡ Said tag text → same_tag other tag ≡ same → Keeps playout other before → Keeps playout tag (before ++ line ∷ []) →
     Keeps playout other (before ++ line ∷ [])
@@ -102,7 +102,7 @@ keeps_by playout before line tag other text false says is was now =
     Keeps-other playout other before line (text_by-else tag other line text says is) was
 
 said_like : (playout : Playout) (before : List PlayedLine) (line : PlayedLine) (tag : Tag) (text : List ℕ) → line.line ≡ Said tag text →
-    At playout before → IsNoneOrOfMemory (reply_at playout before line (Said tag text)) → Outcome playout tag before line →
+    At playout before → HadMemoryIfAny (reply_at playout before line (Said tag text)) → Outcome playout tag before line →
     IsLike playout before line (Said tag text)
 said_like playout before line tag text says h without (inl lost) =
     absurd (no_500 (turn_of playout (script_events playout before) line tag) (said_step playout before line tag) lost without)
@@ -119,7 +119,7 @@ said_like playout before line tag text says h without (inr (same, now)) =
     }
 
 line_like : (playout : Playout) (before : List PlayedLine) (line : PlayedLine) (says : ScriptLine) → line.line ≡ says → At playout before →
-    IsOneLine says → IsNoneOrOfMemory (reply_at playout before line says) → IsLike playout before line says
+    IsOneLine says → HadMemoryIfAny (reply_at playout before line says) → IsLike playout before line says
 line_like playout before line Comment is h one without = record {
   output = refl;
   reply = refl;
@@ -152,7 +152,7 @@ line_like playout before line Rejected is h one without = record {
   keeps = λ tag. Keeps-other playout tag before line (ap (text_by tag) is) (h.keeps tag);
 }
 
--- the run goes on so after the line
+-- both runs go on after the line
 At-next : (playout : Playout) (before : List PlayedLine) (line : PlayedLine) → At playout before → IsLike playout before line line.line →
     ends_at playout before line line.line ≡ false → At playout (before ++ line ∷ [])
 At-next playout before line h like goes =
@@ -169,7 +169,7 @@ At-next playout before line h like goes =
       keeps = like.keeps;
     }
 
--- lines that follow write and do what they write and do without marks
+-- lines that follow have the output and the events that they have without marks
 record AreLike (playout : Playout) (before lines : List PlayedLine) : Type 0 where
   output : output_after playout before lines ≡ output_after playout (map unmarked before) (map unmarked lines)
   replies : replies_after playout before lines ≡ replies_after playout (map unmarked before) (map unmarked lines)
@@ -200,7 +200,7 @@ like_ended playout before line lines h like is =
     ended_rest : {A : Type 0} {one other : Bool} (x y : List A) → one ≡ true → other ≡ true → cond one [] x ≡ cond other [] y
     ended_rest x y p q = ap (λ (b : Bool). cond b [] x) p ∙ sym (ap (λ (b : Bool). cond b [] y) q)
 
--- a line after which it goes on
+-- a line after which the run goes on
 like_going : (playout : Playout) (before : List PlayedLine) (line : PlayedLine) (lines : List PlayedLine) → At playout before →
     IsLike playout before line line.line → ends_at playout before line line.line ≡ false → AreLike playout (before ++ line ∷ []) lines →
     AreLike playout before (line ∷ lines)
@@ -256,7 +256,7 @@ all_like playout before (line ∷ lines) h one without =
     like_by playout before line lines (ends_at playout before line line.line) refl h like without.1
     (λ at later. all_like playout (before ++ line ∷ []) lines at one.1 later)
 
--- a run that memory does not disturb is the run of its lines without marks
+-- a run in which memory does not run out is the run of its lines without marks
 start : (playout : Playout) → At playout []
 start playout = record {
   goes = goes_on-none playout;
@@ -280,7 +280,7 @@ pub events-unmarked : (playout : Playout) (lines : List PlayedLine) → AreLines
 unfolding script_output script_events events_after
 events-unmarked playout lines one without = (all_like playout [] lines (start playout) one without).events
 
--- and that is one for equal lines
+-- equal lines have one run without marks
 played_as : ScriptLine → PlayedLine
 played_as line = record { line = line; given_up = false; no_memory = false }
 

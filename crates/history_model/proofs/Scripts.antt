@@ -21,7 +21,7 @@ taken_by false false is = (refl, refl)
 pub taken_is : (turn : Turn) (commands : ℕ) → verdict turn commands ≡ Taken → (is_full turn.playout turn.events commands ≡ false) × (turn.no_memory ≡ false)
 taken_is turn commands is = taken_by (is_full turn.playout turn.events commands) turn.no_memory is
 
--- a history of a script: no batch is empty, nothing follows a stop, and it is within the limit of the journal
+-- a history of a script: no batch is empty, nothing follows a stop, and the journal is within its limit
 pub record IsKept (playout : Playout) (events : List Event) : Type 0 where
   pub history : IsHistory events
   pub within : held events ≤ playout.config.journal_limit
@@ -40,7 +40,7 @@ more_kept playout events more kept running history within = record {
 still_running : (events more : List Event) → stop_at events ≡ None → stop_at more ≡ None → stop_at (events ++ more) ≡ None
 still_running events more running none = stop_at-append events more running ∙ ap (option_map (λ n. length events + n)) none
 
--- ticks are such a history, and stop nothing
+-- ticks are a history, and have no stop
 history_ticks : (count : ℕ) → IsHistory (replicate count event.Tick)
 history_ticks zero = tt
 history_ticks (suc count) = history_ticks count
@@ -78,7 +78,7 @@ module _ (playout : Playout) (events : List Event) (kept : IsKept playout events
     running = λ goes. still_running events (replicate count event.Tick) running (running_ticks count);
   }
 
-  -- an event that stops nothing, if the journal has room for its commands
+  -- an event that is no stop, if the journal has room for its commands
   event_more : (turn : Turn) (one : Event) → turn.playout ≡ playout → turn.events ≡ events → IsHistory (one ∷ []) → stop_at (one ∷ []) ≡ None
       → (found : Verdict) → verdict turn (held_by one) ≡ found → KeepsOn playout events (verdict_events one found) false
   event_more turn one on after history running' JournalFull is = nothing_more false

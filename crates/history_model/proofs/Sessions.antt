@@ -1,4 +1,4 @@
--- The steps of a session whose stream grows: what was given stays given, and after an end nothing more is given.
+-- The steps of a session whose stream grows: earlier steps stay, and after an end there are no more.
 use Rattle.std.proofs.Common.{◌≡◌, ℕ, suc, ◌+◌, ◌<◌, ◌≤◌, Bool, true, false, cond, ◌==◌, List, [], ◌∷◌, ◌++◌, map, take, length, refl, ap, ap₂, ◌∙◌, arith, inl, inr}
 use Rattle.std.proofs.Math.Bool.{or-false}
 use Rattle.std.specs.Prelude.{Option, None, filter_map, All}
@@ -23,7 +23,7 @@ enumerate_from-append n (x ∷ xs) ys =
     let same : (n + 1) + length xs ≡ n + suc (length xs) = omega arith in
     ap (λ rest. (n, x) ∷ rest) (rw (← same) (enumerate_from-append (n + 1) xs ys))
 
--- two functions that agree on numbered elements
+-- two functions that agree on numbered elements map them alike
 map-enumerated : {X Y : Type 0} (f g : ℕ × X → Y) (n : ℕ) (xs : List X)
     → ((k : ℕ) (x : X) → n ≤ k → k < n + length xs → f (k, x) ≡ g (k, x))
     → map f (enumerate_from n xs) ≡ map g (enumerate_from n xs)
@@ -39,7 +39,7 @@ filter_map-enumerated f g n [] same = refl
 filter_map-enumerated f g n (x ∷ xs) same =
     rw (same n x (omega arith) (omega arith), filter_map-enumerated f g (n + 1) xs (λ k y above below. same k y (omega arith) (omega arith))) refl
 
--- a line below the numbers that were given up later
+-- whether a line was given up does not depend on higher numbers
 is_given_up-later : (given_up later : List ℕ) (n number : ℕ) → All (λ k. n ≤ k) later → number < n
     → is_given_up (given_up ++ later) number ≡ is_given_up given_up number
 is_given_up-later given_up later n number high below =
@@ -123,7 +123,7 @@ line_steps-later config media given_up later lines high =
     map-enumerated (step_of_line config media (given_up ++ later) lines) (step_of_line config media given_up lines) 0 lines
     (λ k line above below. step_of_line-later config media given_up later lines k line high (omega arith))
 
--- both in one: the steps of a longer session begin with the earlier ones
+-- the steps of a longer session begin with those of the earlier one
 pub record Longer (config : ConfigView) (media : List MediaNameView) (given_up later : List ℕ) (lines more : List Line) : Type 0 where
   pub added : List Step
   pub whole : line_steps config media (given_up ++ later) (lines ++ more) ≡ line_steps config media given_up lines ++ added
@@ -149,13 +149,13 @@ position_or_len-append p (x ∷ xs) ys h = elim (cases_Bool (p x)) [
   | inr fails ↦ rw (fails, position_or_len-append p xs ys (rw fails at h)) refl
 ]
 
--- after an end nothing more is given
+-- after an end there are no more steps
 pub until_end-ended : (before more : List Step) → list_any is_end before ≡ true → until_end (before ++ more) ≡ until_end before
 until_end-ended before more ends =
     let within = position_or_len_some is_end before ends in
     rw (position_or_len-append is_end before more ends, take-append-le (position_or_len is_end before + 1) before more (omega arith)) refl
 
--- if no step ends the session, all of them are given
+-- if no step ends the session, all of them stay
 pub until_end-going : (before more : List Step) → list_any is_end before ≡ false → until_end (before ++ more) ≡ before ++ until_end more
 until_end-going [] more h = refl
 until_end-going (x ∷ xs) more h =
@@ -166,7 +166,7 @@ until_end-going (x ∷ xs) more h =
 pub length-until_end : (all : List Step) → length (until_end all) ≤ length all
 length-until_end all = omega (arith, length-take (position_or_len is_end all + 1) all)
 
--- after an end nothing more is given, whatever lines come
+-- after an end there are no more steps, whatever lines come
 pub until_end-lines_ended : (config : ConfigView) (media : List MediaNameView) (given_up later : List ℕ) (lines more : List Line)
     → All (λ k. length lines ≤ k) later → list_any is_end (line_steps config media given_up lines) ≡ true
     → until_end (line_steps config media (given_up ++ later) (lines ++ more)) ≡ until_end (line_steps config media given_up lines)

@@ -41,7 +41,7 @@ Side-other tag before line other h =
           (subst (λ (ts : List (List ℕ)). All (λ k. k < length ts) (given_up_of tag before)) (sym (texts_of-other tag before line other)) h.numbers);
     }
 
--- its lines after one more
+-- the lines of the connection after one more
 pub lines-said : (tag : Tag) (before : List PlayedLine) (line : PlayedLine) (text : List ℕ) → text_by tag line.line ≡ Some text →
     list_any is_line_end text ≡ false → Side tag before →
     lines_of (stream_of tag (before ++ line ∷ [])) ≡ lines_of (stream_of tag before) ++ line_of_text text ∷ []
@@ -90,7 +90,7 @@ abbrev pub has_ended : Playout → Tag → List PlayedLine → Bool
 has_ended playout tag before =
     list_any is_end (line_steps playout.config playout.names (given_up_of tag before) (lines_of (stream_of tag before)))
 
--- the step of its next line, given up or not, and what that asks for
+-- the step of the connection's next line, given up or not, and what that line asks for
 abbrev pub own_step : Playout → Tag → List PlayedLine → List ℕ → Bool → Step
 own_step playout tag before text given_up =
     if given_up then Local reply.NoMemory
@@ -112,7 +112,7 @@ is_given_up-here numbers n number given_up is low =
     by_mark true = ap (λ (m : ℕ). is_given_up (m ∷ []) n) (sym is) ∙ given_up_here n
     by_mark false = refl
 
--- how the next line of a connection stands to those before it
+-- the next line of a connection, with those before it
 record IsNext (playout : Playout) (tag : Tag) (before : List PlayedLine) (line : PlayedLine) (lines : List Line) (next : Line) (later : List ℕ) : Type 0 where
   now : lines_of (stream_of tag (before ++ line ∷ [])) ≡ lines ++ next ∷ []
   numbers : given_up_of tag (before ++ line ∷ []) ≡ given_up_of tag before ++ later
@@ -131,7 +131,7 @@ comes_next playout tag before line text said one h =
       here = is_given_up-here (given_up_of tag before) (length (lines_of (stream_of tag before))) n line.given_up h.count h.numbers;
     }
 
--- its step, among those before it
+-- the step of the next line, among those of the lines before it
 step-here : (playout : Playout) (tag : Tag) (before : List PlayedLine) (line : PlayedLine) (text : List ℕ) (later : List ℕ) →
     IsNext playout tag before line (lines_of (stream_of tag before)) (line_of_text text) later →
     step_of_line playout.config playout.names (given_up_of tag before ++ later) (lines_of (stream_of tag before))
@@ -165,7 +165,7 @@ asked_of-said playout tag before line text said one h =
     asked_of-next playout tag before line text (later_of (length (texts_of tag before)) line.given_up)
     (comes_next playout tag before line text said one h)
 
--- the steps of the lines so far, and that of the next
+-- the steps of the lines so far, and that of the next line
 steps-next : (playout : Playout) (tag : Tag) (before : List PlayedLine) (line : PlayedLine) (text : List ℕ) (later : List ℕ) →
     IsNext playout tag before line (lines_of (stream_of tag before)) (line_of_text text) later →
     line_steps playout.config playout.names (given_up_of tag before ++ later) (lines_of (stream_of tag before) ++ line_of_text text ∷ [])

@@ -44,14 +44,14 @@ pub no_pairs : (playout : Playout) → All (λ channel. channel.pairs ≡ 0) pla
 no_pairs playout silent zero = refl
 no_pairs playout silent (suc before) = no_pairs_at playout.config.channels silent before
 
--- so it has no bytes of sound
+-- a channel without pairs has no bytes of sound
 sound_bytes-none : (playout : Playout) (events : List Event) (channel : ℕ) →
     All (λ channel. channel.pairs ≡ 0) playout.config.channels → sound_bytes (setup_of playout) events channel ≡ []
 sound_bytes-none playout events channel silent =
     ap (λ count. flat_map (λ pair. flat_map sample_bytes (pair_samples (setup_of playout) events channel pair)) (numbers_below count))
     (no_pairs playout silent channel)
 
--- what is written for a tick then: the picture of each channel alone
+-- what is written for a tick without sound: the picture of each channel alone
 pub tick_output-silent : (playout : Playout) (events : List Event) →
     All (λ channel. channel.pairs ≡ 0) playout.config.channels →
     tick_output playout events

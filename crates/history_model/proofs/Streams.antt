@@ -34,7 +34,7 @@ pub given_up_of-other : (tag : Tag) (played : List PlayedLine) (line : PlayedLin
 unfolding given_up_of
 given_up_of-other tag played line other = ap (λ (ms : List Bool). filter_map number_given_up (enumerate_from 0 ms)) (marks-other tag played line other)
 
--- a line of the connection comes after those before it
+-- the text of a line of the connection comes after those before it
 pub texts_of-said : (tag : Tag) (played : List PlayedLine) (line : PlayedLine) (text : List ℕ) → text_by tag line.line ≡ Some text → texts_of tag (played ++ line ∷ []) ≡ texts_of tag played ++ text ∷ []
 unfolding texts_of
 texts_of-said tag played line text said =
@@ -77,7 +77,7 @@ given_up_of-more tag played line text said =
     ∙ ap (λ (n : ℕ). given_up_of tag played ++ filter_map number_given_up ((n, line.given_up) ∷ []))
     (let number : 0 + length (marks tag played) ≡ length (texts_of tag played) = omega (arith, length-marks tag played) in number)
 
--- its number is among those given up if it was
+-- the number of a line is among those given up if it was given up
 pub given_up_of-kept : (tag : Tag) (played : List PlayedLine) (line : PlayedLine) (text : List ℕ) → text_by tag line.line ≡ Some text → line.given_up ≡ false
     → given_up_of tag (played ++ line ∷ []) ≡ given_up_of tag played
 given_up_of-kept tag played line text said kept =
@@ -91,7 +91,7 @@ given_up_of-lost tag played line text said lost =
     given_up_of-more tag played line text said
     ∙ ap (λ (b : Bool). given_up_of tag played ++ filter_map number_given_up ((length (texts_of tag played), b) ∷ [])) lost
 
--- a connection that has said nothing has no stream
+-- a connection without a line has no stream
 pub stream_of-none : (tag : Tag) (played : List PlayedLine) → texts_of tag played ≡ [] → stream_of tag played ≡ []
 unfolding stream_of
 stream_of-none tag played none = ap (flat_map (λ text. text ++ 13 ∷ 10 ∷ [])) none

@@ -1,4 +1,4 @@
--- A script without a line that changes nothing: the rest of what it writes and does is the same.
+-- A script without a line that changes nothing has the events, and the rest of the output, of the script with it.
 use Rattle.std.proofs.Common.{◌≡◌, ℕ, Bool, true, false, cond, List, [], ◌∷◌, ◌++◌, refl, sym, ap, ◌∙◌, subst, append_assoc, append-nil, if◌then◌else◌}
 use Rattle.std.specs.Prelude.{Some, None}
 use Rattle.std.specs.List.{list_any}
@@ -17,7 +17,7 @@ use Rattle.history_model.proofs.Sides.{Side, Side-none, Side-other, Side-said, h
 use Rattle.history_model.proofs.Tags.{same_tag-equal, text_by-else, text_by-own}
 use Rattle.history_model.proofs.Besides.{Beside, Beside-other, Beside-said, Beside-struck, Beside-untouched, no_events, no_kill, own_idle, said_step-same}
 
--- after both the runs go on and made equal events
+-- both runs go on after these lines, and have equal events
 record AtBoth (playout : Playout) (a b : List PlayedLine) : Type 0 where
   long : goes_on playout a ≡ true
   short : goes_on playout b ≡ true
@@ -27,7 +27,7 @@ record AtBoth (playout : Playout) (a b : List PlayedLine) : Type 0 where
 abbrev past_of : Playout → List PlayedLine → Past
 past_of playout before = record { lines = before; events = script_events playout before }
 
--- a line writes and does the same after both
+-- a line has equal output and events after both
 record IsLike (playout : Playout) (a b : List PlayedLine) (line : PlayedLine) (says : ScriptLine) : Type 0 where
   output : output_at playout a line says ≡ output_at playout b line says
   events : events_at playout (past_of playout a) line says ≡ events_at playout (past_of playout b) line says
@@ -91,12 +91,12 @@ AtBoth-next playout a b line h like goes = record {
   beside = like.beside;
 }
 
--- and so do lines that follow
+-- the lines that follow have equal output and events after both
 record AreLike (playout : Playout) (a b lines : List PlayedLine) : Type 0 where
   output : output_after playout a lines ≡ output_after playout b lines
   events : events_after playout (past_of playout a) lines ≡ events_after playout (past_of playout b) lines
 
--- what stands before the lines after one more
+-- the lines and the events that were played once one more line is
 abbrev next_past : Playout → List PlayedLine → PlayedLine → Past
 next_past playout before line = record {
   lines = before ++ line ∷ [];
@@ -154,7 +154,7 @@ all_like playout a b (line ∷ lines) h whole =
     like_by playout a b line lines (ends_at playout a line line.line) refl h like
     (λ at. all_like playout (a ++ line ∷ []) (b ++ line ∷ []) lines at whole.1)
 
--- each connection after the lines before the struck one
+-- `Side` holds of each connection after one more line
 side_by : (other tag : Tag) (before : List PlayedLine) (line : PlayedLine) (text : List ℕ) (same : Bool) → line.line ≡ Said tag text →
     same_tag other tag ≡ same → list_any is_line_end text ≡ false → Side other before → Side other (before ++ line ∷ [])
 side_by other tag before line text true says is one h =
@@ -175,13 +175,13 @@ sides tag before (line ∷ lines) h whole =
     subst (Side tag) (append_assoc before (line ∷ []) lines)
     (sides tag (before ++ line ∷ []) lines (side_after tag before line line.line refl whole.0 h) whole.1)
 
--- the lines before and after one, and the line itself, are lines
+-- no text of the lines before and after one, or of that one, has a line end
 line_parts : (before : List PlayedLine) (line : PlayedLine) (later : List PlayedLine) → AreLines (lines_played (before ++ line ∷ later)) →
     AreLines (lines_played before) × AreLines (lines_played (line ∷ later))
 line_parts [] line later whole = (tt, whole)
 line_parts (first ∷ before) line later whole = let rest = line_parts before line later whole.1 in ((whole.0, rest.0), rest.1)
 
--- the struck line and what follows it
+-- a connection after the struck line and without it
 struck_by : (playout : Playout) (before : List PlayedLine) (line : PlayedLine) (tag other : Tag) (text : List ℕ) (same : Bool) →
     line.line ≡ Said tag text → same_tag other tag ≡ same → list_any is_line_end text ≡ false →
     (has_ended playout tag before ≡ false → LeavesBatch (own_step playout tag before text line.given_up)) →
@@ -221,7 +221,7 @@ struck_said playout before line tag text says goes one each idle =
       goes = still;
     }
 
--- a comment leaves every connection
+-- a comment changes nothing for any connection
 struck_comment : (playout : Playout) (before : List PlayedLine) (line : PlayedLine) → line.line ≡ Comment →
     goes_on playout before ≡ true → ((one : Tag) → Side one before) → IsStruck playout before line
 struck_comment playout before line says goes each =

@@ -1,4 +1,4 @@
--- Tags that are equal, and whose line a line is.
+-- Equal tags, and which connection's line a line is.
 use Rattle.std.proofs.Common.{◌≡◌, ℕ, Bool, true, false, ◌&&◌, ◌==◌, List, refl, ap, ◌∙◌, eq-eqb, eqb-true, if◌then◌else◌}
 use Rattle.std.specs.Prelude.{Some, None}
 use Rattle.std.proofs.lemmas.Bool.{and_parts}
@@ -11,7 +11,7 @@ same_tag-equal one other e =
     let parts = and_parts (one.worker == other.worker) (one.session == other.session) e in
     λ i. record { worker = eqb-true one.worker other.worker parts.0 i; session = eqb-true one.session other.session parts.1 i }
 
--- the text of a line of this connection, and that it is none of another
+-- the text of a line of this connection, which is no line of another
 pub text_by-own : (tag : Tag) (line : PlayedLine) (text : List ℕ) → line.line ≡ Said tag text → text_by tag line.line ≡ Some text
 text_by-own tag line text says =
     ap (text_by tag) says

@@ -1,4 +1,4 @@
--- A history has all that its timeline has, and events that follow add entries after those before them.
+-- A history agrees with its timeline, and later events add entries after those before them.
 use Rattle.std.proofs.Common.{◌≡◌, ℕ, ◌+◌, Bool, true, false, List, [], ◌∷◌, ◌++◌, map, reverse, refl, sym, ap, ap₂, ◌∙◌, if◌then◌else◌, unwrap_or, is_none, append_assoc}
 use Rattle.std.proofs.lemmas.List.{reverse-append}
 use Rattle.std.proofs.lemmas.Option.{none-some, same_Some}
@@ -26,7 +26,7 @@ use Rattle.history_model.specs.pictures.Sound.{scene_sample, sounds_back, frame_
 use Rattle.history_model.specs.pictures.TimelineFrame.{timeline_foregrounds, timeline_frames, timeline_pixel, timeline_sample, timeline_sounds, timeline_statuses}
 use Rattle.history_model.proofs.Events.{ticks-reverse}
 
--- a timeline has all that later definitions look at in a history that is read backward
+-- a timeline agrees with a history that is read backward in everything that later definitions look at
 record IsTimelineOf (setup : Setup) (back : List Event) (entries : List Entry) : Type 0 where
   acts : acts_back back ≡ timeline_acts entries
   ticks : ticks back ≡ timeline_ticks entries
@@ -34,13 +34,13 @@ record IsTimelineOf (setup : Setup) (back : List Event) (entries : List Entry) :
   frames : frames_back setup back ≡ timeline_frames setup entries
   sounds : sounds_back setup back ≡ timeline_sounds setup entries
 
--- the commands of a batch stand one after another, the last one first
+-- the commands of a batch follow one another, the last one first
 pub reverse-cons : {A B : Type 0} (f : A → B) (x : A) (xs : List A) (rest : List B) →
     reverse (map f (x ∷ xs)) ++ rest ≡ reverse (map f xs) ++ (f x ∷ rest)
 reverse-cons f x xs rest =
     ap (λ l. l ++ rest) (reverse-append (f x ∷ []) (map f xs)) ∙ append_assoc (reverse (map f xs)) (f x ∷ []) rest
 
--- what each command leaves all of them leave
+-- what each command does not change, all of them do not change
 pub kept_by_all : {A B C : Type 0} (f : A → B) (look : List B → C) → ((x : A) (rest : List B) → look (f x ∷ rest) ≡ look rest) →
     (xs : List A) (rest : List B) → look (reverse (map f xs) ++ rest) ≡ look rest
 kept_by_all f look each [] rest = refl
@@ -58,7 +58,7 @@ acts_of_command cmd entries more e =
     let added = acts_of (timeline_ticks entries) cmd ++ timeline_acts entries in
     sym (one_more (list_any (is_over added (timeline_ticks entries)) (channels added)) added more e)
 
--- and those of accepted commands are those of their entries
+-- the acts of accepted commands are those of their entries
 after_first : (cmd : Cmd) (cmds : List Cmd) (entries : List Entry) (more : List Act) (first : Option (List Act)) →
     with_command (timeline_acts entries) (timeline_ticks entries) cmd ≡ first →
     option_and_then (λ past. with_commands past (timeline_ticks entries) cmds) first ≡ Some more →
@@ -154,7 +154,7 @@ done_batch setup tag cmds back entries after h (acts, beside) = record {
   sounds = h.sounds ∙ sym beside.sounds;
 }
 
--- the timeline of a history has all that the history has
+-- the timeline of a history agrees with the history
 is_timeline_back : (setup : Setup) (back : List Event) → IsTimelineOf setup back (timeline_back back)
 is_timeline_back setup [] = record { acts = refl; ticks = refl; foregrounds = refl; frames = refl; sounds = refl }
 is_timeline_back setup (Tick ∷ back) = ticked setup back (timeline_back back) (is_timeline_back setup back)
@@ -174,7 +174,7 @@ is_timeline_back setup (Batch tag cmds ∷ back) =
     (λ past e. acts_of_commands cmds (timeline_back back) past (ap₂ (λ acts now. with_commands acts now cmds) (sym h.acts) (sym h.ticks) ∙ e))
     (commands_beside setup cmds (timeline_back back)))
 
--- so each frame, sample, value and status of a history is that of its timeline
+-- each frame, sample, value and status of a history is that of its timeline
 no_media : Setup
 no_media = record { channels = []; clips = [] }
 
@@ -216,7 +216,7 @@ timeline-one_more history event =
     ∙ ap (λ now. if is_none (with_event (acts_back (reverse history)) now event) then timeline_back (reverse history)
     else entries_of event ++ timeline_back (reverse history)) (ticks-reverse history)
 
--- and of any number of events more
+-- the timeline of any number of events more
 more_by : (refused : Bool) (added all base : List Entry) → (more : List Entry) × (all ≡ more ++ base) →
     (more : List Entry) × ((if refused then all else added ++ all) ≡ more ++ base)
 more_by true added all base (more, e) = (more, e)

@@ -1,4 +1,4 @@
--- Trails: what does not touch a place leaves its trail.
+-- Trails: a command that does not touch a place does not change its trail.
 use Rattle.std.proofs.Common.{◌≡◌, ℕ, Bool, false, ◌==◌, List, [], ◌∷◌, refl, ap, ◌∙◌, if◌then◌else◌}
 use Rattle.std.proofs.lemmas.Bool.{or_parts}
 use Rattle.play_types.specs.Place.{PlaceView}
@@ -16,7 +16,7 @@ acts_along-skip acts_on origin act before place off still =
     ap (λ (on : Bool). let earlier = acts_along acts_on origin before (origin act.cmd place) in if on then act ∷ earlier else earlier) off
     ∙ ap (acts_along acts_on origin before) still
 
--- a place that passes neither test of a swap stays
+-- a place that is neither of two swapped places stays
 swapped_place-other : (a b place : PlaceView) → same_place place a ≡ false → same_place place b ≡ false → swapped_place a b place ≡ place
 swapped_place-other a b place not_a not_b =
     ap (λ (t : Bool). if t then b else (if same_place place b then a else place)) not_a
@@ -50,7 +50,7 @@ acts_on_content-other (RemoveFile marked) place e = refl
 acts_on_content-other (Value at prop) place e = refl
 acts_on_content-other Info place e = refl
 
--- nor does it move it
+-- a command that does not touch a place does not move its content
 pub content_origin-other : (cmd : Cmd) (place : PlaceView) → touches cmd place ≡ false → content_origin cmd place ≡ place
 content_origin-other (Load at take) place e = refl
 content_origin-other (LoadBg at take) place e = refl
@@ -74,7 +74,7 @@ content_origin-other (RemoveFile marked) place e = refl
 content_origin-other (Value at prop) place e = refl
 content_origin-other Info place e = refl
 
--- an act that does not touch a place leaves its trail
+-- an act that does not touch a place does not change its trail
 pub trail-other : (act : Act) (before : List Act) (place : PlaceView) → touches act.cmd place ≡ false →
     trail (act ∷ before) place ≡ trail before place
 trail-other act before place e =

@@ -1,4 +1,4 @@
--- The step of a connection's line is that without marks, or the line is answered 500.
+-- The step of a connection's line is that of the line without marks, or the line is answered 500.
 use Rattle.std.proofs.Common.{◌≡◌, ℕ, ◌+◌, ◌≤◌, Bool, true, false, ◌⊎◌, inl, inr, List, [], ◌∷◌, ◌++◌, map, length, refl, sym, ap, ◌∙◌, subst, subst₂, append_assoc, length-append}
 use Rattle.std.specs.Prelude.{Option, Some, None, All, slice_get, filter_map, flat_map}
 use Rattle.std.specs.List.{cons_option, enumerate_from, list_any}
@@ -65,7 +65,7 @@ Keeps-other playout tag before line other h =
       marks = subst₂ (λ g st. IsUnmarked playout.config playout.names g (lines_of st)) (sym (given_up_of-other tag before line other)) (sym s) h.marks;
     }
 
--- a line of the connection comes next
+-- the next line is one of the connection
 record IsNext (tag : Tag) (before : List PlayedLine) (line : PlayedLine) (lines : List Line) (next : Line) : Type 0 where
   now : lines_of (stream_of tag (before ++ line ∷ [])) ≡ lines ++ next ∷ []
   number : length lines ≡ length (texts_of tag before)
@@ -91,7 +91,7 @@ comes_next playout tag before line text said one h =
           ∙ sym (length-append (texts_of tag before) (text ∷ [])) ∙ ap length (sym (texts_of-said tag before line text said));
     }
 
--- its step, by what was given up
+-- the step of the next line, by which lines were given up
 step_shown : (playout : Playout) (tag : Tag) (before : List PlayedLine) (line : PlayedLine) (lines : List Line) (next : Line) (given_up : List ℕ) →
     IsNext tag before line lines next → given_up_of tag (before ++ line ∷ []) ≡ given_up →
     said_step playout before line tag ≡ slice_get (until_end (line_steps playout.config playout.names given_up (lines ++ next ∷ []))) (length lines)
@@ -113,7 +113,7 @@ step_unmarked playout tag before line lines next x =
     let n : length (texts_of tag (map unmarked before)) ≡ length lines = ap length (texts-unmarked tag before) ∙ sym x.number in
     λ i. slice_get (until_end (line_steps playout.config playout.names (g i) (s i))) (n i)
 
--- the line is answered 500, or its step is that without marks
+-- the next line is answered 500, or its step is that without marks
 abbrev pub Outcome : Playout → Tag → List PlayedLine → PlayedLine → Type 0
 Outcome playout tag before line =
     (said_step playout before line tag ≡ Some (Local reply.NoMemory))

@@ -28,36 +28,36 @@ use Rattle.history_model.specs.stage.Answer.{command_answer, outcome_of}
 use Rattle.history_model.specs.scripts.Line.{ScriptLine, Comment, Ticks, Said, Stop, Rejected}
 use Rattle.history_model.specs.scripts.History.{Playout, PlayedLine, Turn, JournalFull, OutOfMemory, Taken, ends_at, given_up_of, is_full, said_step, script_events, setup_of, stream_of, texts_of, turn_of}
 use Rattle.history_model.specs.scripts.Output.{step_reply, verdict_reply}
-use Rattle.history_model.specs.scripts.Memory.{HasMemory, HasMemoryAfter, IsNoneOrOfMemory, IsOfMemory, UnlessEnded, reply_at, with_memory}
+use Rattle.history_model.specs.scripts.Memory.{HasMemory, HasMemoryAfter, HadMemoryIfAny, HadMemory, UnlessEnded, reply_at, with_memory}
 use Rattle.history_model.proofs.EachAsk.{asked-holds}
 use Rattle.history_model.proofs.EachStep.{one_of_all}
 use Rattle.history_model.proofs.Unmarked.{given_up-unmarked, unmarked, unmarked-append}
 
--- a reply that a session gives by itself is of memory
+-- a step's reply without the stage does not say that memory ran out
 abbrev RepliesOfMemory : Step → Type 0
-RepliesOfMemory (Local answer) = IsOfMemory answer
+RepliesOfMemory (Local answer) = HadMemory answer
 RepliesOfMemory (Ask command) = Unit {0}
 RepliesOfMemory (AskBatch commands) = Unit {0}
 RepliesOfMemory KillServer = Unit {0}
 RepliesOfMemory EndConnection = Unit {0}
 RepliesOfMemory Skip = Unit {0}
 
-refusal_of_memory : (line : List ℕ) (reason : Refusal) → IsOfMemory (refusal_reply line reason)
-refusal_of_memory line refusal.Unknown = tt
-refusal_of_memory line (refusal.Channel name) = λ e. absurd (omega (arith, e))
-refusal_of_memory line (refusal.Missing name) = λ e. absurd (omega (arith, e))
-refusal_of_memory line (refusal.Illegal name at) = λ e. absurd (omega (arith, e))
-refusal_of_memory line (refusal.NotFound name) = λ e. absurd (omega (arith, e))
-refusal_of_memory line (refusal.Unreadable name) = λ e. absurd (omega (arith, e))
+refusal_of_memory : (line : List ℕ) (reason : Refusal) → HadMemory (refusal_reply line reason)
+refusal_of_memory line refusal.Unknown = refl
+refusal_of_memory line (refusal.Channel name) = refl
+refusal_of_memory line (refusal.Missing name) = refl
+refusal_of_memory line (refusal.Illegal name at) = refl
+refusal_of_memory line (refusal.NotFound name) = refl
+refusal_of_memory line (refusal.Unreadable name) = refl
 
 commit_of_memory : (commands : List Cmd) → RepliesOfMemory (step_commit commands)
-commit_of_memory [] = tt
+commit_of_memory [] = refl
 commit_of_memory (command ∷ commands) = tt
 
--- what a line means, if it is refused, is refused so
+-- a line that is refused has a reply that does not say that memory ran out
 abbrev RefusesOfMemory : LineMeaning → Type 0
 RefusesOfMemory Blank = Unit {0}
-RefusesOfMemory (Wrong answer) = IsOfMemory answer
+RefusesOfMemory (Wrong answer) = HadMemory answer
 RefusesOfMemory (Asks asked) = Unit {0}
 
 parsed_of_memory : (line : List ℕ) (found : Result Parsed Refusal) → RefusesOfMemory (meaning_of_parsed line found)
@@ -66,15 +66,15 @@ parsed_of_memory line (Err reason) = refusal_of_memory line reason
 
 words_of_memory : (config : ConfigView) (media : List MediaNameView) (line : List ℕ) (found : Result (List (List ℕ)) TokenFault) →
     RefusesOfMemory (meaning_of_words config media line found)
-words_of_memory config media line (Err fault) = tt
+words_of_memory config media line (Err fault) = refl
 words_of_memory config media line (Ok []) = tt
 words_of_memory config media line (Ok (word ∷ words)) = parsed_of_memory line (requested config media (word ∷ words))
 
 meaning_of_memory : (config : ConfigView) (media : List MediaNameView) (line : Line) → RefusesOfMemory (line_meaning config media line)
 unfolding line_meaning
 meaning_of_memory config media (Text line) = words_of_memory config media line (words_of line)
-meaning_of_memory config media TooLong = tt
-meaning_of_memory config media NotUtf8 = tt
+meaning_of_memory config media TooLong = refl
+meaning_of_memory config media NotUtf8 = refl
 
 step_of_memory : (before : List Parsed) (meaning : LineMeaning) → RefusesOfMemory meaning → RepliesOfMemory (step_of_meaning before meaning)
 step_of_memory before Blank refuses = tt
@@ -82,16 +82,16 @@ step_of_memory before (Wrong answer) refuses = refuses
 step_of_memory before (Asks asked) refuses =
     asked-holds RepliesOfMemory
     (record {
-      done = λ command. tt;
-      refused = λ command. λ e. absurd (omega (arith, e));
-      cls = tt;
-      version = tt;
+      done = λ command. refl;
+      refused = λ command. refl;
+      cls = refl;
+      version = refl;
       kill = tt;
       ended = tt;
     })
     (is_open before) (batch before) asked (commit_of_memory (batch before)) (λ command same. tt)
 
--- so is each step of a stream of which no line was given up
+-- no step of a stream of which no line was given up has a reply that says so
 line_of_memory : (config : ConfigView) (media : List MediaNameView) (lines : List Line) (line : ℕ × Line) →
     RepliesOfMemory (step_of_line config media [] lines line)
 line_of_memory config media lines line =
@@ -118,20 +118,20 @@ said_of_memory playout before line tag =
     (one_of_all RepliesOfMemory (steps playout.config playout.names [] (stream_of tag all)) (length (texts_of tag (map unmarked before)))
     (steps_of_memory playout.config playout.names (stream_of tag all)))
 
--- and each reply of a stage that has memory
-answer_of_memory : (asked : Name) (found : Answer) → IsOfMemory (answer_reply asked found)
-answer_of_memory asked answer.Done = tt
-answer_of_memory asked (answer.Value micros) = tt
-answer_of_memory asked (answer.Info statuses) = tt
-answer_of_memory asked answer.Refused = λ e. absurd (omega (arith, e))
+-- no reply of a stage that has memory says so
+answer_of_memory : (asked : Name) (found : Answer) → HadMemory (answer_reply asked found)
+answer_of_memory asked answer.Done = refl
+answer_of_memory asked (answer.Value micros) = refl
+answer_of_memory asked (answer.Info statuses) = refl
+answer_of_memory asked answer.Refused = refl
 
 verdict_of_memory : (asked : Name) (found : Answer) (full no_memory : Bool) → no_memory ≡ false →
-    IsOfMemory (verdict_reply asked found (if full then JournalFull else if no_memory then OutOfMemory else Taken))
-verdict_of_memory asked found true no_memory has = λ e. absurd (omega (arith, e))
+    HadMemory (verdict_reply asked found (if full then JournalFull else if no_memory then OutOfMemory else Taken))
+verdict_of_memory asked found true no_memory has = refl
 verdict_of_memory asked found false true has = absurd (false≢true (sym has))
 verdict_of_memory asked found false false has = answer_of_memory asked found
 
-reply_of_memory : (turn : Turn) (found : Option Step) → turn.no_memory ≡ false → IfSome found RepliesOfMemory → IsNoneOrOfMemory (step_reply turn found)
+reply_of_memory : (turn : Turn) (found : Option Step) → turn.no_memory ≡ false → IfSome found RepliesOfMemory → HadMemoryIfAny (step_reply turn found)
 reply_of_memory turn None has of = tt
 reply_of_memory turn (Some (Local answer)) has of = of
 reply_of_memory turn (Some (Ask command)) has of =
@@ -141,12 +141,12 @@ reply_of_memory turn (Some (Ask command)) has of =
 reply_of_memory turn (Some (AskBatch commands)) has of =
     verdict_of_memory name.Commit (outcome_of (is_refused turn.events (event.Batch turn.tag commands)))
     (is_full turn.playout turn.events (length commands)) turn.no_memory has
-reply_of_memory turn (Some KillServer) has of = tt
+reply_of_memory turn (Some KillServer) has of = refl
 reply_of_memory turn (Some EndConnection) has of = tt
 reply_of_memory turn (Some Skip) has of = tt
 
 line_replied : (playout : Playout) (before : List PlayedLine) (line : ScriptLine) →
-    IsNoneOrOfMemory (reply_at playout (map unmarked before) (with_memory line) line)
+    HadMemoryIfAny (reply_at playout (map unmarked before) (with_memory line) line)
 line_replied playout before Comment = tt
 line_replied playout before (Ticks count) = tt
 line_replied playout before (Said tag text) =

@@ -14,7 +14,7 @@ use Rattle.history_model.specs.scripts.History.{Playout, setup_of}
 use Rattle.history_model.specs.scripts.Output.{channel_output, picture_bytes, sample_bytes, sound_bytes, tick_output, written_frame}
 use Rattle.history_model.specs.stage.Answer.{ChannelFrame, Frames, answer, channel_frame, channel_numbers, numbers_below, pair_samples, row_pixels}
 
--- lists that lists give, one after another
+-- lists of the elements of lists, one after another
 flat_map-flat_map : {A B C : Type 0} (f : B → List C) (g : A → List B) (xs : List A) → flat_map f (flat_map g xs) ≡ flat_map (λ x. flat_map f (g x)) xs
 flat_map-flat_map f g [] = refl
 flat_map-flat_map f g (x ∷ xs) =
@@ -33,7 +33,7 @@ pub sound-answer : (setup : Setup) (history : List Event) (channel : ℕ) →
 sound-answer setup history channel =
     sym (flat_map-flat_map sample_bytes (pair_samples setup history channel) (numbers_below (size setup channel).pairs))
 
--- numbers with what they give
+-- numbers, each with the value of a function
 numbered : {A : Type 0} (f : ℕ → A) (first count : ℕ) →
     enumerate_from first (map f (range_with_len first count)) ≡ map (λ n. (n, f n)) (range_with_len first count)
 numbered f first zero = refl

@@ -178,11 +178,11 @@ ticking n = replicate n Tick
 abbrev pub samples_of : Setup → ℕ → List Event → List ℤ
 samples_of setup channel history = (channel_frame setup history channel).samples
 
--- what stands at a place after a history
+-- what a place holds after a history
 abbrev pub place_after : List Event → PlaceView → Life
 place_after history place = state (acts history) (ticks history) place
 
--- a place with nothing but a foreground without an outgoing content: shown for `shown` ticks, and running or paused
+-- a place with only a foreground, which has no outgoing content and was shown for `shown` ticks: running, or paused
 abbrev pub running : TakeView → ℕ → Life
 running take shown =
     record { foreground = Some (record { take = take; shown = shown; paused = false; old = None }); background = None }
@@ -195,7 +195,7 @@ paused take shown =
 abbrev pub with_background : Life → TakeView → Life
 with_background s take = record s { background = Some take }
 
--- a foreground that runs and takes an old content away
+-- a place whose running foreground replaces outgoing content, and that content
 abbrev pub over_old : TakeView → ℕ → Outgoing → Life
 over_old take shown old =
     record { foreground = Some (record { take = take; shown = shown; paused = false; old = Some old }); background = None }
@@ -207,7 +207,7 @@ old_of take shown paused = record { take = take; shown = shown; paused = paused 
 abbrev pub frame_of : List PixelView → List ℤ → ChannelFrame
 frame_of pixels samples = record { pixels = pixels; samples = samples }
 
--- session 1 of worker 1 asks after these events, if the journal takes one command, and whether there is no memory
+-- a request of session 1 of worker 1 after these events, with a journal of at most one command, and whether there is no memory
 abbrev pub turn_after : List Event → Bool → Turn
 turn_after events no_memory = record {
   playout = record { config = record (plain_config 1 1) { journal_limit = 1 }; names = []; clips = []; digests = false };

@@ -1,6 +1,6 @@
-//! Worked examples, one module a topic. Each is a function that does nothing, and its contract is the example.
+//! Worked examples, one module per topic. Each is a function that does nothing, and its contract is the example.
 //!
-//! Their words (`at`, `plays`, `row_text` ..) stand in `specs/Worked.antt`. Rows of pixels are written as hexadecimal
+//! Their vocabulary (`at`, `plays`, `row_text` ..) is defined in `specs/Worked.antt`. Rows of pixels are written in hexadecimal
 //! letters: blue, green, red and alpha.
 
 pub mod answers;
@@ -9,6 +9,7 @@ pub mod groups;
 pub mod histories;
 pub mod limits;
 pub mod lives;
+pub mod logs;
 pub mod pictures;
 pub mod places;
 pub mod recordings;

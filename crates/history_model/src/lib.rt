@@ -1,6 +1,6 @@
-//! What the server shows and answers, defined by looking back over the whole history of its events.
+//! What the server shows and answers, defined from the whole history of its events.
 //!
-//! The definitions stand in `specs/`. They name one pixel or one sample at a time. Here are the limits of scripts, worked
+//! The definitions are in `specs/`, and give each pixel and each sample by itself. The code has the limits of scripts, worked
 //! examples, which the checker computes, and laws. No function of this crate does anything when it runs.
 #![tactic(auto)]
 

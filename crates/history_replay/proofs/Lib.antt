@@ -12,6 +12,10 @@ pub mod Events
 pub mod Replaying
 pub mod Stops
 pub mod Histories
+pub mod Pieces
+pub mod Fronts
+pub mod Cuts
+pub mod LeftOver
 pub mod Marked
 pub mod Written
 pub mod Named

@@ -26,7 +26,7 @@ module _ (count : ℕ) (low : 1 ≤ count) (high : count ≤ MAX_TICKS_PER_LINE)
       let some = decimal_nonempty count fits in
       record { some = some; bare = not_last is_ascii_digit 13 (decimal count) refl (are_digits-decimal count fits) some }
 
-  tick_is_line : IsLine (tick_text count)
+  pub tick_is_line : IsLine (tick_text count)
   tick_is_line = record {
     one = none_among is_ascii_digit 10 (decimal count) refl (are_digits-decimal count fits);
     bare = rw (HasBareEnd-append (codes "T ") (decimal count) digits_end).bare refl;

@@ -14,7 +14,7 @@ use Rattle.history_model.specs.scripts.Memory.{lines_played, with_memory}
 use Rattle.history_model.proofs.Scripts.{script_kept}
 use Rattle.history_model.specs.text.History.{history_text}
 use Rattle.history_replay.specs.Replay.{IsConnection, IsPlayout, IsReplayable, NamesConnection, NamesShortClips, script_of}
-use Rattle.history_replay.proofs.Histories.{text_plays}
+use Rattle.history_replay.proofs.Pieces.{text_plays}
 use Rattle.history_replay.proofs.Written.{script_events-written}
 
 -- a number without a leading zero lies between its ends

@@ -18,7 +18,6 @@ use Rattle.play_types.specs.declared.parsed.Refusal.{Refusal}
 use Rattle.play_types.specs.declared.parsed.Refusal.TheVariants as refusal
 use Rattle.play_types.specs.declared.reply.Name.TheVariants as name
 use Rattle.play_types.specs.declared.reply.Reply.TheVariants as reply
-use Rattle.history_model.specs.commands.Command.{parsed}
 use Rattle.history_model.specs.scripts.History.{Playout}
 use Rattle.history_model.specs.scripts.Output.{reply_output}
 use Rattle.history_model.specs.sessions.Request.{requested}

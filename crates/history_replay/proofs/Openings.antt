@@ -1,4 +1,4 @@
--- What was told without the stage before a step that asks for a batch.
+-- What was replied without the stage before a step that asks for a batch.
 use Rattle.std.proofs.Common.{◌≡◌, ℕ, ◌+◌, ◌≤◌, Bool, true, false, cond, List, [], ◌∷◌, ◌++◌, drop, length, length-append, length-take-le, refl, sym, take, ap, subst, ◌∙◌, arith, append_assoc}
 use Rattle.std.specs.Prelude.{flat_map, nat_lt}
 use Rattle.std.specs.List.{position_or_len}
@@ -21,7 +21,7 @@ use Rattle.history_replay.proofs.Opened.{OpenedBy, asked_in, begun, local, opene
 heads : (x y : Step) (xs ys : List Step) → x ∷ xs ≡ y ∷ ys → x ≡ y
 heads x y xs ys same = cc same
 
--- a batch is asked for if it is open
+-- a batch is asked for only if it is open
 waiting_asks : (commands found : List Cmd) (command : Cmd) → step_waiting commands command ≡ AskBatch found → ⊥
 waiting_asks commands found command is = by_tests (is_query command) (nat_lt (length commands) MAX_BATCH_COMMANDS) is
   where
@@ -80,7 +80,7 @@ last_parts : (xs ys zs ws : List Step) → length xs ≡ length zs → xs ++ ys 
 last_parts xs ys zs ws many same = sym (drop_at xs ys (length zs) many) ∙ ap (drop (length zs)) same ∙ drop_at zs ws (length zs) refl
 
 module _ (playout : Playout) (tag : Tag) (given_up : List ℕ) where
-  -- what was told before a step that asks for a batch
+  -- what was replied before a step that asks for a batch
   before_batch : (lines : List Line) (before later : List Step) (found : List Cmd) → steps_for playout tag given_up lines ≡ before ++ AskBatch found ∷ later
       → OpenedBy playout tag (asked_in playout tag given_up (take (length before) lines)) before × (batch (asked_in playout tag given_up (take (length before) lines)) ≡ found)
   before_batch lines before later found whole = by_rest (drop (length before) lines) refl

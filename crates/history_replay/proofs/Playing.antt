@@ -3,7 +3,7 @@ use Rattle.std.proofs.Common.{◌≡◌, ℕ, zero, suc, ◌+◌, ◌*◌, Bool,
 use Rattle.std.specs.Prelude.{Some, None}
 use Rattle.std.specs.List.{cons_option, list_any}
 use Rattle.std.proofs.lemmas.List.{replicate-append-replicate}
-use Rattle.amcp_text.specs.Lines.{is_line_end, line_of_text, lines_of}
+use Rattle.amcp_text.specs.Lines.{is_line_end, line_of_text}
 use Rattle.play_types.specs.declared.event.Event.{Event}
 use Rattle.play_types.specs.declared.event.Event.TheVariants as event
 use Rattle.play_types.specs.declared.event.Tag.{Tag}
@@ -11,15 +11,14 @@ use Rattle.play_types.specs.declared.parsed.Parsed.{Parsed}
 use Rattle.history_model.specs.scripts.Memory.{with_memory}
 use Rattle.history_model.specs.sessions.Request.{text_token}
 use Rattle.history_model.specs.sessions.Line.{Asks, line_meaning, asked_by}
-use Rattle.history_model.specs.sessions.Session.{Step, asks, is_end, line_steps, step_after, step_of_meaning}
+use Rattle.history_model.specs.sessions.Session.{Step, is_end, line_steps, step_after, step_of_meaning}
 use Rattle.history_model.specs.scripts.Line.{Ticks, Said}
-use Rattle.history_model.specs.scripts.History.{given_up_of, Playout, PlayedLine, goes_on, is_kill, said_step, same_tag, script_events, step_events, stream_of, text_by, texts_of, turn_of}
+use Rattle.history_model.specs.scripts.History.{given_up_of, Playout, PlayedLine, goes_on, is_kill, said_step, same_tag, script_events, step_events, stream_of, texts_of, turn_of}
 use Rattle.history_model.specs.scripts.Output.{answer_output, reply_output, script_output, step_reply, tick_output, ticks_output}
 use Rattle.history_model.proofs.Played.{no_kill}
 use Rattle.history_model.proofs.Outputs.{goes_on-none, goes_on-snoc, script_events-none, script_events-snoc, script_output-none, script_output-snoc}
 use Rattle.history_model.proofs.Besides.{same_ended}
 use Rattle.history_model.proofs.Sides.{Side, Side-none, Side-other, Side-said, asked_of, asked_of-said, has_ended, has_ended-said, own_step, said_step-own}
-use Rattle.history_model.proofs.Streams.{stream_of-other}
 use Rattle.history_model.proofs.Tags.{same_tag-equal, text_by-else, text_by-own}
 
 -- after these lines the run goes on, they made these events, this was written, and no connection has ended

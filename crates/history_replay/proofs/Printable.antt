@@ -1,5 +1,5 @@
 -- Commands whose printed form fits a line, and events of such commands.
-use Rattle.std.proofs.Common.{◌≡◌, ℕ, ◌≤◌, ◌⊎◌, false, List, length}
+use Rattle.std.proofs.Common.{◌≡◌, ◌≤◌, ◌⊎◌, false, List, length}
 use Rattle.std.specs.Prelude.{All, get_or}
 use Rattle.play_types.specs.Commands.{is_query}
 use Rattle.play_types.specs.declared.command.Cmd.{Cmd}
@@ -14,7 +14,7 @@ pub record IsPrintable (playout : Playout) (cmd : Cmd) : Type 0 where
   pub by : IsAskedFor playout cmd
   pub short : NamesShortClip playout.names cmd
 
--- such a command may stand in a batch
+-- such a command may be in a batch
 pub record IsPrintableInBatch (playout : Playout) (cmd : Cmd) : Type 0 where
   pub asked : IsPrintable playout cmd
   pub acts : is_query cmd ≡ false

@@ -19,20 +19,20 @@ split_at (c ∷ line) rest one =
     rw (parts.0, split_at line rest parts.1) refl
 
 -- there is always a last part, after which no line ends
-record HasPart (parts : List (List ℕ)) : Type 0 where
-  first : List ℕ
-  more : List (List ℕ)
-  is : parts ≡ first ∷ more
+pub record HasPart (parts : List (List ℕ)) : Type 0 where
+  pub first : List ℕ
+  pub more : List (List ℕ)
+  pub is : parts ≡ first ∷ more
 
 part_by : (ends : Bool) (c : ℕ) (parts : List (List ℕ)) → HasPart parts → HasPart (cond ends ([] ∷ parts) (onto_first c parts))
 part_by true c parts h = record { first = []; more = parts; is = refl }
 part_by false c parts h = record { first = c ∷ h.first; more = h.more; is = ap (onto_first c) h.is }
 
-some_part : (text : List ℕ) → HasPart (slice_split is_line_end text)
+pub some_part : (text : List ℕ) → HasPart (slice_split is_line_end text)
 some_part [] = record { first = []; more = []; is = refl }
 some_part (c ∷ text) = part_by (is_line_end c) c (slice_split is_line_end text) (some_part text)
 
-ended_first : (line : List ℕ) (parts : List (List ℕ)) → HasPart parts → lines_of_parts (line ∷ parts) ≡ strip_carriage_return line ∷ lines_of_parts parts
+pub ended_first : (line : List ℕ) (parts : List (List ℕ)) → HasPart parts → lines_of_parts (line ∷ parts) ≡ strip_carriage_return line ∷ lines_of_parts parts
 ended_first line parts h =
     ap (λ ps. lines_of_parts (line ∷ ps)) h.is ∙ sym (ap (λ ps. strip_carriage_return line ∷ lines_of_parts ps) h.is)
 

@@ -37,7 +37,7 @@ use Rattle.history_replay.proofs.Quoted.{IsInLine, IsInLine-append, IsInLine-nil
 use Rattle.history_replay.proofs.Sizes.{HaveTexts, IsNameWord}
 use Rattle.history_replay.proofs.Tagged.{HasBareEnd, HasBareEnd-append, IsSpoken}
 
--- a word that stands as it is, and the name of a clip
+-- a word that is written as it is, and the name of a clip
 some_of : (word : List ℕ) → is_fit (Plain word) ≡ true → 0 < length word
 some_of [] fit = cc
 some_of (c ∷ word) fit = omega arith

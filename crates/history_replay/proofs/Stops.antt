@@ -58,10 +58,10 @@ abbrev pub stop_says : Tag → ScriptLine
 stop_says tag = if same_tag tag server then line.Stop else Said tag (codes "KILL")
 
 -- a stop of the server itself, or of a connection
-is_server : (tag : Tag) → tag ≡ server → same_tag tag server ≡ true
+pub is_server : (tag : Tag) → tag ≡ server → same_tag tag server ≡ true
 is_server tag is = ap (λ t. same_tag t server) is
 
-is_connection : (tag : Tag) → IsConnection tag → same_tag tag server ≡ false
+pub is_connection : (tag : Tag) → IsConnection tag → same_tag tag server ≡ false
 is_connection tag known =
     let some = known.some_worker in
     ap (λ (b : Bool). b && (tag.session == 0)) (ne_eqb tag.worker 0 (λ e. absurd (omega (arith, some, e))))

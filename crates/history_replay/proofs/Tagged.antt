@@ -3,15 +3,14 @@ use Rattle.std.proofs.Common.{◌≡◌, ℕ, ◌+◌, ◌-◌, ◌<◌, ◌≤�
 use Rattle.std.specs.Prelude.{Option, Some, option_map, option_and_then, slice_index, decimal}
 use Rattle.std.specs.Char.{is_ascii_digit}
 use Rattle.std.specs.List.{list_all, list_any}
-use Rattle.std.proofs.lemmas.Bool.{and_parts, lt-ltb, le-ltb}
+use Rattle.std.proofs.lemmas.Bool.{and_parts, le-ltb}
 use Rattle.std.proofs.lemmas.Bool.Decides.{nat_tests}
 use Rattle.std.proofs.lemmas.Fmt.{decimal_nonempty, length-decimal-le}
-use Rattle.std.proofs.lemmas.List.{take_at, drop_at, drop-drop, get_or-append-add}
+use Rattle.std.proofs.lemmas.List.{get_or-append-add}
 use Rattle.std.proofs.lemmas.List.Folds.{list_any-append}
 use Rattle.amcp_text.specs.Lines.{is_line_end}
 use Rattle.amcp_text.specs.Numbers.{are_digits, plain_number_within}
 use Rattle.amcp_text.specs.declared.line_reader.TheConstants.{MAX_LINE_BYTES}
-use Rattle.amcp_text.proofs.FirstEnd.{position_or_len_at}
 use Rattle.play_types.specs.declared.event.Tag.{Tag}
 use Rattle.cmd_print.proofs.Numbers.{are_digits-decimal}
 use Rattle.history_model.specs.declared.limits.TheConstants.{MAX_SCRIPT_LINE_BYTES, MAX_SESSION, MAX_WORKER}
@@ -116,7 +115,7 @@ module _ (tag : Tag) (known : IsConnection tag) where
       ∙ short_said text
 
   -- there is no line end in a tag
-  tag_one : list_any is_line_end (tag_text tag) ≡ false
+  pub tag_one : list_any is_line_end (tag_text tag) ≡ false
   unfolding tag_text
   tag_one =
       let w = none_among is_ascii_digit 10 (decimal tag.worker) refl (are_digits-decimal tag.worker worker_fits) in

@@ -1,3 +1,4 @@
 pub mod Replay
 pub mod ReplayOutput
+pub mod Cut
 pub mod Worked

@@ -38,7 +38,7 @@ pub record IsAskedFor (playout : Playout) (cmd : Cmd) : Type 0 where
   pub words : List (List ℕ)
   pub ask : parsed playout.config playout.names words ≡ Ok (Stage cmd)
 
--- a command that may stand in a batch
+-- a command that may be in a batch
 pub record IsBatchedCommand (playout : Playout) (cmd : Cmd) : Type 0 where
   pub asked : IsAskedFor playout cmd
   pub acts : is_query cmd ≡ false
@@ -59,14 +59,14 @@ IsTextName clip = all_scalars clip.name ≡ true
 abbrev pub IsShortName : List ℕ → Type 0
 IsShortName name = length (encode_utf8_all (flat_map escaped name)) ≤ MAX_PRINTED_NAME_BYTES
 
--- the clip that a producer plays has such a name
+-- the clip that a producer plays has a short name
 abbrev pub HasShortName : List MediaNameView → Spec → Type 0
 HasShortName media (Clip id) = IsShortName (clip_name_at media id)
 HasShortName media (Colour value) = Unit {0}
 HasShortName media (RouteChannel channel) = Unit {0}
 HasShortName media (RouteLayer place) = Unit {0}
 
--- so has the clip that a command names
+-- the clip that a command names has a short name
 abbrev pub NamesShortClip : List MediaNameView → Cmd → Type 0
 NamesShortClip media cmd = elim (shape_of cmd) [
   | shape.Take place take ↦ HasShortName media take.spec
@@ -81,7 +81,7 @@ NamesShortClip media cmd = elim (shape_of cmd) [
   | shape.Ask query ↦ Unit {0}
 ]
 
--- and each clip that an event names
+-- each clip that an event names has a short name
 abbrev pub NamesShortClips : List MediaNameView → Event → Type 0
 NamesShortClips media (Do tag cmd) = NamesShortClip media cmd
 NamesShortClips media (Batch tag cmds) = All (NamesShortClip media) cmds
@@ -92,7 +92,7 @@ NamesShortClips media (Stop tag) = Unit {0}
 pub record IsPlayout (playout : Playout) : Type 0 where
   -- the configuration is in its ranges
   pub config : IsConfig playout.config
-  -- so are the names of the media table
+  -- the names of the media table are in their ranges
   pub names : All IsMediaName playout.names
   -- and each of them is a text
   pub texts : All IsTextName playout.names
@@ -107,10 +107,10 @@ pub record IsReplayable (playout : Playout) (history : List Event) : Type 0 wher
   pub written : All (IsWritten playout) history
   -- each clip that it names has a name that can be printed in a line
   pub named : All (NamesShortClips playout.names) history
-  -- the journal has a place for each command
+  -- the journal has room for each command
   pub within : held history ≤ playout.config.journal_limit
 
--- what the lines of a text say
+-- the script of a text: the meanings of its lines
 abbrev pub script_of : List ℕ → List ScriptLine
 script_of text = map meaning (lines text)
 
@@ -122,7 +122,7 @@ IsAccepted (Said tag text) = Unit {0}
 IsAccepted line.Stop = Unit {0}
 IsAccepted Rejected = ⊥
 
--- a line of a connection names one
+-- the connection of a line that has one is in range
 abbrev pub NamesConnection : ScriptLine → Type 0
 NamesConnection Comment = Unit {0}
 NamesConnection (Ticks count) = Unit {0}
@@ -130,7 +130,7 @@ NamesConnection (Said tag text) = IsConnection tag
 NamesConnection line.Stop = Unit {0}
 NamesConnection Rejected = Unit {0}
 
--- a step after which the stage is asked for what words ask for, or for a batch of such commands
+-- a step that asks the stage for nothing, for a command that some words ask for, or for a batch of such commands
 abbrev pub IsWrittenStep : Playout → Step → Type 0
 IsWrittenStep playout (Local answer) = Unit {0}
 IsWrittenStep playout (Ask command) = IsAskedFor playout command

@@ -1,4 +1,4 @@
--- What is written if a history is played again from its text.
+-- What is written when a history is played again from its text.
 use Rattle.std.specs.Prelude.{ℕ, if◌then◌else◌, Some, List, [], ◌∷◌, ◌++◌, flat_map}
 use Rattle.play_types.specs.Commands.{command_name, answer_reply}
 use Rattle.play_types.specs.declared.command.Cmd.{Cmd}
@@ -14,7 +14,7 @@ use Rattle.history_model.specs.scripts.History.{Playout, same_tag, server, setup
 use Rattle.history_model.specs.scripts.Output.{reply_output, tick_output}
 use Rattle.history_model.specs.sessions.Session.{Step, Local, Ask, AskBatch, KillServer, EndConnection, Skip}
 
--- a command for a batch is told that it waits
+-- what is written for a command that is added to a batch: the reply 202
 abbrev pub waiting_output : Playout → Tag → Cmd → List ℕ
 waiting_output playout tag cmd = reply_output playout tag (Some (reply.Done (command_name cmd)))
 
@@ -40,7 +40,7 @@ events_output playout before (event ∷ events) =
 unfoldable pub history_output : Playout → List Event → List ℕ
 history_output playout history = events_output playout [] history
 
--- what is written for a reply 202
+-- what is written for a reply 202, and nothing for another reply
 abbrev pub done_output : Playout → Tag → Reply → List ℕ
 done_output playout tag (reply.Done command) = reply_output playout tag (Some (reply.Done command))
 done_output playout tag (reply.Value micros) = []

@@ -1,11 +1,17 @@
--- A worked history: a setting that waits, ticks, a batch, the commit of the setting, a tick, and the server's own stop.
+-- A worked history: a setting that waits, ticks, a batch, the commit of the setting, a tick, and the server's own stop; and its
+-- connection.
 use Rattle.std.specs.Prelude.{ℕ, List, [], ◌∷◌, pos, codes}
 use Rattle.play_types.specs.declared.command.Cmd.TheVariants.{ClearLayer, CommitMixer, Pause}
 use Rattle.play_types.specs.declared.event.Event.{Event}
 use Rattle.play_types.specs.declared.event.Event.TheVariants.{Stop, Tick}
+use Rattle.play_types.specs.declared.event.Tag.{Tag}
 use Rattle.play_types.specs.declared.setting.Prop.TheVariants.{Opacity}
 use Rattle.history_model.specs.Worked.{ask, at, batch, defers, number, plays, red}
 use Rattle.history_model.specs.scripts.History.{server}
+
+-- the connection: session 1 of worker 1
+abbrev pub worked_tag : Tag
+worked_tag = record { worker = 1; session = 1 }
 
 -- the events
 abbrev pub worked_history : List Event

@@ -11,8 +11,8 @@ use Rattle.server_setup.specs.declared.fault.RunFault.TheVariants as run
 use Rattle.host_system.specs.declared.words.WordsFault.{WordsFault}
 use Rattle.host_system.specs.declared.words.WordsFault.TheVariants.{Unreadable, OutOfMemory}
 
--- the words are the arguments that the system tells, but for the first, which is the program's name; or memory ran out, in this
--- call or in the system; or the system failed for another cause, and then they are unreadable
+-- the words are the arguments of the process without the first, which is the program's name, or memory ran out; if the system gives no
+-- arguments, they are unreadable, or memory ran out if that is the system's error
 abbrev pub TakesWords : Result (IntoIter (String Global) Global) Error → Result (Vec (String Global)) WordsFault → Type 0
 TakesWords (Ok args) (Ok words) = words.items ≡ drop 1 (into_iter_items args)
 TakesWords (Ok args) (Err Unreadable) = ⊥
@@ -21,7 +21,7 @@ TakesWords (Err error) (Ok words) = ⊥
 TakesWords (Err error) (Err Unreadable) = error_kind error ≢ kind.OutOfMemory
 TakesWords (Err error) (Err OutOfMemory) = error_kind error ≡ kind.OutOfMemory
 
--- the fault of a run whose words are not known: words that cannot be read are no command line
+-- the fault of a run whose words could not be read: unreadable words are no command line
 abbrev pub run_fault_of : WordsFault → RunFault
 run_fault_of Unreadable = run.Usage
 run_fault_of OutOfMemory = run.OutOfMemory

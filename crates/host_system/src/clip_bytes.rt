@@ -11,7 +11,7 @@ pub(crate) struct ClipBytes {
     total: u64,
 }
 
-/// A sum of clip files that is above what all clips together may have.
+/// A sum of the lengths of clip files that is above `MAX_MEDIA_BYTES`.
 #[derive(Clone, Copy)]
 pub(crate) struct TooMany {
     total: u64,
@@ -23,7 +23,7 @@ impl ClipBytes {
         ClipBytes { total: 0 }
     }
 
-    /// Adds the length of a file. Returns the sum with it, if that is above what all clips together may have.
+    /// Adds the length of a file, and returns the new sum if it is above `MAX_MEDIA_BYTES`.
     pub(crate) fn add(&mut self, len: usize) -> Option<TooMany> {
         self.total = self.total.saturating_add(len.max(1) as u64);
         if self.total <= MAX_MEDIA_BYTES {

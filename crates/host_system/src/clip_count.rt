@@ -1,27 +1,27 @@
-//! What is said of the clips of a folder while they are read. If that cannot be written, nothing is said.
+//! Reports on the clips of a folder while they are read. Failures to write them are ignored.
 ghost use Rattle.std.specs.Prelude.{◌≡◌};
 
 use std::io::Eprint;
 
-/// How the file of a clip ends, in upper or lower case.
+/// The end of the name of a clip's file, in upper or lower case.
 const ENDING: &[u8] = b".rclp";
 
-/// After how many clips a terminal is told how far the reading is.
+/// After how many clips the progress of the reading is reported again on a terminal.
 const CLIPS_BETWEEN_WORDS: usize = 100;
 
-/// How much is said on standard error of the clips that are read.
+/// How much is reported on standard error about the clips that are read.
 #[derive(Clone, Copy, Debug, PartialEq, Eq)]
 pub enum Progress {
     /// Nothing.
     Silent,
-    /// How many they are.
+    /// How many clips there are.
     Total,
-    /// How many they are, and, as they are read, how many were read so far, in one line of a terminal.
+    /// How many clips there are, and, while they are read, how many were read so far, in one line of a terminal.
     Counted,
 }
 
 impl Progress {
-    /// Returns how much is said on standard error, which may be a terminal.
+    /// Returns how much is reported on standard error, depending on whether that is a terminal.
     pub fn on(is_terminal: bool) -> Progress {
         if is_terminal {
             Progress::Counted
@@ -52,7 +52,7 @@ impl ClipCount {
         }
     }
 
-    /// Begins anew with the names of a folder, and says how many clips are read.
+    /// Resets the count for the names of a folder, and reports how many clips will be read.
     pub(crate) fn begin<E: Eprint>(
         &mut self,
         errors: &E,
@@ -71,7 +71,7 @@ impl ClipCount {
         }
     }
 
-    /// Counts a clip that was read, and says on a terminal how many were.
+    /// Counts a clip that was read, and reports on a terminal how many were.
     pub(crate) fn add<E: Eprint>(&mut self, errors: &E, program: &str, folder: &str) {
         self.read = self.read.saturating_add(1);
         match self.progress {
@@ -80,7 +80,7 @@ impl ClipCount {
         }
     }
 
-    /// Says how many clips were read, at the last one and at each hundredth, over what was said before.
+    /// Reports how many clips were read, at the last one and at each hundredth, over the last such report.
     fn say_read<E: Eprint>(&mut self, errors: &E, program: &str, folder: &str) {
         let (read, listed) = (self.read, self.listed);
         let is_last = read == listed;
@@ -95,7 +95,7 @@ impl ClipCount {
         }
     }
 
-    /// Ends the line of a terminal that was begun, so that another can be said.
+    /// Ends the line of a terminal, if one was begun, so that another line can be written.
     pub(crate) fn end_line<E: Eprint>(&mut self, errors: &E) {
         if self.has_begun_line {
             let _ = errors.eprintln("");
@@ -104,13 +104,13 @@ impl ClipCount {
     }
 }
 
-/// Says how many clips are read.
+/// Reports how many clips will be read.
 fn say_listed<E: Eprint>(errors: &E, program: &str, folder: &str, listed: usize) {
     let clips = if listed == 1 { "clip" } else { "clips" };
     let _ = errors.eprintln(format_args!("{program}: {folder}: reading {listed} {clips}"));
 }
 
-/// Returns whether a file of a folder is one of a clip, by its name.
+/// Returns whether a file has the name of a clip file.
 fn is_clip_file(name: &str) -> bool {
     let name = name.as_bytes();
     match name.len().checked_sub(ENDING.len()) {

@@ -1,16 +1,16 @@
-//! What is said on standard error, for a person. If that cannot be written, nothing is said.
+//! The lines on standard error, for a person. Failures to write them are ignored.
 
 use config_file::{explain, read_config};
 use std::alloc::Global;
 use std::fmt::Display;
 use std::io::Eprint;
 
-/// Says on standard error, after the name of the program, why a file, a folder or a stream failed.
+/// Reports on standard error, after the name of the program, why a file, a folder or a stream failed.
 pub fn complain<E: Eprint, D: Display>(errors: &E, program: &str, of: &str, why: &D) {
     let _ = errors.eprintln(format_args!("{program}: {of}: {why}"));
 }
 
-/// Says why a file of a folder failed.
+/// Reports why a file of a folder failed.
 pub(crate) fn complain_of_file<E: Eprint, D: Display>(
     errors: &E,
     program: &str,
@@ -21,7 +21,7 @@ pub(crate) fn complain_of_file<E: Eprint, D: Display>(
     let _ = errors.eprintln(format_args!("{program}: {folder}/{name}: {why}"));
 }
 
-/// Says why the bytes of a configuration are refused, if they are. If memory runs out for that, nothing is said.
+/// Reports why the bytes of a configuration are refused, if they are. If memory runs out meanwhile, nothing is written.
 pub(crate) fn complain_of_config<E: Eprint>(
     errors: &E,
     alloc: Global,

@@ -14,9 +14,9 @@ use std::fs;
 use std::io::{Eprint, Error, ErrorKind, Read};
 use std::rt::Files;
 
-/// Reads configurations and media from the regular files of the system, and says on standard error which file or folder
-/// could not be read, why a configuration is refused, why a file is no clip, with which file the clips have too many bytes,
-/// and how many clips are read. It does not tell what it holds.
+/// Reads configurations and media from regular files of the system. It reports on standard error which file or folder
+/// could not be read, why a configuration is refused, why a file is no clip, with which file the clips have too many
+/// bytes, and how many clips are read. Its state does not hold the contents of the files.
 #[derive(Drop)]
 pub struct FolderMedia<R> {
     rt: R,
@@ -27,8 +27,8 @@ pub struct FolderMedia<R> {
 }
 
 impl<R: Files + Eprint + AllocGlobal + Clone + Drop> FolderMedia<R> {
-    /// Returns the files of the system. No read of them has failed yet. What is said begins with the name of the program,
-    /// and of the clips that are read as much is said as `progress` allows.
+    /// Returns the files of the system. No read of them has failed yet. Each report begins with `program`, and
+    /// `progress` is how much is reported about the clips that are read.
     pub fn new(rt: R, program: &'static str, progress: Progress) -> FolderMedia<R>
         ensures { ⟦<FolderMedia<R> as MediaDir>⟧.state result ≡ record { files = None; faults = 0 } }
     {
@@ -57,7 +57,7 @@ impl<R: Files + Eprint + AllocGlobal + Clone + Drop> FolderMedia<R> {
 impl<R: Files + Eprint + AllocGlobal + Clone + Drop> MediaDir for FolderMedia<R> {
     ghost state = { λ m. record { files = None; faults = m.faults } };
 
-    /// Reads the file of a configuration. If it is refused as one, standard error says why.
+    /// Reads the file of a configuration. If the configuration is refused, standard error says why.
     fn config(&mut self, alloc: Global, path: &str) -> Result<Vec<u8>, FileFault> {
         match read_file(&self.rt, alloc, path) {
             Ok(bytes) => {
@@ -71,7 +71,7 @@ impl<R: Files + Eprint + AllocGlobal + Clone + Drop> MediaDir for FolderMedia<R>
         }
     }
 
-    /// Lists the names of all that lies in a folder, folders and links too. A name that is not UTF-8 is passed over.
+    /// Lists the names of all entries of a folder, folders and links too. A name that is not UTF-8 is passed over.
     fn names(&mut self, alloc: Global, folder: &str) -> Result<Vec<String>, FileFault> {
         match list_names(&self.rt, alloc, folder) {
             Ok(names) => {
@@ -87,8 +87,8 @@ impl<R: Files + Eprint + AllocGlobal + Clone + Drop> MediaDir for FolderMedia<R>
         }
     }
 
-    /// Reads a file of a folder. If it is no clip, standard error says why, and if with it the clips have more bytes than all
-    /// together may have, how many.
+    /// Reads a file of a folder. If it is no clip, standard error says why. If the clips so far have more bytes than
+    /// `MAX_MEDIA_BYTES` with it, standard error says how many.
     fn bytes(&mut self, alloc: Global, folder: &str, name: &str) -> Result<Vec<u8>, FileFault> {
         match read_file_in(&self.rt, alloc, folder, name) {
             Ok(bytes) => {
@@ -112,8 +112,7 @@ impl<R: Files + Eprint + AllocGlobal + Clone + Drop> MediaDir for FolderMedia<R>
     }
 }
 
-/// Reads a whole file, if it is a regular one. Another is not opened, since a read of it may wait for ever or have no
-/// end.
+/// Reads a whole regular file. Any other file is not opened, since a read of it may wait forever or have no end.
 fn read_file<R: Files>(rt: &R, alloc: Global, path: &str) -> Result<Vec<u8>, ReadFault> {
     if !fs::metadata(rt, path)?.is_file() {
         return Err(ReadFault::NotRegular);
@@ -135,7 +134,7 @@ fn read_file_in<R: Files>(
     read_file(rt, alloc, path.as_str())
 }
 
-/// Lists the names of all that lies in a folder, but for those that are not UTF-8.
+/// Lists the names of all entries of a folder, except those that are not UTF-8.
 fn list_names<R: Files + AllocGlobal + Clone + Drop>(
     rt: &R,
     alloc: Global,

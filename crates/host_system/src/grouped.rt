@@ -2,10 +2,10 @@
 
 use std::fmt;
 
-/// How many groups of three digits a number has at most.
+/// The most groups of three digits in a number.
 const GROUPS: u32 = 7;
 
-/// A number that is written with a comma between each three digits and the next, as `92,160,020`.
+/// A number that is written with a comma between groups of three digits, as `92,160,020`.
 #[derive(Clone, Copy)]
 pub struct Grouped(pub u64);
 
@@ -25,8 +25,8 @@ impl fmt::Display for Grouped {
     }
 }
 
-/// Returns the three digits of a number at a place, as a number. At place 0 are those of the quintillions, and at the last
-/// place those below a thousand.
+/// Returns one group of three digits of a number. Place 0 is the group of the quintillions, and the last place is the
+/// group below a thousand.
 fn group_at(number: u64, place: u32) -> u64 {
     let thousands = match place {
         0 => number / 1_000_000_000_000_000_000,

@@ -1,10 +1,10 @@
 //! What the programs take from the system: the words of their command lines, and configurations and media in files.
 //!
-//! `words_of` gives the words after the program's own name, or a `WordsFault`, which is the fault of a run. `FolderMedia`
-//! meets `MediaDir` of `play_outside`: it counts the reads that failed, and does not tell what it holds. What is said on
-//! standard error of a failure, of a configuration that is refused, of a clip that is unreadable, of clips that have too many
-//! bytes and of how many clips are read, begins with the name of the program. `Grouped` writes a number as a person reads
-//! it. `ProgramFile` tells from which sources the running program was built.
+//! `words_of` gives the words after the program's own name, or a `WordsFault`, which is a fault of a run. `FolderMedia`
+//! implements `MediaDir` of `play_outside`: its state counts the reads that failed, but does not hold the contents of
+//! the files. Its reports on standard error begin with the name of the program: failures, configurations that are
+//! refused, clips that are unreadable or have too many bytes together, and how many clips are read. `Grouped` writes a
+//! number in groups of digits. `ProgramFile` finds out from which sources the running program was built.
 #![tactic(auto)]
 
 mod clip_bytes;

@@ -8,15 +8,15 @@ use std::{env, fmt};
 /// The number of hexadecimal digits of a sum of sources.
 const SUM_DIGITS: usize = 16;
 
-/// The file that the running program was started from, if the system tells it. A program that is kept or installed by the
-/// repository has the sum of its sources as the ending of its file's name.
+/// The file that the running program was started from, if the system gives it. If the program was kept or installed by
+/// the repository, the name of its file ends with the sum of its sources.
 #[derive(Drop)]
 pub struct ProgramFile {
     path: Option<PathBuf>,
 }
 
 impl ProgramFile {
-    /// Asks the system for the file of the running program, which is not opened. Links on the way to it are followed.
+    /// Asks the system for the file of the running program, following links, and does not open it.
     pub fn find<R: Files + AllocGlobal>(rt: &R) -> ProgramFile {
         ProgramFile {
             path: env::current_exe(rt).ok(),
@@ -29,7 +29,7 @@ impl ProgramFile {
         if is_sum(ending) { Some(ending) } else { None }
     }
 
-    /// Says on standard error from which sources the program was built, if that is known.
+    /// Reports on standard error from which sources the program was built, if that is known.
     pub fn say<E: Eprint>(&self, errors: &E, program: &str) {
         if let Some(sources) = self.sources() {
             let _ = errors.eprintln(format_args!("{program}: built from {sources}"));

@@ -13,7 +13,7 @@ use std::io::{Error, ErrorKind};
 pub enum ReadFault {
     /// It is no regular file: a folder, a named pipe, a socket or a device.
     NotRegular,
-    /// What the system said.
+    /// The error of the system.
     System(Error),
 }
 

@@ -36,7 +36,8 @@ impl fmt::Display for Unreadable {
 }
 
 impl Unreadable {
-    /// Returns why the bytes of a file are no clip: `None` if they are one, or if memory ran out for a copy of the header.
+    /// Returns why the bytes of a file are no clip, or `None` if they are one, or if memory ran out for a copy of the
+    /// header.
     pub(crate) fn find(alloc: Global, bytes: &[u8]) -> Option<Unreadable> {
         let had = bytes.len() as u64;
         if bytes.len() < HEADER_LEN {

@@ -11,10 +11,10 @@ use std::error::Error;
 use std::fmt;
 use std::io::{self, ErrorKind};
 
-/// Why the words of a command line are not known.
+/// Why the words of a command line could not be read.
 #[derive(Clone, Copy, Debug, PartialEq, Eq)]
 pub enum WordsFault {
-    /// The system does not tell them, or one of them is not UTF-8.
+    /// The system does not give them, or one of them is not UTF-8.
     Unreadable,
     /// Memory ran out.
     OutOfMemory,
@@ -42,7 +42,7 @@ impl From<AllocError> for WordsFault {
 impl From<WordsFault> for RunFault {
     ghost from_gives = { λ error fault. fault ≡ run_fault_of error };
 
-    /// Returns the fault of a run: words that cannot be read are no command line.
+    /// Returns the fault of a run: unreadable words are no command line.
     fn from(error: WordsFault) -> RunFault {
         match error {
             WordsFault::Unreadable => RunFault::Usage,
@@ -51,7 +51,7 @@ impl From<WordsFault> for RunFault {
     }
 }
 
-/// Returns the words after the program's own name, from what the system tells of the arguments.
+/// Returns the words after the program's own name, from the arguments that the system gives.
 ///
 /// `Unreadable` comes exactly if the system fails for another cause than memory.
 pub fn words_of(alloc: Global, args: io::Result<Args>) -> Result<Vec<String>, WordsFault>
@@ -66,7 +66,7 @@ pub fn words_of(alloc: Global, args: io::Result<Args>) -> Result<Vec<String>, Wo
     }
 }
 
-/// Returns the arguments but for the first.
+/// Returns the arguments without the first.
 fn after_first(alloc: Global, args: Args) -> Result<Vec<String>, AllocError>
     ensures { IfOk result (λ words. words.items ≡ drop 1 (into_iter_items args)) }
 {

@@ -1,4 +1,4 @@
-//! Calls that take memory, if memory is ample.
+//! Calls that allocate, with ample memory.
 
 use amcp_text::{LineReader, WordList, tokens};
 

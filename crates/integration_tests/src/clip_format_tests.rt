@@ -17,8 +17,8 @@ fn a_clip_is_written_with_the_bytes_that_were_read(rt: HostRuntime) -> Result<()
     Ok(())
 }
 
-/// Clip files, each before the file of version 2 that shows the same. The second has a colour above its alpha and one without an
-/// alpha, and the last two are of version 2.
+/// Clip files, each before the file of version 2 with the same pictures. The second has a colour above its alpha and one whose alpha
+/// is 0, and the last two are of version 2.
 const STRAIGHT: [(&[u8], &[u8]); 4] = [
     (
         b"RCLP\0\x01\0\0\0\x01\0\x01\0\0\0\x01\0\0\0\0\0\0\x40\x80",
@@ -54,7 +54,7 @@ fn a_straight_clip_has_the_bytes_of_version_2(rt: HostRuntime) -> Result<(), Fai
 /// The file of one pixel without sound.
 const PIXEL: &[u8] = b"RCLP\0\x01\0\0\0\x01\0\x01\0\0\0\x01\0\0\0\0abcd";
 
-/// Headers, and why the file that has no more is no clip. The last one has the greatest numbers.
+/// Headers, and the fault of a file that has nothing else. The last one has the greatest numbers.
 const HEADERS: [(&[u8], ClipFault); 4] = [
     (
         b"RCLP\0\x01\0\0\x10\x01\0\x01\0\0\0\x01\0\0\0\0",

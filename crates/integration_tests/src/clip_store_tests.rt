@@ -11,7 +11,7 @@ use std::thread::Threads;
 const BRIGHT: &[u8] =
     b"RCLP\0\x01\0\0\0\x02\0\x01\0\0\0\x02\0\x01\0\0\x09\x07\x08\x07\x01\xff\x03\x64\xff\xff\x01\0\x05\x05\x05\0\x0a\x14\x1e\xff\x09\x08\x07\0";
 
-/// Scans a folder with two clip files of these names, if the call of the folder with the number `fails` fails.
+/// Scans a folder with two clip files of these names, whose call number `fails` fails.
 fn scan_failing<R: Threads + Sync>(
     rt: &R,
     alloc: Global,

@@ -24,13 +24,13 @@ fn names(alloc: Global) -> Result<MediaNames, Fail> {
     Ok(names)
 }
 
-/// A connection.
+/// The tag of a connection.
 const TAG: Tag = Tag {
     worker: 2,
     session: 70000,
 };
 
-/// The server itself.
+/// The tag of the server itself.
 const SERVER: Tag = Tag {
     worker: 0,
     session: 0,
@@ -52,7 +52,7 @@ fn commands(place: Place) -> Result<[Cmd; 4], Fail> {
     ])
 }
 
-/// The line of each of these commands in a history, if the connection gave it for layer 10 of channel 1.
+/// The line of each of these commands in a history, given by the connection for layer 10 of channel 1.
 const COMMAND_LINES: [&str; 4] = [
     "2.70000 PLAY 1-10 \"BGLOOP\" LOOP SEEK 0 LENGTH 4\n",
     "2.70000 LOADBG 1-10 \"A \\\"B\\\\C\\nD\" SEEK 2 LENGTH 7 WIPE 12 LINEAR LEFT AUTO\n",

@@ -52,13 +52,13 @@ fn a_refused_configuration_names_the_wrong_key(rt: HostRuntime) -> Result<(), Fa
     Ok(())
 }
 
-/// What every configuration has, but for its channels.
+/// The keys of every configuration, without its channels.
 const TOP: &str = "listen = 'a'\nmedia = 'm'\nrate = 25\n";
 
-/// A channel that is as it should be.
+/// A valid channel.
 const CHANNEL: &str = "[[channel]]\nwidth = 1280\nheight = 720\noutput = 'o'\n";
 
-/// A text that is refused, in three parts, and what is said of it.
+/// A text that is refused, in three parts, and the message about it.
 #[derive(Clone, Copy)]
 struct Refused {
     parts: [&'static str; 3],
@@ -104,7 +104,7 @@ const REFUSED: [Refused; 50] = [
     },
     Refused {
         parts: ["listen = 'a'\nmedia = 'm'\n", CHANNEL, "rate = 25"],
-        said: "rate is missing: a whole number from 1 to 240; it stands below [[channel]], and belongs above",
+        said: "rate is missing: a whole number from 1 to 240; it is below [[channel]], and belongs above it",
     },
     Refused {
         parts: ["", "listen = 5250\n", CHANNEL],

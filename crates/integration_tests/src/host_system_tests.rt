@@ -1,4 +1,4 @@
-//! Files of the system, of which no clause says what they hold, and words with ample memory.
+//! Files of the system, whose contents no clause states, and words with ample memory.
 use host_system::{FolderMedia, Progress, words_of};
 use play_outside::{FileFault, MediaDir};
 use std::test::Fail;

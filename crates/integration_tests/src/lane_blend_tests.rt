@@ -25,7 +25,7 @@ fn rows_of_every_length_are_blended_as_their_pixels(rt: HostRuntime) -> Result<(
     Ok(())
 }
 
-/// Returns a row of `width` pixels of many bytes, which follow from `seed`.
+/// Returns a row of `width` pixels of various bytes, which follow from `seed`.
 fn various(alloc: Global, width: usize, seed: u32) -> Result<Vec<u8>, AllocError>
     requires { width < 68 }
     ensures whole { IfOk result (λ row. length row.items ≡ 4 * width) }

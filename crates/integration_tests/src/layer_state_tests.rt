@@ -102,8 +102,7 @@ fn take_step(layer: &mut Layer, step: Step) -> Result<bool, Fail> {
     Ok(as_expected)
 }
 
-/// Returns the name of the first life of which a tick shows something else than the table says, and the place of that step
-/// in it.
+/// Returns the name of the first life with a tick that shows something else than the table says, and the index of that step in it.
 fn first_wrong(lives: &[Life]) -> Result<Option<(&'static str, usize)>, Fail> {
     for life in lives {
         let mut layer = Layer::new();

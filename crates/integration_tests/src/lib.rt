@@ -1,6 +1,6 @@
-//! Tests of the parts of the programs: what no clause says. Real files and folders; calls that take memory, if memory is ample;
-//! values from outside or worked out by hand. Each file is named for the crate that it tests. The tests of whole runs, of
-//! rendering and of threads are in `run_tests`.
+//! Tests of the parts of the programs: what no clause states. Real files and folders; calls that allocate, with ample memory; values
+//! from outside or worked out by hand. Each file is named for the crate that it tests. Tests of several crates together are in
+//! `run_tests`, `server_tests` and `device_tests`.
 //!
 //! The crates below have no tests of their own, since the gate proves a crate that has tests a second time.
 #![tactic(auto)]

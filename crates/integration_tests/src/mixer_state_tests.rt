@@ -1,4 +1,4 @@
-//! Calls that take memory, with ample memory, and values worked out by hand.
+//! Calls that allocate, with ample memory, and values worked out by hand.
 ghost use Rattle.std.specs.Prelude.{◌≡◌, IfOk};
 
 use mixer_state::Mixer;

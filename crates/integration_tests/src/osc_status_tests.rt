@@ -1,5 +1,5 @@
-//! Messages of OSC, with ample memory and room: their bytes, which were worked out by hand, bytes that are no message, and
-//! names of clips as the status of a layer tells them.
+//! Messages of OSC, with ample memory and room: their bytes, which were worked out by hand, bytes that are no message, and names of
+//! clips in the status of a layer.
 ghost use Rattle.std.specs.Prelude.{◌≡◌, true, false, All};
 ghost use Rattle.std.specs.List.{list_any};
 ghost use Rattle.osc_status.specs.Message.{begins_with};

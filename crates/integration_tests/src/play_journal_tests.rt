@@ -1,4 +1,4 @@
-//! Calls that take memory, with ample memory.
+//! Calls that allocate, with ample memory.
 
 use play_journal::Journal;
 use play_types::{Cmd, MAX_TICKS, Tag};

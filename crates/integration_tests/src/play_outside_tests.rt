@@ -1,4 +1,4 @@
-//! What objects in memory do call by call, with ample memory: pieces, room, and faults if they are planned.
+//! What objects in memory do call by call, with ample memory: pieces, room, and faults where they are planned.
 mod devices;
 
 use play_outside::{

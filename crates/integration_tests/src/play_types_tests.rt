@@ -1,4 +1,4 @@
-//! Calls that take memory, if memory is ample.
+//! Calls that allocate, with ample memory.
 
 use play_types::{Channel, ChannelList, Cmd, CmdList, MediaName, MediaNames, Text};
 use std::alloc::{AllocError, Global};

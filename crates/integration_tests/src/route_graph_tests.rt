@@ -1,4 +1,4 @@
-//! Calls that take memory, with ample memory.
+//! Calls that allocate, with ample memory.
 
 use play_types::{Place, Spec, Still};
 use route_graph::Routes;

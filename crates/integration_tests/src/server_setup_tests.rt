@@ -12,7 +12,7 @@ const TEXT: &[u8] =
 /// Two files that are no clips, and one that is passed over.
 const NAMES: [&str; 3] = ["b.rclp", "a.rclp", "a.txt"];
 
-/// Sets up from the configuration `c`, if the call of the folder of this number fails.
+/// Sets up from the configuration `c` with a folder whose call number `fails` fails.
 fn set_up_failing<R: Threads + Sync>(
     rt: &R,
     alloc: Global,

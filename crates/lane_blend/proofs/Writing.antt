@@ -20,7 +20,7 @@ pub record IsWrittenTo (byte : ℕ → ℕ) (old new : List ℕ) (at : ℕ) : Ty
   pub before : (k : ℕ) → k < at → get_or new k 0 ≡ byte k
   pub after : (k : ℕ) → at ≤ k → get_or new k 0 ≡ get_or old k 0
 
--- the same while sixteen bytes are written at a time
+-- the bytes below `at` are written, sixteen at a time
 pub record IsWrittenBy16 (byte : ℕ → ℕ) (old new : List ℕ) (at : ℕ) : Type 0 where
   pub written : IsWrittenTo byte old new at
   pub aligned : at % 16 ≡ 0
@@ -117,7 +117,7 @@ row_written byte old new at h end whole = record {
       (h.before (4 * i + 3) (omega arith));
 }
 
--- the same, by what the four bytes are together
+-- a row that is written to its end, by what the four bytes of each pixel are together
 row_of_pixels : (byte : ℕ → ℕ) (pixel : ℕ → PixelView) (old new : List ℕ) (at : ℕ) → IsWrittenTo byte old new at → length old ≤ at → length old % 4 ≡ 0
     → ((i : ℕ) → pixel_of (byte (4 * i)) (byte (4 * i + 1)) (byte (4 * i + 2)) (byte (4 * i + 3)) ≡ pixel i)
     → IsRow (width_of old) pixel new

@@ -1,9 +1,9 @@
--- Opacities as lines in sixteen bits.
+-- Opacities as linear functions of bytes, in sixteen bits.
 use Rattle.std.specs.Prelude.{◌≡◌, ℕ, ◌+◌, ◌*◌, ◌/◌, ◌<◌}
 use Rattle.pixel_math.specs.Arithmetic.{fade_byte}
 use Rattle.lane_blend.specs.declared.lines.Line.{Line}
 
--- a byte by a line
+-- the byte that a line makes of byte v
 abbrev pub line_byte : Line → ℕ → ℕ
 line_byte line v = (v * line.slope_high + line.base_high + (v * line.slope_low + line.base_low) / 256) / 256
 

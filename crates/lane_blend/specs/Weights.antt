@@ -13,7 +13,7 @@ new_weight by = by.new_high * 256 + by.new_low
 abbrev pub base_of : Weights → ℕ
 base_of by = by.base_high * 256 + by.base_low
 
--- two bytes by weights and a base
+-- the byte that weights and a base make of two bytes
 abbrev pub weighed : ℕ → ℕ → ℕ → ℕ → ℕ → ℕ
 weighed v w c old new = (old * v + new * w + c) / 65536
 

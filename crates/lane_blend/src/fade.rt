@@ -19,7 +19,7 @@ pub fn fade_row(row: &mut [u8], opacity: u32)
     RowFade::new(opacity).apply(row);
 }
 
-/// An opacity in millionths, 0 to 1,000,000, with what is found once to fade rows to it. Contracts see the opacity.
+/// An opacity in millionths, 0 to 1,000,000, prepared once for fading many rows. Contracts see the opacity.
 #[derive(Drop)]
 pub struct RowFade {
     opacity: u32,
@@ -38,7 +38,7 @@ impl Model for RowFade {
 }
 
 impl RowFade {
-    /// Finds what rows are faded with at an opacity in millionths, at most 1,000,000.
+    /// Prepares for fading rows to an opacity in millionths, at most 1,000,000.
     pub fn new(opacity: u32) -> RowFade
         requires { opacity ≤ 1000000 }
         ensures { result ≡ opacity }

@@ -7,16 +7,16 @@ ghost use Rattle.lane_blend.specs.inner.Lanes.{AreBelowAlpha, AreBytes, key_at, 
 
 use std::simd::prelude::*;
 
-/// The first byte of each two, and a zero after it, which is byte 16.
+/// The indices of the first byte of each pair, each followed by that of a zero, which is byte 16.
 const EVENS: [usize; 16] = [0, 16, 2, 16, 4, 16, 6, 16, 8, 16, 10, 16, 12, 16, 14, 16];
 
-/// The second byte of each two, and a zero after it.
+/// The indices of the second byte of each pair, each followed by that of a zero.
 const ODDS: [usize; 16] = [1, 16, 3, 16, 5, 16, 7, 16, 9, 16, 11, 16, 13, 16, 15, 16];
 
-/// For each two bytes, if the alpha of their pixel is, and a zero after it.
+/// For each pair of bytes, the index of the alpha of their pixel, followed by that of a zero.
 const ALPHAS: [usize; 16] = [3, 16, 3, 16, 7, 16, 7, 16, 11, 16, 11, 16, 15, 16, 15, 16];
 
-/// For each two bytes, if the red of their pixel is, and a zero after it.
+/// For each pair of bytes, the index of the red of their pixel, followed by that of a zero.
 const REDS: [usize; 16] = [2, 16, 2, 16, 6, 16, 6, 16, 10, 16, 10, 16, 14, 16, 14, 16];
 
 /// Lays four pixels over four others.
@@ -37,8 +37,8 @@ pub(crate) fn key_lanes(row: u8x16, keys: u8x16) -> u8x16
     scaled_pairs(row, reds)
 }
 
-/// Multiplies each two of `values` by their number of 255ths, rounded to the nearest byte. The first bytes and the second ones are
-/// multiplied apart from each other, each in sixteen bits.
+/// Multiplies both bytes of each pair of `values` by the pair's number of 255ths, rounded to the nearest byte. The first bytes and
+/// the second ones are multiplied separately, each in sixteen bits.
 fn scaled_pairs(values: u8x16, by: u16x8) -> u8x16
     requires { AreBytes by }
     ensures { result ≡ map (scaled_at values by) (range_with_len 0 16) }
@@ -51,8 +51,8 @@ fn scaled_pairs(values: u8x16, by: u16x8) -> u8x16
     both.to_le_bytes()
 }
 
-/// Multiplies each of `values` by its number of 255ths, rounded to the nearest byte. Instead of a division by 255 there is a product
-/// with 257 and a division by 65536, which the processor does in one step.
+/// Multiplies each of `values` by its number of 255ths, rounded to the nearest byte. A product with 257 and a division by 65536,
+/// which the processor does in one step, take the place of a division by 255.
 fn scaled_lanes(values: u16x8, by: u16x8) -> u16x8
     requires values { AreBytes values }
     requires by { AreBytes by }

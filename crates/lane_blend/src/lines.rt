@@ -1,4 +1,4 @@
-//! Opacities as lines in sixteen bits.
+//! Opacities as linear functions of bytes, in sixteen bits.
 ghost use Rattle.std.specs.Prelude.{◌≡◌, ◌≤◌, true, IfSome};
 ghost use Rattle.pixel_math.specs.Arithmetic.{fade_byte};
 ghost use Rattle.lane_blend.specs.Lines.{IsFadeLine, line_byte};
@@ -14,8 +14,8 @@ pub(crate) struct Line {
 }
 
 impl Line {
-    /// Returns the line that fades every byte to an opacity below 1,000,000 millionths. There is one for each; that is not
-    /// proved, so the line is tried on every byte, and `None` is returned if it fails.
+    /// Returns a line that fades every byte to an opacity in millionths, and `None` if none of the lines tried does. Each opacity
+    /// below 1,000,000 has one; that is not proved, so each line is tried on every byte.
     pub(crate) fn find(opacity: u32) -> Option<Line>
         requires { opacity ≤ 1000000 }
         ensures { IfSome result (IsFadeLine opacity) }
@@ -30,7 +30,7 @@ impl Line {
         None
     }
 
-    /// Returns the line of a slope with the least base that may serve. It need not serve.
+    /// Returns the line of a slope with the least base that can work. It may still not fade every byte as the opacity does.
     fn candidate(opacity: u32, slope: u32) -> Line {
         let mut base = 0u32;
         for v in 0..256u32 {

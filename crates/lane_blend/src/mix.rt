@@ -24,7 +24,7 @@ pub fn mix_row(new: &[u8], old_in_out: &mut [u8], j: u32, d: u32)
     RowMix::new(j, d).apply(new, old_in_out);
 }
 
-/// A step of a mix, with what is found once to mix rows at it. Contracts see the step.
+/// A step of a mix, prepared once for mixing many rows. Contracts see the step.
 #[derive(Drop)]
 pub struct RowMix {
     j: u32,
@@ -45,7 +45,7 @@ impl Model for RowMix {
 }
 
 impl RowMix {
-    /// Finds what rows are mixed with at step `j` of `d`: above 0 and below `d`.
+    /// Prepares for mixing rows at step `j` of `d`: above 0 and below `d`.
     pub fn new(j: u32, d: u32) -> RowMix
         requires after { 0 < j }
         requires before { j < d }

@@ -20,8 +20,8 @@ pub(crate) struct Weights {
 }
 
 impl Weights {
-    /// Returns weights that mix every two bytes as step `j` of `d` does, if some are found: they are tried on every
-    /// difference of two bytes. There are some for each step of up to 365; that is not proved.
+    /// Returns weights that mix every two bytes as step `j` of `d` does, if some are found: they are tried on every difference of
+    /// two bytes. There are some for each step if `d` is at most 365; that is not proved.
     pub(crate) fn find(j: u32, d: u32) -> Option<Weights>
         requires after { 0 < j }
         requires before { j < d }
@@ -41,7 +41,7 @@ impl Weights {
         None
     }
 
-    /// Keeps the weight of the new byte, what it leaves of 65536 to the old one, and the base.
+    /// Returns the weights `65536 - weight` of the old byte and `weight` of the new one, with a base.
     fn new(weight: u32, base: u32) -> Weights
         requires some { 0 < weight }
         requires weight { weight < 65536 }
@@ -109,7 +109,7 @@ fn mixes(j: u32, d: u32, weight: u32, base: u32) -> bool
     true
 }
 
-/// Returns the least base that may serve with a weight of the new byte. It need not serve.
+/// Returns the least base that can work with a weight of the new byte. It may still not mix all bytes as the step does.
 fn least_base(j: u32, d: u32, weight: u32) -> u32 {
     let steps = d.max(1);
     let rest = 65536u32.wrapping_sub(weight);
@@ -129,7 +129,7 @@ fn least_base(j: u32, d: u32, weight: u32) -> u32 {
     least
 }
 
-/// Mixes two bytes: the one at step `j` of `d` on the way from `old` to `new`.
+/// Returns the byte at step `j` of `d` on the way from `old` to `new`.
 pub(crate) fn mix_byte(old: u8, new: u8, j: u32, d: u32) -> u8
     requires after { 0 < j }
     requires before { j < d }

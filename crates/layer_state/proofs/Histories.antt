@@ -13,7 +13,7 @@ use Rattle.history_model.proofs.Events.{ticks-reverse}
 use Rattle.layer_state.specs.Past.{IsPast}
 use Rattle.layer_state.proofs.Pasts.{IsPast-later}
 
--- the acts of a command stand at the end of a past
+-- the acts of a command, put at the end of a past, are a past
 acts_of-past : (cmd : Cmd) (before : List Act) (t : ℕ) → t ≤ t → IsPast before t → IsPast (acts_of t cmd ++ before) t
 acts_of-past (Load place take) before t now past = (now, past)
 acts_of-past (LoadBg place take) before t now past = (now, past)

@@ -14,7 +14,7 @@ pub IsPast-later : (acts : List Act) (m n : ℕ) → m ≤ n → IsPast acts m �
 IsPast-later [] m n within past = tt
 IsPast-later (act ∷ before) m n within past = (omega (arith, past.0), past.1)
 
--- what stands at a place `n` ticks later
+-- the life of a place `n` ticks later
 life-later : (acts : List Act) (t n : ℕ) → IsPast acts t → life acts (t + n) ≡ after (life acts t) n
 life-later [] t n past = refl
 life-later (act ∷ before) t n past =
@@ -32,7 +32,7 @@ Represents-after n layer acts t represents =
       state = ap (λ (s : Life). after s n) represents.state ∙ sym (life-later acts t n represents.past);
     }
 
--- a command stands at the end of a past
+-- a command is put at the end of a past
 pub Represents-effect : (cmd : Cmd) (layer : Life) → TakesCommand cmd layer (effect cmd layer)
 Represents-effect cmd layer acts t represents =
     let none : t - t ≡ 0 = omega arith in

@@ -9,7 +9,7 @@ abbrev pub IsPast : List Act → ℕ → Type 0
 IsPast [] ticks = Unit {0}
 IsPast (act ∷ before) ticks = (act.ticks ≤ ticks) × IsPast before act.ticks
 
--- a layer is what these acts on its place have made of it when `ticks` ticks have passed
+-- the acts are a past of `ticks` ticks, and a layer is what they have made of its place by then
 pub record Represents (layer : Life) (acts : List Act) (ticks : ℕ) : Type 0 where
   pub past : IsPast acts ticks
   pub state : layer ≡ life acts ticks

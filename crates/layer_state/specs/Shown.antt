@@ -1,4 +1,4 @@
--- What is told of a layer: its foreground, and what it shows at a tick.
+-- What a layer reports: its foreground, and what it shows at a tick.
 use Rattle.std.specs.Prelude.{ℕ, ◌+◌, min, Option, Some, None, option_map}
 use Rattle.play_types.specs.Take.{TakeView}
 use Rattle.play_types.specs.Transition.{cut}

@@ -19,8 +19,8 @@ pub fn one_tick()
     ensures old_paused { pictures 1 (over_old (by blue (rightward Mix 4)) 2 (old_of (clip 1 30) 7 true)) ≡ mixes_blue 7 3 4 ∷ [] }
 {}
 
-/// What a layer shows tick by tick: a paused clip stands, and a background with AUTO starts after the last frame of the
-/// clip, or before it by the duration of its transition.
+/// What a layer shows tick by tick: a paused clip stays at its frame, and a background with AUTO starts after the last frame of the
+/// clip, or earlier by the duration of its transition.
 pub fn tick_by_tick()
     ensures runs { pictures 3 (running (clip 1 3) 0) ≡ shows_clip 0 ∷ shows_clip 1 ∷ shows_clip 2 ∷ [] }
     ensures paused { pictures 2 (paused (clip 1 3) 1) ≡ shows_clip 1 ∷ shows_clip 1 ∷ [] }

@@ -48,8 +48,8 @@ impl Foreground {
         }
     }
 
-    /// Returns a take that starts in the place of a foreground. The foreground stays beside it if the transition of
-    /// the take is no cut.
+    /// Returns the foreground of a take that starts in the place of `replaced`. It keeps the content of `replaced` unless the
+    /// transition of the take is a cut.
     pub(crate) fn start(take: Take, replaced: Option<Foreground>) -> Foreground
         ensures { result ≡ record { take = take; shown = 0; paused = false; old = outgoing take.trans.kind replaced } }
     {
@@ -101,7 +101,7 @@ impl Foreground {
         }
     }
 
-    /// Returns the foreground after a tick, in which it was shown if it is not paused.
+    /// Returns the foreground after a tick: shown for one tick more, unless it is paused.
     pub(crate) fn after_tick(self) -> Foreground
         requires { self.shown < MAX_TICKS }
         ensures { result ≡ shown_for 1 self }
@@ -118,7 +118,7 @@ impl Foreground {
         }
     }
 
-    /// Returns what the foreground shows at the tick that comes.
+    /// Returns what the foreground shows at the next tick.
     pub(crate) fn shown(self) -> Shown
         ensures { result ≡ shown_of (Some self) }
     {

@@ -1,4 +1,4 @@
-//! What is told of a foreground.
+//! The foreground of a layer, as callers see it.
 
 use play_types::Take;
 
@@ -6,7 +6,7 @@ use play_types::Take;
 #[derive(Clone, Copy, Debug, PartialEq, Eq)]
 pub struct Front {
     pub take: Take,
-    /// For how many ticks it was shown. A foreground that is paused is shown for none.
+    /// For how many ticks it was shown, without those at which it was paused.
     pub shown: u64,
     pub paused: bool,
 }

@@ -12,7 +12,7 @@ ghost use Rattle.history_model.specs.stage.Trail.{trail};
 ghost use Rattle.layer_state.specs.Past.{IsPast, Represents};
 ghost use Rattle.layer_state.specs.Ticks.{ticked};
 
-/// Ticks of a layer, one after another, are all of them at once.
+/// `n` single ticks of a layer are `n` ticks of `after` at once.
 pub fn ticks_one_by_one()
     ensures { (n : ℕ) (layer : Life) → ticked n layer ≡ after layer n }
 {}

@@ -125,8 +125,8 @@ impl Layer {
         *self = Layer::new();
     }
 
-    /// Lets one tick pass, and returns what the layer shows at it: a background whose start is due is started, then the
-    /// picture is taken, and then a foreground that is not paused was shown for one tick more.
+    /// Advances the layer by one tick, and returns what it shows at that tick: starts a background whose start is due, then takes
+    /// the picture, and then counts one more shown tick of a foreground that is not paused.
     pub fn tick(&mut self) -> Shown
         requires { ForSome self.old.foreground (λ foreground. foreground.shown < MAX_TICKS) }
         ensures shown { result ≡ shown_of (ready self.old).foreground }
@@ -140,7 +140,7 @@ impl Layer {
         shown
     }
 
-    /// Starts the background if it starts by itself at the tick that comes.
+    /// Starts the background if it starts by itself at the next tick.
     fn make_ready(&mut self)
         ensures ready { self.new ≡ ready self.old }
         ensures room { ForSome self.old.foreground (λ foreground. foreground.shown < MAX_TICKS)
@@ -169,7 +169,7 @@ impl Layer {
             .map(|foreground| foreground.with_paused(paused));
     }
 
-    /// Returns whether the background starts by itself at the tick that comes.
+    /// Returns whether the background starts by itself at the next tick.
     fn is_start_due(&self) -> bool
         ensures { IsTrue result ↔ (delay self.now ≡ Some 0) }
     {
@@ -180,7 +180,7 @@ impl Layer {
         }
     }
 
-    /// Returns what the layer shows as it is.
+    /// Returns what the layer shows in its present state.
     fn shown(&self) -> Shown
         ensures { result ≡ shown_of self.now.foreground }
     {
@@ -190,7 +190,7 @@ impl Layer {
         }
     }
 
-    /// Lets one tick pass without an automatic start.
+    /// Advances the layer by one tick without an automatic start.
     fn run(&mut self)
         requires { ForSome self.old.foreground (λ foreground. foreground.shown < MAX_TICKS) }
         ensures { self.new ≡ run_for 1 self.old }

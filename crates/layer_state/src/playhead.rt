@@ -26,7 +26,7 @@ pub(crate) fn old_picture_of(old: Front, shown: u64) -> (Spec, u32)
     }
 }
 
-/// Returns the frame that a take shows after `shown` ticks: of a clip one of those that are played, else 0.
+/// Returns the frame that a take shows after `shown` ticks: for a clip one of those that are played, otherwise 0.
 fn frame_of(take: Take, shown: u64) -> u32
     ensures { result ≡ head take shown }
 {

@@ -1,6 +1,6 @@
 -- Frames that came, and what readers got of them.
 use Rattle.std.proofs.Common.{min, ◌^◌, None, Some, false, ◌≡◌, ◌≤◌, ◌<◌, ◌+◌, ◌-◌, ℕ, zero, suc, List, [], ◌∷◌, ◌++◌, length, take, drop, refl, sym, ap, subst, ◌∙◌, arith}
-use Rattle.std.specs.Prelude.{get_or, Option, is_some, option_to_list}
+use Rattle.std.specs.Prelude.{All, get_or, Option, is_some, option_to_list}
 use Rattle.std.specs.List.{concat}
 use Rattle.std.specs.Io.KnownBytes.{Appends}
 use Rattle.std.proofs.Math.Seq.{take-add}
@@ -20,7 +20,7 @@ between_stays frames more from to since until =
     let rest : drop from (frames ++ more) ≡ drop from frames ++ more = drop-append-le from frames more (omega (arith, since, until)) in
     ap (take (to - from)) rest ∙ take-append-le (to - from) (drop from frames) more (omega (arith, length-drop from frames, since, until))
 
--- a reader that got frames of those that came got frames of those, if more come
+-- what a reader got of the frames that came stays right if more come
 pub got_stays : {W : Type 0} (contents : W → _) (frames more : List (List ℕ)) (reader : Reader W) → HasGot contents frames reader → HasGot contents (frames ++ more) reader
 got_stays contents frames more reader got = record {
   whole = got.whole;
@@ -31,7 +31,14 @@ got_stays contents frames more reader got = record {
   until = omega (arith, length-append frames more, got.until);
 }
 
--- frames that are left out
+-- what readers got of the frames that came stays right if more come
+pub all_stay : {W : Type 0} (contents : W → Option (List ℕ)) (frames more now : List (List ℕ)) (readers after : List (Reader W)) → frames ++ more ≡ now → after ≡ readers
+    → All (HasGot contents frames) readers → All (HasGot contents now) after
+all_stay {W} contents frames more now readers after all same got =
+    let stays : All (HasGot contents (frames ++ more)) readers = λ k d inside. got_stays contents frames more (get_or readers k d) (got k d inside) in
+    subst (λ (l : List (List ℕ)). All (HasGot contents l) after) all (subst (λ (rs : List (Reader W)). All (HasGot contents (frames ++ more)) rs) (sym same) stays)
+
+-- frames are still picked if the next ones are skipped
 pub picked_further : (k : ℕ) (xs frames : List (List ℕ)) (d : List ℕ) (from to : ℕ) → from ≤ to → to + k ≤ length frames
     → IsPickedFrom xs (frames_between from to frames) → IsPickedFrom xs (frames_between from (to + k) frames)
 picked_further zero xs frames d from to since until p = subst (λ (n : ℕ). IsPickedFrom xs (frames_between from n frames)) (omega arith) p
@@ -42,7 +49,7 @@ picked_further (suc k) xs frames d from to since until p =
     subst (λ (n : ℕ). IsPickedFrom xs (frames_between from n frames)) next
     (subst (IsPickedFrom xs) (sym more) (picked_less xs (frames_between from (to + k) frames) (get_or frames (to + k) d) before))
 
--- a reader begins a frame, and those before it are left out
+-- a reader begins a frame, and those before it are skipped
 pub picked_next : (xs frames : List (List ℕ)) (frame : List ℕ) (from to number : ℕ) → from ≤ to → to ≤ number → number < length frames
     → frame ≡ get_or frames number frame → IsPickedFrom xs (frames_between from to frames) → IsPickedFrom (xs ++ frame ∷ []) (frames_between from (number + 1) frames)
 picked_next xs frames frame from to number since later until is p =
@@ -58,7 +65,7 @@ pub none_begun : {X : Type 0} (o : Option X) → is_some o ≡ false → option_
 none_begun None h = refl
 none_begun (Some x) h = absurd cc
 
--- what was written to a reader since it came, said of a reader with the same stream
+-- what was written to a reader since it came, for a reader with an equal stream
 bytes_same : {W : Type 0} (contents : W → Option (List ℕ)) (r s : Reader W) (xs ys : List ℕ) → s.came ≡ r.came → s.to ≡ r.to → xs ≡ ys
     → Appends (contents r.came.value) (contents r.to) xs → Appends (contents s.came.value) (contents s.to) ys
 bytes_same contents r s xs ys came to same a = rw (came, to, ← same) a

@@ -1,4 +1,4 @@
--- Lists of which some items are left out.
+-- Lists from which some items are left out.
 use Rattle.std.proofs.Common.{◌∙◌, ℕ, ◌≤◌, List, [], ◌∷◌, ◌++◌, length, refl, arith, inl, inr, take, drop, subst}
 use Rattle.std.proofs.lemmas.List.{append-nil, take-append-drop}
 use Rattle.live_output.specs.Picked.{IsPickedFrom}
@@ -40,7 +40,7 @@ picked_count (x ∷ xs) (y ∷ ys) p = elim p [
   | inr past ↦ let rest = picked_count (x ∷ xs) ys past in omega (arith, rest)
 ]
 
--- what is picked from what is picked from a list is picked from it
+-- what is picked from a picked list is picked from the whole list
 pub picked_again : {X : Type 0} (xs ys zs : List X) → IsPickedFrom xs ys → IsPickedFrom ys zs → IsPickedFrom xs zs
 picked_again [] ys zs p q = tt
 picked_again (x ∷ xs) [] zs p q = absurd p

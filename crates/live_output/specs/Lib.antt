@@ -3,3 +3,4 @@ pub mod Cut
 pub mod Last
 pub mod Got
 pub mod Served
+pub mod Wanted

@@ -1,7 +1,7 @@
--- What is left of a list if some of its items are left out.
+-- Lists from which some items are left out.
 use Rattle.std.specs.Prelude.{◌≡◌, ◌⊎◌, ⊤, List, [], ◌∷◌}
 
--- the first list has items of the second, in their order, and no item more often
+-- the first list is the second with some items left out
 abbrev pub IsPickedFrom : {X : Type 0} → List X → List X → Type 0
 IsPickedFrom [] ys = ⊤
 IsPickedFrom (x ∷ xs) [] = ⊥

@@ -9,7 +9,7 @@ use Rattle.live_output.specs.Got.{HasGot}
 abbrev pub AreServed : {W : Type 0} → (W → Option (List ℕ)) → LiveOutput W → Type 0
 AreServed contents output = All (HasGot contents (received output.window.inbox)) output.readers.items
 
--- a reader comes: it gets frames from the next one on that comes
+-- a reader is added, which gets frames from the next one to come on
 pub record Comes {W : Type 0} (to : W) (before after : LiveOutput W) : Type 0 where
   pub reader : Reader W
   pub came : (reader.came.value ≡ to) × (reader.to ≡ to)

@@ -5,8 +5,8 @@ use crate::frame::Frame;
 use rtrb::{Consumer, Producer};
 use std::alloc::Global;
 
-/// Gathers the bytes of an output into frames of one size. It takes all that is written, and waits for nobody: a frame that
-/// nobody reads, or that finds no empty buffer, is dropped whole and counted.
+/// Gathers the bytes of an output into frames of one size. It takes all that is written, and never waits: a frame that
+/// nobody reads, or for which there is no empty buffer, is dropped whole and counted.
 #[derive(Drop)]
 pub struct FrameCutter {
     pub(crate) alloc: Global,
@@ -28,7 +28,7 @@ impl FrameCutter {
     ghost use Rattle.rtrb.specs.Ring.{SameConsumer, SameProducer, sent};
     ghost use Rattle.live_output.specs.Cut.{IsCut};
 
-    /// Takes a piece of the bytes of frames. Frames that begin in it are dropped if nobody reads.
+    /// Takes a piece of the bytes of frames. Frames that begin in it are dropped if `is_read` is false.
     pub fn write(&mut self, piece: &[u8], is_read: bool)
         ensures cut { (written : List ℕ) → IsCut written self.old → IsCut (written ++ piece.now) self.new }
         ensures rings { SameProducer self.old.out self.new.out × SameConsumer self.old.back self.new.back }
@@ -48,7 +48,7 @@ impl FrameCutter {
         self.dropped
     }
 
-    /// Adds bytes of one frame, and ends the frame if it is whole then.
+    /// Adds bytes of one frame, and ends the frame if they complete it.
     fn add(&mut self, part: &[u8], is_read: bool)
         requires some { 0 < length part.now }
         requires fits { self.old.at + length part.now ≤ self.old.size }
@@ -67,7 +67,7 @@ impl FrameCutter {
         }
     }
 
-    /// Begins a frame if none is under way. It gets an empty buffer if it is read and there is one.
+    /// Begins a frame if none has begun. It gets an empty buffer if `is_read` is true and there is one.
     fn begin(&mut self, is_read: bool)
         ensures cut { (written : List ℕ) → IsCut written self.old → IsCut written self.new }
         ensures size { (self.new.size ≡ self.old.size) × (self.new.at ≡ self.old.at) }
@@ -100,7 +100,7 @@ impl FrameCutter {
         }
     }
 
-    /// Keeps bytes of a frame that is to be handed on. If memory runs out, it is to be dropped.
+    /// Adds bytes to a frame that is to be handed on. If memory runs out, the frame will be dropped.
     fn keep(&mut self, part: &[u8])
         ensures kept { IfSome self.new.filling (λ bytes. IsSomeAnd self.old.filling (λ before. bytes.items ≡ before.items ++ part.now)) }
         ensures rest { self.new ≡ record self.old { filling = self.new.filling } }
@@ -113,7 +113,7 @@ impl FrameCutter {
         }
     }
 
-    /// Hands on a frame that is whole, or counts that it was dropped.
+    /// Hands on a complete frame, or counts that it was dropped.
     fn hand_on(&mut self)
         ensures handed { IsSomeAnd self.old.filling (λ bytes. sent self.new.out ≡ sent self.old.out ++ bytes.items ∷ [])
             × (self.new.dropped ≡ self.old.dropped)
@@ -126,7 +126,7 @@ impl FrameCutter {
         }
     }
 
-    /// Pushes the frame that is whole, if it was kept and there is a slot for it. Returns whether it did.
+    /// Pushes the complete frame if it has a buffer and the queue has a slot. Returns whether it did.
     fn push(&mut self) -> bool
         ensures pushed { MatchBool result (IsSomeAnd self.old.filling (λ bytes. sent self.new.out ≡ sent self.old.out ++ bytes.items ∷ []))
             (sent self.new.out ≡ sent self.old.out) }

@@ -7,7 +7,7 @@ ghost use Rattle.live_output.specs.Got.{GotWritten};
 ghost use Rattle.live_output.specs.Served.{AreServed};
 
 use crate::cutter::FrameCutter;
-use crate::limits::{MAX_READERS, waiting_frames};
+use crate::limits::{MAX_READERS, MOVING, waiting_frames};
 use crate::output::LiveOutput;
 use crate::window::FrameWindow;
 use rtrb::RingBuffer;
@@ -15,12 +15,9 @@ use std::alloc::{AllocError, Global};
 use std::collections::VecDeque;
 use std::io::Write;
 
-/// How many buffers there are beside those of the frames that wait and those that readers are in: one is filled while another is on its
-/// way.
-const MOVING: usize = 2;
-
-/// Returns the ends of a queue for frames of `size` bytes, and for at most `places` readers or [`MAX_READERS`]: nothing was written. It takes
-/// all memory of the frames.
+/// Returns the ends of an empty queue for frames of `size` bytes, and for at most `places` readers, of which there are
+/// at most [`MAX_READERS`]. It allocates the buffers of all frames, whose pages the system provides when a buffer is
+/// first filled.
 pub fn queue(
     alloc: Global,
     size: usize,
@@ -60,8 +57,9 @@ pub fn queue(
     Ok((cutter, window))
 }
 
-/// Compares both ends of a queue once they are in one thread again, and changes neither. What came to the output is a prefix of what the
-/// cutter handed on. So each reader got whole frames of the bytes that were written, in their order, and a prefix of one more.
+/// Compares both ends of a queue once they are in one thread again, and changes neither. The frames that came to the
+/// output are a prefix of those that the cutter handed on. So each reader got whole frames of the bytes that were
+/// written, in their order, and a prefix of one more.
 pub fn settle<W: Write>(cutter: &mut FrameCutter, output: &mut LiveOutput<W>)
     requires { IsPair cutter.old.out output.old.window.inbox }
     ensures came { IsPrefix (received output.new.window.inbox) (sent cutter.new.out) }

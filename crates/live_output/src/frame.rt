@@ -5,7 +5,7 @@ use std::alloc::{AllocError, Global};
 use std::marker::Model;
 use std::sync::Arc;
 
-/// A whole frame: the bytes of a picture and of its sound. Its owners share it. Contracts see it as its bytes.
+/// A whole frame: the bytes of a picture and of its sound, shared by its owners. Contracts see its bytes.
 #[derive(Drop)]
 pub struct Frame {
     bytes: Arc<Vec<u8>, Global>,
@@ -32,7 +32,7 @@ impl Frame {
         }
     }
 
-    /// Returns the same frame, for one more owner. It takes no memory.
+    /// Returns this frame for one more owner.
     pub(crate) fn try_clone(&self) -> Result<Frame, AllocError>
         ensures { IfOk result (λ frame. frame ≡ self.now) }
     {

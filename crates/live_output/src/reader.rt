@@ -1,4 +1,4 @@
-//! A reader, and its place in the frames.
+//! A reader, and its position in the frames.
 ghost use Rattle.std.specs.Prelude.{◌≡◌, ◌<◌, ◌≤◌, length, option_to_list, IfSome, slice_index_or};
 ghost use Rattle.std.specs.List.{concat};
 
@@ -7,14 +7,14 @@ use std::collections::VecDeque;
 use std::io::{ErrorKind, Write};
 use std::snapshot::Snapshot;
 
-/// What became of a try to write to a reader.
+/// The result of a write to a reader.
 #[derive(Clone, Copy, Debug, PartialEq, Eq)]
 pub enum Progress {
     /// It took bytes.
     Took,
     /// It has all frames that came.
     Idle,
-    /// It takes nothing now.
+    /// It takes nothing at the moment.
     Full,
     /// It has left.
     Left,
@@ -24,15 +24,15 @@ pub enum Progress {
 #[derive(Drop)]
 pub struct Reader<W> {
     pub(crate) to: W,
-    /// How it was when it came.
+    /// The stream as it was when the reader came.
     pub(crate) came: Snapshot<W>,
     /// How many frames came to the output before it.
     pub(crate) first: u64,
-    /// The number of the frame from which on it may begin the next one, counted from 0.
+    /// The number of the next frame that it may begin, counted from 0.
     pub(crate) next: u64,
-    /// How many frames were left out, since it was too slow for them.
+    /// How many frames were skipped because it was too slow for them.
     pub(crate) skipped: u64,
-    /// The frame that it is in.
+    /// The frame that it has begun, if it is in one.
     pub(crate) under_way: Option<Frame>,
     /// How many bytes of that frame it has.
     pub(crate) at: usize,
@@ -44,7 +44,7 @@ impl<W: Write> Reader<W> {
     ghost use Rattle.live_output.specs.Last.{AreLast};
     ghost use Rattle.live_output.specs.Got.{HasGot};
 
-    /// Returns a reader that gets frames from this number on.
+    /// Returns a reader that gets frames from number `first` on.
     pub(crate) fn new(to: W, first: u64) -> Reader<W>
         ensures fresh { (result.came.value ≡ to) × (result.to ≡ to) × (result.first ≡ first) }
         ensures got { (frames : List (List ℕ)) → first ≤ length frames → HasGot W.contents frames result }
@@ -61,34 +61,37 @@ impl<W: Write> Reader<W> {
         }
     }
 
-    /// Writes a prefix of the frame that it is in, or of the next one that waits. Returns what became of it, and the frame if it has the
-    /// whole of it now. `window` has all frames that came but for the first `gone`.
+    /// Writes a prefix of what is left of the frame that the reader has begun, or of the next one that waits. Returns
+    /// the result, and the frame if the reader now has all of it. `window` has all frames that came but for the first
+    /// `gone`.
     pub(crate) fn write(&mut self, window: &VecDeque<Frame>, gone: u64) -> (Progress, Option<Frame>)
-        ensures { (frames : List (List ℕ)) → AreLast window.now.items gone frames → HasGot W.contents frames self.old → HasGot W.contents frames self.new }
+        ensures got { (frames : List (List ℕ)) → AreLast window.now.items gone frames → HasGot W.contents frames self.old → HasGot W.contents frames self.new }
+        ensures next { self.old.next ≤ self.new.next }
     {
         self.begin(window, gone);
         let progress = self.go_on();
         (progress, self.end())
     }
 
-    /// Returns how many frames were left out, since the reader was too slow for them.
+    /// Returns how many frames were skipped because the reader was too slow for them.
     pub fn skipped(&self) -> u64
         ensures { result ≡ self.now.skipped }
     {
         self.skipped
     }
 
-    /// Returns what the reader was written to.
+    /// Returns the stream of the reader.
     pub fn into_inner(self) -> W
         ensures { result ≡ self.to }
     {
         self.to
     }
 
-    /// Begins the next frame if it is in none and one waits. `window` has all frames that came but for the first `gone`. Those that are
-    /// not there any more are left out, and counted.
+    /// Begins the next frame if the reader is in none and one waits. `window` has all frames that came but for the
+    /// first `gone`. Frames that it no longer has are skipped and counted.
     fn begin(&mut self, window: &VecDeque<Frame>, gone: u64)
-        ensures { (frames : List (List ℕ)) → AreLast window.now.items gone frames → HasGot W.contents frames self.old → HasGot W.contents frames self.new }
+        ensures got { (frames : List (List ℕ)) → AreLast window.now.items gone frames → HasGot W.contents frames self.old → HasGot W.contents frames self.new }
+        ensures next { self.old.next ≤ self.new.next }
     {
         if self.under_way.is_some() {
             return;
@@ -104,9 +107,10 @@ impl<W: Write> Reader<W> {
         self.under_way = Some(frame);
     }
 
-    /// Writes a prefix of what is left of the frame that it is in.
+    /// Writes a prefix of what is left of the frame that the reader has begun.
     fn go_on(&mut self) -> Progress
-        ensures { (frames : List (List ℕ)) → HasGot W.contents frames self.old → HasGot W.contents frames self.new }
+        ensures got { (frames : List (List ℕ)) → HasGot W.contents frames self.old → HasGot W.contents frames self.new }
+        ensures next { self.old.next ≤ self.new.next }
     {
         let Some(frame) = &self.under_way else {
             return Progress::Idle;
@@ -124,9 +128,10 @@ impl<W: Write> Reader<W> {
         }
     }
 
-    /// Ends the frame that it is in, if it has the whole of it, and returns that.
+    /// Ends the frame that the reader has begun if it has all of it, and returns that frame.
     fn end(&mut self) -> Option<Frame>
-        ensures { (frames : List (List ℕ)) → HasGot W.contents frames self.old → HasGot W.contents frames self.new }
+        ensures got { (frames : List (List ℕ)) → HasGot W.contents frames self.old → HasGot W.contents frames self.new }
+        ensures next { self.old.next ≤ self.new.next }
     {
         let frame = self.under_way.take()?;
         if self.at < frame.as_slice().len() {
@@ -138,7 +143,7 @@ impl<W: Write> Reader<W> {
     }
 }
 
-/// Returns the frame at a place of the window, for one more owner.
+/// Returns the frame at index `at` of the window, for one more owner.
 fn frame_at(window: &VecDeque<Frame>, at: u64) -> Option<Frame>
     ensures { IfSome result (λ frame. (at < length window.now.items) × (frame ≡ slice_index_or window.now.items at frame)) }
 {

@@ -1,4 +1,4 @@
--- Four numbers on their way.
+-- The four numbers of a course.
 use Rattle.std.proofs.Common.{◌≡◌, ℕ, zero, suc, ◌<◌, ◌≤◌, List, [], ◌∷◌, ℤ, pos, length, arith, refl, sym, ap₂, ◌∙◌, subst, inl, inr, ◌⊎◌}
 use Rattle.std.specs.Prelude.{All}
 use Rattle.std.proofs.lemmas.Int.{ints, clamps}
@@ -33,7 +33,7 @@ length-all_along curve (x ∷ xs) (y ∷ ys) j d e =
     let rest : length xs ≡ length ys = omega (arith, e) in
     omega (arith, length-all_along curve xs ys j d rest)
 
--- numbers on a way of no ticks are where they go
+-- the numbers of a course of no ticks are at its end
 pub all_along-once : (curve : Curve) (xs ys : List ℤ) (j : ℕ) → length xs ≡ length ys → all_along curve xs ys j 0 ≡ ys
 all_along-once curve [] [] j e = refl
 all_along-once curve [] (y ∷ ys) j e = absurd (omega (arith, e))
@@ -105,7 +105,7 @@ values_along curve Keyer from to j d f t e =
     sym (along-end curve (number_at from 0) (number_at to 0) j d none) ∙ number_is curve Keyer from to j d f t 0 (omega arith) in
     subst (λ (z : ℤ). (z ≡ pos 0) ⊎ (z ≡ MICROS_PER_UNIT)) is t.in_range
 
--- numbers on their way are in the range in which they begin and end
+-- the numbers of a course are in the range in which they begin and end
 pub AreNumbers-all_along : (curve : Curve) (prop : Prop) (from to : List ℤ) (j d : ℕ) → AreNumbers prop from → AreNumbers prop to →
     duration_of prop d ≡ d → AreNumbers prop (all_along curve from to j d)
 AreNumbers-all_along curve prop from to j d f t e = record {
@@ -182,7 +182,7 @@ AreNumbers-setting setting is_setting e = record {
   in_range = is_setting.in_range;
 }
 
--- four numbers on their way, one by one
+-- the four numbers of a course, one by one
 pub all_along-four : (curve : Curve) (from to : List ℤ) (j d : ℕ) → length from ≡ 4 → length to ≡ 4 →
     all_along curve from to j d
     ≡ four (along curve (number_at from 0) (number_at to 0) j d) (along curve (number_at from 1) (number_at to 1) j d)

@@ -62,11 +62,11 @@ course_at-settings ticks (x ∷ xs) table place prop =
     course_at-settings ticks xs (with_setting ticks table x) place prop
     ∙ ap (λ (course : Course). fold (course_after ticks place prop) course xs) (course_at-setting ticks table x place prop)
 
--- numbers on their way are, from now on, if acts put them
+-- from now on the numbers of a course are those that the acts give
 pub Follows : PlaceView → Prop → ℕ → Course → List Act → Type 0
 Follows place prop ticks course acts = (t : ℕ) → ticks ≤ t → numbers_at course t ≡ tuned_value (tuning acts place) prop t
 
--- a setting of another property leaves the value, and one of this property sets out from it
+-- a setting of another property leaves the value, and one of this property starts a course from it
 tuned_value-same : (acts : List Act) (prop : Prop) (ticks t : ℕ) (setting : SettingView) → is_same_prop setting.prop prop ≡ true →
     tuned_value (settled_act ticks setting ∷ acts) prop t ≡ all_along setting.curve (tuned_value acts prop ticks) setting.values (t - ticks) setting.duration
 tuned_value-same acts prop ticks t setting e = rw (e, tuned_value)
@@ -194,7 +194,7 @@ module _ (before after : MixerView) (acts : List Act) (ticks : ℕ) (represents 
       waits other of_other
       ∙ ap (λ (ys : List SettingView). if channel == other then [] else ys) (waiting_by before acts ticks represents other of_other))
 
-  -- after a swap: what stands at a place stood before at the one that it is exchanged with
+  -- after a swap a place has the values that the place exchanged with it had
   moved : (from : PlaceView → PlaceView) → ((place : PlaceView) → table_of after.tuned place ≡ table_of before.tuned (from place)) →
       (place : PlaceView) (prop : Prop) (t : ℕ) → values_of after place prop t ≡ values_of before (from place) prop t
   moved from now place prop t =

@@ -65,10 +65,10 @@ table_of entries = λ place. layer_in (channel_in entries place.channel) place.l
 abbrev pub course_at : Table → PlaceView → Prop → Course
 course_at table place prop = course_of (courses_or (table place)) prop
 
--- a setting that waits, however it is marked
+-- a setting, marked as deferred
 abbrev pub deferred_setting : SettingView → SettingView
 deferred_setting setting = record setting { deferred = true }
 
--- the settings that wait on each channel, the last one first, by those in the order in which they came
+-- the settings that wait on each channel, the last one first and marked as deferred, from lists in the order in which they came
 abbrev pub waiting_lists : List (List SettingView) → List (List SettingView)
 waiting_lists lists = map (λ settings. map deferred_setting (reverse settings)) lists

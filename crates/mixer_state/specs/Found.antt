@@ -5,7 +5,7 @@ use Rattle.mixer_state.specs.Entries.{Entries}
 
 -- what contracts see of the layers of a channel
 pub record LayersView : Type 0 where
-  -- for how many entries memory is kept spare
+  -- how many more entries memory is reserved for
   pub room : ℕ
   -- the layers that have an entry, each with its courses
   pub entries : List (ℕ × Courses)
@@ -18,13 +18,13 @@ with_layer layer entry layers = λ other. if layer == other then entry else laye
 abbrev pub entries_of : List LayersView → Entries
 entries_of channels = map (λ layers. layers.entries) channels
 
--- each channel has memory spare for this number of entries
+-- each channel has memory reserved for at least this number of further entries
 abbrev pub HaveRoom : ℕ → List LayersView → Type 0
 HaveRoom spare channels = All (λ layers. spare ≤ layers.room) channels
 
 -- what contracts see of the places of a number of channels
 pub record PlacesView : Type 0 where
   pub channels : ℕ
-  -- for how many entries of each channel memory is kept spare
+  -- how many more entries of each channel memory is reserved for
   pub spare : ℕ
   pub entries : Entries

@@ -9,7 +9,8 @@ use Rattle.mixer_state.specs.Ranges.{AreRunning}
 abbrev pub AreOn : ℕ → List SettingView → Type 0
 AreOn channel settings = All (λ setting. setting.place.channel ≡ channel) settings
 
--- the courses are in range and set out by the latest ticks, and each list of waiting settings is of its channel
+-- each channel has a list of waiting settings, the courses are in range and start no later than the latest ticks, and each list has
+-- settings of its channel alone
 pub record IsKept (places : PlacesView) (latest : ℕ) (waiting : List (List SettingView)) : Type 0 where
   pub counted : length waiting ≡ places.channels
   pub running : AreRunning latest (table_of places.entries)

@@ -10,7 +10,7 @@ use Rattle.mixer_state.specs.Entries.{Entries, course_at, table_of}
 pub record MixerView : Type 0 where
   -- the channels are 1 to this number
   pub channels : ℕ
-  -- for how many settings memory is kept spare
+  -- how many settings spare memory is reserved for
   pub spare : ℕ
   -- the ticks at the latest set or commit, 0 before the first
   pub latest : ℕ

@@ -10,8 +10,8 @@ use Rattle.history_model.specs.stage.Resolved.{waiting_settings}
 use Rattle.history_model.specs.stage.Value.{value_at}
 use Rattle.mixer_state.specs.Mixer.{MixerView, values_of, waiting_on}
 
--- a mixer is if these acts put it when `ticks` ticks have passed: each value, now and at any later time, is the one that
--- they give, and the settings that wait are theirs
+-- a mixer represents these acts after `ticks` ticks: no set or commit is later, each value, now and at any later time, is the one
+-- that the acts give, and the settings that wait are theirs
 pub record Represents (mixer : MixerView) (acts : List Act) (ticks : ℕ) : Type 0 where
   pub latest : mixer.latest ≤ ticks
   pub values : (place : PlaceView) (prop : Prop) (t : ℕ) → IsConfigured mixer.channels place.channel → ticks ≤ t →

@@ -13,8 +13,7 @@ pub record AreNumbers (prop : Prop) (values : List ℤ) : Type 0 where
   pub wide : All IsWide values
   pub in_range : AreValues prop values
 
--- numbers on their way between such numbers, which set out no later than after `ticks` ticks: those of a keyer change at
--- once
+-- a course between such numbers that started after at most `ticks` ticks: the numbers of a keyer change at once
 pub record IsCourse (prop : Prop) (ticks : ℕ) (course : Course) : Type 0 where
   pub started : course.start ≤ ticks
   pub from : AreNumbers prop course.from

@@ -1,4 +1,4 @@
-//! The numbers of a property of a place on their way.
+//! The course of a property of a place: its numbers from one setting to the next.
 ghost use Rattle.std.specs.Prelude.{◌≡◌, ◌<◌, ◌≤◌, All};
 ghost use Rattle.play_types.specs.Setting.{IsWide, number_at};
 ghost use Rattle.history_model.specs.stage.Value.{default_of};
@@ -8,7 +8,7 @@ ghost use Rattle.mixer_state.specs.Ranges.{AreNumbers, IsCourse};
 use mixer_tween::Tween;
 use play_types::{Curve, MICROS_PER_UNIT, Prop, Setting};
 
-/// The four numbers of a property on their way, in millionths. They set out together, after `start` ticks, and are there
+/// The course of the four numbers of a property, in millionths. They leave `from` together after `start` ticks, and reach `to`
 /// `duration` ticks later.
 #[derive(Clone, Copy, Debug)]
 pub(crate) struct Course {
@@ -43,7 +43,7 @@ impl Course {
         self.at(ticks)
     }
 
-    /// Returns the course that a setting sets out on after `ticks` ticks, from where the numbers are then.
+    /// Returns the course that a setting starts after `ticks` ticks, from the numbers at that time.
     pub(crate) fn set_out(&self, setting: &Setting, ticks: u64) -> Course
         requires { IsCourse setting.now.prop ticks self.now }
         ensures value { result ≡ set_out ticks setting.now self.now }
@@ -73,7 +73,7 @@ impl Course {
         ]
     }
 
-    /// Returns the way of one of the numbers.
+    /// Returns the tween of one of the numbers.
     fn tween(&self, at: usize) -> Tween
         requires { at < 4 }
         ensures { result ≡ record {

@@ -45,7 +45,7 @@ impl Courses {
         }
     }
 
-    /// Returns the courses, one of which a setting sets out anew after `ticks` ticks.
+    /// Returns the courses, with the one of the setting's property started anew after `ticks` ticks.
     pub(crate) fn after(self, setting: &Setting, ticks: u64) -> Courses
         requires { AreCourses ticks self }
         ensures value { result ≡ courses_after ticks setting.now self }

@@ -53,7 +53,7 @@ impl Layers {
         Ok(())
     }
 
-    /// Replaces the entry of a layer that has one. It takes no memory.
+    /// Replaces the entry of a layer that has one.
     pub(crate) fn replace(&mut self, layer: u16, courses: Courses)
         requires { IsSome (layer_in self.old.entries layer) }
         ensures value { layer_in self.new.entries
@@ -82,7 +82,7 @@ impl Layers {
         self.entries.clear();
     }
 
-    /// Takes memory for at least `count` more entries. If it runs out, the entries are as before.
+    /// Reserves memory for at least `count` more entries. If memory runs out, the entries are as before.
     pub(crate) fn reserve(&mut self, count: usize) -> Result<(), AllocError>
         ensures ok { OnOk result (count ≤ self.new.room) }
         ensures same { self.new.entries ≡ self.old.entries }

@@ -25,8 +25,8 @@ use std::marker::Model;
 /// settings are those that they give. A new mixer represents no acts. Each call keeps, for all acts that the mixer
 /// represented, that it represents these acts with its own command at their end.
 ///
-/// Contracts see a number of spare settings, for which memory was taken. Only [`Mixer::set`], [`Mixer::commit`] and
-/// [`Mixer::swap_layers`] may use it, and only if it is used up do they give an [`AllocError`].
+/// Contracts see a number of spare settings, for which memory is reserved. Only [`Mixer::set`], [`Mixer::commit`] and
+/// [`Mixer::swap_layers`] may use it, and they return an [`AllocError`] only if too little of it is left.
 #[derive(Debug, Drop)]
 pub struct Mixer {
     places: Places,
@@ -50,8 +50,8 @@ impl Model for Mixer {
 }
 
 impl Mixer {
-    /// Creates a mixer for channels 1 to `channels`, in which all values are the defaults and no setting waits. The memory
-    /// for 1,024 waiting settings of each channel is taken.
+    /// Creates a mixer for channels 1 to `channels`, in which all values are the defaults and no setting waits. The memory for 1,024
+    /// waiting settings of each channel is allocated.
     pub fn new(alloc: Global, channels: u8) -> Result<Mixer, AllocError>
         ensures channels { IfOk result (λ mixer. mixer.channels ≡ channels) }
         ensures acts { IfOk result (λ mixer. (ticks : ℕ) → Represents mixer [] ticks) }
@@ -68,9 +68,9 @@ impl Mixer {
         })
     }
 
-    /// Starts a setting after `ticks` ticks, whether it is marked as deferred or not: its value goes from where it is to
-    /// the new one. The channel is one of the mixer's, and `ticks` is not below that of an earlier set or commit. If
-    /// memory runs out, the mixer is as before. It takes no memory if a setting is spare.
+    /// Starts a setting after `ticks` ticks, whether it is marked as deferred or not: its value goes from where it is to the new
+    /// one. The channel is one of the mixer's, and `ticks` is not below that of an earlier set or commit. If memory runs out, the
+    /// mixer is as before. It allocates nothing if a setting is spare.
     pub fn set(&mut self, _alloc: Global, setting: &Setting, ticks: u64) -> Result<(), AllocError>
         requires channel { IsConfigured self.old.channels setting.now.place.channel }
         requires time { self.old.latest ≤ ticks }
@@ -87,8 +87,8 @@ impl Mixer {
         Ok(())
     }
 
-    /// Puts a setting behind those of its channel that wait, whether it is marked as deferred or not. It returns `false`
-    /// exactly if 1,024 wait, and the mixer is then as before. The channel is one of the mixer's. It takes no memory.
+    /// Appends a setting to those of its channel that wait, whether it is marked as deferred or not. Returns `false` exactly if
+    /// 1,024 wait already, and the mixer is then as before. The channel is one of the mixer's.
     pub fn defer(&mut self, setting: &Setting) -> bool
         requires { IsConfigured self.old.channels setting.now.place.channel }
         ensures room { IsTrue result
@@ -107,9 +107,9 @@ impl Mixer {
         true
     }
 
-    /// Starts all waiting settings of a channel after `ticks` ticks, in the order in which they came. The channel is one
-    /// of the mixer's, and `ticks` is not below that of an earlier set or commit. If memory runs out, the mixer is as
-    /// before. It takes no memory if as many settings are spare as wait.
+    /// Starts all waiting settings of a channel after `ticks` ticks, in the order in which they came. The channel is one of the
+    /// mixer's, and `ticks` is not below that of an earlier set or commit. If memory runs out, the mixer is as before. It allocates
+    /// nothing if as many settings are spare as wait.
     pub fn commit(&mut self, _alloc: Global, channel: u8, ticks: u64) -> Result<(), AllocError>
         requires channel { IsConfigured self.old.channels channel }
         requires time { self.old.latest ≤ ticks }
@@ -128,8 +128,7 @@ impl Mixer {
         Ok(())
     }
 
-    /// Sets all values of a place to their defaults at once. What waits stays. The channel is one of the mixer's. It takes
-    /// no memory.
+    /// Sets all values of a place to their defaults at once. Waiting settings stay. The channel is one of the mixer's.
     pub fn clear_layer(&mut self, place: Place)
         requires { IsConfigured self.old.channels place.channel }
         ensures acts { (ticks : ℕ) → TakesCommand (ResetLayer place) ticks self.old self.new }
@@ -138,8 +137,8 @@ impl Mixer {
         self.places.remove(place);
     }
 
-    /// Sets all values of the places of a channel to their defaults at once. What waits stays. The channel is one of the
-    /// mixer's. It takes no memory.
+    /// Sets all values of the places of a channel to their defaults at once. Waiting settings stay. The channel is one of the
+    /// mixer's.
     pub fn clear_channel(&mut self, channel: u8)
         requires { IsConfigured self.old.channels channel }
         ensures acts { (ticks : ℕ) → TakesCommand (ResetChannel channel) ticks self.old self.new }
@@ -148,8 +147,8 @@ impl Mixer {
         self.places.clear(channel);
     }
 
-    /// Exchanges the values of two places. What waits stays where it is. The channels are the mixer's. If memory runs
-    /// out, the mixer is as before. It takes no memory if a setting is spare.
+    /// Exchanges the values of two places. Waiting settings stay where they are. The channels are the mixer's. If memory runs out,
+    /// the mixer is as before. It allocates nothing if a setting is spare.
     pub fn swap_layers(&mut self, _alloc: Global, a: Place, b: Place) -> Result<(), AllocError>
         requires a { IsConfigured self.old.channels a.channel }
         requires b { IsConfigured self.old.channels b.channel }
@@ -164,8 +163,7 @@ impl Mixer {
         self.places.swap(a, b)
     }
 
-    /// Exchanges the values of all places of two channels. What waits stays where it is. The channels are the mixer's. It
-    /// takes no memory.
+    /// Exchanges the values of all places of two channels. Waiting settings stay where they are. The channels are the mixer's.
     pub fn swap_channels(&mut self, a: u8, b: u8)
         requires a { IsConfigured self.old.channels a }
         requires b { IsConfigured self.old.channels b }
@@ -175,8 +173,8 @@ impl Mixer {
         self.places.swap_channels(a, b);
     }
 
-    /// Returns the value of a property of a place after `ticks` ticks, in millionths and in the property's range. The
-    /// channel is one of the mixer's, and `ticks` is not below that of an earlier set or commit. It takes no memory.
+    /// Returns the value of a property of a place after `ticks` ticks, in millionths and in the property's range. The channel is one
+    /// of the mixer's, and `ticks` is not below that of an earlier set or commit.
     pub fn value(&self, place: Place, prop: Prop, ticks: u64) -> Micros
         requires channel { IsConfigured self.now.channels place.channel }
         requires time { self.now.latest ≤ ticks }
@@ -190,8 +188,7 @@ impl Mixer {
         Micros::new(values, number_count(prop)).unwrap()
     }
 
-    /// Returns the number of settings of a channel that wait, at most 1,024. The channel is one of the mixer's. It takes no
-    /// memory.
+    /// Returns the number of settings of a channel that wait, at most 1,024. The channel is one of the mixer's.
     pub fn waiting(&self, channel: u8) -> u32
         requires { IsConfigured self.now.channels channel }
         ensures value { result ≡ length (waiting_on self.now channel) }
@@ -200,8 +197,8 @@ impl Mixer {
         self.waiting[usize::from(channel) - 1].as_slice().len() as u32
     }
 
-    /// Takes memory for at least `places` spare settings. If it runs out, fewer are spare. All else is as before, and
-    /// no fewer settings are spare than before.
+    /// Reserves memory for at least `places` spare settings. If memory runs out, fewer may be spare, but no fewer than before. All
+    /// else is as before.
     pub fn reserve(&mut self, _alloc: Global, places: u32) -> Result<(), AllocError>
         ensures ok { OnOk result (places ≤ self.new.spare) }
         ensures same { IsAsBefore self.old self.new }

@@ -23,7 +23,7 @@ use std::marker::Model;
 pub(crate) struct Places {
     // One for each channel.
     channels: Vec<Layers>,
-    // For how many entries of each channel memory is kept spare, at least.
+    // How many more entries of each channel memory is reserved for, at least.
     spare: usize,
 }
 
@@ -66,7 +66,7 @@ impl Places {
         }
     }
 
-    /// Lets a setting start after `ticks` ticks. If memory runs out, all is as before.
+    /// Starts a setting after `ticks` ticks. If memory runs out, all is as before.
     pub(crate) fn start(&mut self, setting: &Setting, ticks: u64) -> Result<(), AllocError>
         requires channel { IsConfigured self.old.channels setting.now.place.channel }
         requires running { AreRunning ticks (table_of self.old.entries) }
@@ -84,7 +84,7 @@ impl Places {
         Ok(())
     }
 
-    /// Lets settings of a channel start after `ticks` ticks, in their order. If memory runs out, all is as before.
+    /// Starts settings of a channel after `ticks` ticks, in their order. If memory runs out, all is as before.
     pub(crate) fn start_all(
         &mut self,
         channel: u8,
@@ -132,7 +132,7 @@ impl Places {
         }
     }
 
-    /// Exchanges the entries of two channels. It takes no memory.
+    /// Exchanges the entries of two channels.
     pub(crate) fn swap_channels(&mut self, a: u8, b: u8)
         requires a { IsConfigured self.old.channels a }
         requires b { IsConfigured self.old.channels b }
@@ -145,7 +145,7 @@ impl Places {
         self.channels.swap(usize::from(a) - 1, usize::from(b) - 1);
     }
 
-    /// Removes the entry of a place, if it has one. It takes no memory.
+    /// Removes the entry of a place, if it has one.
     pub(crate) fn remove(&mut self, place: Place)
         requires { IsConfigured self.old.channels place.channel }
         ensures entries { table_of self.new.entries
@@ -156,7 +156,7 @@ impl Places {
         self.channels[usize::from(place.channel()) - 1].remove(place.layer());
     }
 
-    /// Removes the entries of a channel. It takes no memory.
+    /// Removes the entries of a channel.
     pub(crate) fn clear(&mut self, channel: u8)
         requires { IsConfigured self.old.channels channel }
         ensures entries { table_of self.new.entries
@@ -167,7 +167,7 @@ impl Places {
         self.channels[usize::from(channel) - 1].clear();
     }
 
-    /// Takes memory for at least `count` more entries of each channel. If it runs out, all is as before.
+    /// Reserves memory for at least `count` more entries of each channel. If memory runs out, all is as before.
     pub(crate) fn reserve(&mut self, count: usize) -> Result<(), AllocError>
         ensures ok { OnOk result (count ≤ self.new.spare) }
         ensures entries { self.new.entries ≡ self.old.entries }
@@ -233,7 +233,7 @@ impl Places {
         Ok(())
     }
 
-    /// Replaces the entry of a place that has one. It takes no memory.
+    /// Replaces the entry of a place that has one.
     fn replace(&mut self, place: Place, courses: Courses)
         requires channel { IsConfigured self.old.channels place.channel }
         requires entry { IsSome (table_of self.old.entries place) }
@@ -246,7 +246,7 @@ impl Places {
     }
 }
 
-/// Takes memory for at least `count` more entries of each channel. If it runs out, the entries are as before.
+/// Reserves memory for at least `count` more entries of each channel. If memory runs out, the entries are as before.
 fn reserve_each(channels: &mut [Layers], count: usize) -> Result<(), AllocError>
     ensures ok { OnOk result (HaveRoom count channels.new) }
     ensures entries { entries_of channels.new ≡ entries_of channels.old }

@@ -6,8 +6,8 @@ use play_types::{MAX_WAITING_SETTINGS, Setting};
 use std::alloc::{AllocError, Global};
 use std::marker::Model;
 
-/// Settings that wait for a commit of their channel, in the order in which they came. They are at most 1,024, and the
-/// room for all of them is taken when the list is created.
+/// Settings that wait for a commit of their channel, in the order in which they came. There are at most 1,024, and the memory for
+/// all of them is allocated when the list is created.
 #[derive(Debug, Drop)]
 pub(crate) struct WaitingList {
     settings: Vec<Setting>,
@@ -28,7 +28,7 @@ impl Model for WaitingList {
 }
 
 impl WaitingList {
-    /// Creates a list without settings. The memory for 1,024 is taken.
+    /// Creates an empty list with memory for 1,024 settings.
     pub(crate) fn new(alloc: Global) -> Result<WaitingList, AllocError>
         ensures { IfOk result (λ waiting. waiting ≡ []) }
     {

@@ -18,11 +18,11 @@ whole_short EaseOutQuad d h = omega (arith, mul-lt d d (2 ^ 32) (2 ^ 32) h h)
 whole_short EaseInCubic d h = mul-lt (d * d) d (2 ^ 64) (2 ^ 32) (omega (arith, mul-lt d d (2 ^ 32) (2 ^ 32) h h)) h
 whole_short EaseOutCubic d h = mul-lt (d * d) d (2 ^ 64) (2 ^ 32) (omega (arith, mul-lt d d (2 ^ 32) (2 ^ 32) h h)) h
 
--- a way between two wide numbers
+-- the difference of two numbers within -1000 to 1000
 abbrev pub IsWay : ℤ → Type 0
 IsWay way = unsigned_abs way ≤ 2000000000
 
--- its part is in 128 bits
+-- its product with a number of parts fits 128 bits
 pub times_fits : (way : ℤ) (p : ℕ) → IsWay way → p < 2 ^ 96 → FitsSigned w128 (way *ℤ pos p)
 times_fits way p short few = fits_signed_mul w128 way (pos p) 2000000000 (2 ^ 96) short (omega arith) (omega arith)
 

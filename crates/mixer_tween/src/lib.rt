@@ -1,7 +1,7 @@
 //! Mixer values on their way from one number to another.
 //!
-//! A [`Tween`] says where a value starts, where it goes, when it set out and in how many ticks it is there.
-//! [`Tween::at`] is its value after a number of ticks, exactly as the curve defines it. It takes no memory.
+//! A [`Tween`] has the value at its start and at its end, the tick at which it starts, its duration in ticks and its curve.
+//! [`Tween::at`] returns its value after a number of ticks, exactly as the curve defines it.
 #![tactic(auto)]
 
 mod tween;

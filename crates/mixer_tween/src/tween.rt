@@ -1,12 +1,12 @@
-//! One number on its way.
+//! A number that goes from one value to another.
 ghost use Rattle.std.specs.Prelude.{◌≡◌, ◌-◌, ◌<◌, ◌≤◌};
 ghost use Rattle.play_types.specs.Curve.{IsBetween, along, gone, whole};
 ghost use Rattle.play_types.specs.Setting.{IsWide};
 
 use play_types::Curve;
 
-/// A number on its way from one value to another, both in millionths: it is `from` after `start` ticks, and `to` from
-/// `duration` ticks later on.
+/// A number that goes from one value to another, both in millionths: it starts at `from` after `start` ticks, and is `to` once
+/// `duration` more ticks have passed.
 #[derive(Clone, Copy, Debug, PartialEq, Eq)]
 pub struct Tween {
     pub from: i64,
@@ -17,8 +17,8 @@ pub struct Tween {
 }
 
 impl Tween {
-    /// Returns the value after `ticks` ticks, which are at least `start`. It lies between `from` and `to`, and both of
-    /// these have to lie within -1000 to 1000.
+    /// Returns the value after `ticks` ticks, in millionths, which lies between `from` and `to`. `ticks` has to be at least
+    /// `start`, and `from` and `to` have to be within -1,000,000,000 to 1,000,000,000.
     pub fn at(&self, ticks: u64) -> i64
         requires started { self.now.start ≤ ticks }
         requires from { IsWide self.now.from }
@@ -37,7 +37,7 @@ impl Tween {
     }
 }
 
-/// Returns how many parts of the way are gone at a tick before the last.
+/// Returns how many of the parts that `all_parts` returns are gone at `tick`, which is below `duration`.
 fn parts_gone(curve: Curve, tick: u32, duration: u32) -> u128
     requires { tick < duration }
     ensures { result ≡ gone curve tick duration }
@@ -55,7 +55,7 @@ fn parts_gone(curve: Curve, tick: u32, duration: u32) -> u128
     }
 }
 
-/// Returns how many parts the whole way has.
+/// Returns how many parts the whole way of `duration` ticks has.
 fn all_parts(curve: Curve, duration: u32) -> u128
     ensures { result ≡ whole curve duration }
 {

@@ -98,7 +98,7 @@ none_found : (bytes : List ℕ) (found : Option Message) → IsBytes bytes → m
 none_found bytes None are e none = refl
 none_found bytes (Some message) are e none = absurd (none message (message_takes bytes message are e))
 
--- it is said that the bytes are no message exactly if they are none
+-- NoMessage is returned exactly if the bytes are no message
 pub is_none : (bytes : List ℕ) (result : Result Message OscFault) → IsBytes bytes → IsReadAs (message_at bytes) result
     → (result ≡ Err NoMessage) ↔ ((message : Message) → IsMessageOf bytes message → ⊥)
 is_none bytes (Ok found) are read = (λ e. absurd cc, λ none. absurd (none found (message_takes bytes found are read)))

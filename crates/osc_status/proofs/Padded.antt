@@ -26,7 +26,7 @@ neither false false e = (refl, refl)
 neither false true e = absurd cc
 neither true b e = absurd cc
 
--- the first element that passes stands after those that do not
+-- the first element that passes comes after those that do not
 first-after : {X : Type 0} (p : X → Bool) (word : List X) (x : X) (tail : List X) → p x ≡ true → list_any p word ≡ false →
     position_or_len p (word ++ x ∷ tail) ≡ length word
 first-after p [] x tail passes none = rw passes refl
@@ -66,7 +66,7 @@ padded-parts word rest =
     let e : 4 - length word % 4 ≡ suc (3 - length word % 4) = omega arith in
     rw (append_assoc word (replicate {A = ℕ} (4 - length word % 4) 0) rest, e) refl
 
--- the first zero byte tells the length of the word
+-- the first zero byte is at the length of the word
 padded-found : (word rest : List ℕ) → list_any is_zero word ≡ false → position is_zero (padded word ++ rest) ≡ Some (length word)
 padded-found word rest whole =
     let f : padded word ++ rest ≡ word ++ 0 ∷ (replicate {A = ℕ} (3 - length word % 4) 0 ++ rest) = padded-parts word rest in

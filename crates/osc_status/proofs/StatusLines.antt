@@ -1,4 +1,4 @@
--- The lines that tell the status, in the parts in which they are written.
+-- The lines of the status, in the parts in which they are written.
 use Rattle.std.proofs.Common.{◌≡◌, ℕ, ◌<◌, ◌/◌, ◌%◌, ◌^◌, zero, suc, Bool, true, false, ◌==◌, List, [], ◌∷◌, ◌++◌, refl, sym, ap, subst, ◌∙◌, append_assoc, append-nil, arith, inl, inr}
 use Rattle.std.specs.Prelude.{codes, decimal, encode_utf8_all, flat_map}
 use Rattle.std.specs.Fmt.{digit_glyph, digits, digits_onto}

@@ -6,7 +6,7 @@ use Rattle.std.proofs.Math.Seq.{drop-cons}
 use Rattle.osc_status.specs.declared.arg.OscValue.{OscValue}
 use Rattle.osc_status.specs.inner.Reading.{◌>>=◌, value_at, values_at}
 
--- arguments that stand before others, if there are others
+-- arguments before others, if there are others
 abbrev pub after_args : List OscValue → Option (List OscValue) → Option (List OscValue)
 after_args args more = option_map (λ (others : List OscValue). args ++ others) more
 
@@ -33,7 +33,7 @@ pub values-turn : (kinds : List ℕ) (at d : ℕ) (bytes : List ℕ) (value : Os
 values-turn kinds at d bytes value rest within e =
     ap (λ (ks : List ℕ). values_at ks bytes) (from-place kinds at d within) ∙ values-first (get_or kinds at d) (drop (at + 1) kinds) bytes value rest e
 
--- no argument of the kind at a place stands there
+-- there is no argument of the kind at this place
 pub values-end : (kinds : List ℕ) (at d : ℕ) (bytes : List ℕ) → at < length kinds → value_at (get_or kinds at d) bytes ≡ None → values_at (drop at kinds) bytes ≡ None
 values-end kinds at d bytes within e =
     ap (λ (ks : List ℕ). values_at ks bytes) (from-place kinds at d within) ∙ values-none (get_or kinds at d) (drop (at + 1) kinds) bytes e
@@ -63,7 +63,7 @@ cases_found : {A : Type 0} (o : Option A) → (is_some o ≡ true) ⊎ (o ≡ No
 cases_found (Some x) = inl refl
 cases_found None = inr refl
 
--- an argument stands where the arguments of the kinds from there on are read
+-- there is an argument at the front if the arguments of the kinds from this place on are read
 pub value-there : (kinds : List ℕ) (at d : ℕ) (bytes : List ℕ) → at < length kinds → is_some (values_at (drop at kinds) bytes) ≡ true → is_some (value_at (get_or kinds at d) bytes) ≡ true
 value-there kinds at d bytes within some = elim (cases_found (value_at (get_or kinds at d) bytes)) [
   | inl found ↦ found

@@ -42,7 +42,7 @@ pub record IsMessage (message : Message) : Type 0 where
   pub slash : begins_with 47 message.address ≡ true
   pub args : AllByRecursion IsArg message.args
 
--- the bytes are those of a message, and this is it
+-- this is a message, and the bytes are its bytes
 pub record IsMessageOf (bytes : List ℕ) (message : Message) : Type 0 where
   pub ranges : IsMessage message
   pub spelled : bytes ≡ message_bytes message

@@ -1,4 +1,4 @@
--- The status after a tick, and the lines that tell it.
+-- The status after a tick, and its lines.
 use Rattle.std.specs.Prelude.{ℕ, pos, ℤ, ◌%◌, Bool, true, false, Option, List, [], ◌∷◌, ◌++◌, option_map, filter_map, flat_map, codes, decimal}
 use Rattle.hex.specs.Hex.{encode_lower}
 use Rattle.play_types.specs.Media.{MediaNameView}
@@ -28,7 +28,7 @@ channel_address channel = codes "/channel/" ++ decimal channel
 abbrev pub layer_address : ℕ → ℕ → List ℕ
 layer_address channel layer = channel_address channel ++ (codes "/layer/" ++ decimal layer)
 
--- the number of ticks, told for a channel
+-- the number of ticks, modulo TICKS_MODULUS, at the address of a channel
 abbrev pub ticks_message : ℕ → ℕ → Message
 ticks_message channel count = record {
   address = channel_address channel ++ codes "/ticks";
@@ -46,19 +46,19 @@ producer_message names layer = record {
   args = Word (without_zeros (producer_text names layer.spec)) ∷ [];
 }
 
--- where it is, and how many frames it plays
+-- the frame at which a layer is, and the number of frames that it plays
 abbrev pub frame_message : LayerStatus → Message
 frame_message layer = record {
   address = layer_address layer.channel layer.layer ++ codes "/frame";
   args = Int (pos layer.frame) ∷ Int (pos layer.length) ∷ [];
 }
 
--- one if it is so, else zero
+-- 1 for true, 0 for false
 abbrev pub flag_number : Bool → ℤ
 flag_number true = pos 1
 flag_number false = pos 0
 
--- whether it is paused
+-- whether a layer is paused
 abbrev pub paused_message : LayerStatus → Message
 paused_message layer = record {
   address = layer_address layer.channel layer.layer ++ codes "/paused";
@@ -105,6 +105,6 @@ status_line count message = codes "O " ++ (decimal count ++ 32 ∷ (encode_lower
 unfoldable pub layer_lines : List MediaNameView → ℕ → LayerStatus → List ℕ
 layer_lines names count layer = flat_map (status_line count) (layer_messages names layer)
 
--- the lines that tell the status after a history
+-- the lines of the status after a history
 unfoldable pub status_text : Setup → List MediaNameView → List Event → List ℕ
 status_text setup names history = flat_map (status_line (ticks history)) (status_messages setup names history)

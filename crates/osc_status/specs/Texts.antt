@@ -1,4 +1,4 @@
--- Texts as they stand in a message: their bytes, a zero byte, and zero bytes up to a multiple of four.
+-- Texts in a message: their bytes, a zero byte, and zero bytes up to a multiple of four.
 use Rattle.std.specs.Prelude.{◌≡◌, ℕ, ◌-◌, ◌%◌, ◌==◌, Bool, true, false, not, List, ◌++◌, length, replicate, filter, encode_utf8_all}
 use Rattle.std.specs.List.{list_any}
 use Rattle.std.specs.Str.{all_scalars}
@@ -7,11 +7,11 @@ use Rattle.std.specs.Str.{all_scalars}
 abbrev pub is_zero : ℕ → Bool
 is_zero byte = byte == 0
 
--- whether it is another one
+-- whether a byte or a character is not zero
 abbrev pub is_other : ℕ → Bool
 is_other byte = not (byte == 0)
 
--- those that are not zero
+-- the bytes or characters that are not zero
 abbrev pub without_zeros : List ℕ → List ℕ
 without_zeros bytes = filter is_other bytes
 
@@ -23,7 +23,7 @@ padded bytes = bytes ++ replicate (4 - length bytes % 4) 0
 abbrev pub text_bytes : List ℕ → List ℕ
 text_bytes text = padded (encode_utf8_all text)
 
--- the characters are those of Unicode, and none is zero
+-- each character is a Unicode scalar value, and none is zero
 pub record IsText (text : List ℕ) : Type 0 where
   pub scalars : all_scalars text ≡ true
   pub whole : list_any is_zero text ≡ false

@@ -1,4 +1,4 @@
--- What is written.
+-- The messages that are written.
 use Rattle.std.specs.Prelude.{◌≡◌, ℕ, false, List, map}
 use Rattle.std.specs.List.{list_any}
 use Rattle.std.specs.Str.{chars}

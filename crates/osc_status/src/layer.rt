@@ -2,7 +2,7 @@
 
 use play_types::Spec;
 
-/// What a status display is told of the foreground of a layer.
+/// The status of a layer, by its foreground.
 #[derive(Clone, Copy, Debug, PartialEq, Eq)]
 pub struct LayerStatus {
     /// The channel, from 1.

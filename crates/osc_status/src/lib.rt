@@ -1,12 +1,12 @@
-//! OSC messages that tell a status display what the channels show.
+//! OSC messages for a status display, about what the channels show.
 //!
 //! A message has the form of OSC 1.0: an address, and numbers and words as its arguments. Its texts are UTF-8, where
-//! OSC 1.0 has ASCII. [`write_message`] writes a message, and [`read_message`] reads its bytes back to the same address
-//! and arguments, and no other bytes. [`write_channel_status`] and [`write_layer_status`] write the lines of a channel
-//! and of a layer after a tick, each with the bytes of one message in hexadecimal.
+//! OSC 1.0 has ASCII. [`write_message`] writes a message, and [`read_message`] reads its bytes back as the message, and
+//! refuses other bytes. [`write_channel_status`] and [`write_layer_status`] write the lines of a channel and of a layer
+//! after a tick, each with the bytes of one message in hexadecimal.
 //!
-//! The definitions of messages and of the status after a tick stand in `specs/`. The modules `examples` and `laws` show
-//! what they say. Writing takes no memory.
+//! `specs/` defines messages and the status after a tick. The modules `examples` and `laws` have worked examples and a law
+//! of these definitions.
 #![tactic(auto)]
 
 mod arg;

@@ -1,4 +1,4 @@
-//! The beginnings of the lines that tell the status.
+//! The beginnings of the lines of the status.
 ghost use Rattle.std.specs.Prelude.{◌≡◌, ◌∷◌, ◌++◌, [], true, codes, decimal, flat_map};
 ghost use Rattle.hex.specs.Hex.{encode_lower};
 ghost use Rattle.play_outside.specs.Gathered.{Adds};

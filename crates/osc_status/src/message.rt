@@ -53,7 +53,7 @@ impl From<AllocError> for OscFault {
 /// Reads the bytes of a message of the form of OSC 1.0, whose arguments are numbers and words and whose texts are UTF-8.
 ///
 /// The address begins with `/`, each text ends with a zero byte and has further ones up to a multiple of four, and nothing
-/// follows the last argument. [`OscFault::NoMessage`] comes exactly if the bytes are no such message.
+/// follows the last argument. [`OscFault::NoMessage`] is returned exactly if the bytes are no such message.
 pub fn read_message(alloc: Global, bytes: &[u8]) -> Result<Message, OscFault>
     ensures read { IfOk result (λ message. IsMessageOf bytes.now message) }
     ensures again { (message : Message) → IsMessageOf bytes.now message → (result ≡ Ok message) ⊎ (result ≡ Err OutOfMemory) }
@@ -62,7 +62,7 @@ pub fn read_message(alloc: Global, bytes: &[u8]) -> Result<Message, OscFault>
     message_in(alloc, bytes)
 }
 
-/// Returns the message that the bytes have.
+/// Returns the message whose bytes these are.
 #[tactic(auto, unfolding(crate::specs::inner::Reading::message_at))]
 fn message_in(alloc: Global, bytes: &[u8]) -> Result<Message, OscFault>
     ensures { IsReadAs (message_at bytes.now) result }

@@ -9,7 +9,7 @@ use crate::reading::{padded_at, text_at, value_at};
 use play_types::Text;
 use std::alloc::{AllocError, Global};
 
-/// Returns the address of a message, the kinds of its arguments, a letter for each, and the bytes of the arguments.
+/// Returns the address of a message, the letters of the kinds of its arguments, and the bytes of the arguments.
 #[tactic(auto, unfolding(crate::specs::inner::Reading::parts_at))]
 pub(crate) fn parts_of(bytes: &[u8]) -> Option<(&str, &[u8], &[u8])>
     ensures { option_map parts_view result ≡ parts_at bytes.now }
@@ -23,7 +23,7 @@ pub(crate) fn parts_of(bytes: &[u8]) -> Option<(&str, &[u8], &[u8])>
     Some((address, kinds, values))
 }
 
-/// Returns the letters after the comma that they begin with.
+/// Returns the letters after the comma at the front.
 #[tactic(auto, unfolding(crate::specs::inner::Reading::kinds_of))]
 fn kinds_of(letters: &[u8]) -> Option<&[u8]>
     ensures { option_map kinds_view result ≡ kinds_of letters.now }
@@ -48,7 +48,7 @@ pub(crate) fn are_values(kinds: &[u8], bytes: &[u8]) -> bool
     rest.is_empty()
 }
 
-/// Returns the arguments of these kinds that the bytes are.
+/// Returns the arguments of these kinds in the bytes.
 pub(crate) fn args_of(alloc: Global, kinds: &[u8], bytes: &[u8]) -> Result<ArgList, AllocError>
     requires { is_some (values_at kinds.now bytes.now) ≡ true }
     ensures { IfOk result (λ args. values_at kinds.now bytes.now ≡ Some args) }

@@ -1,4 +1,4 @@
-//! The word of what a layer plays.
+//! The word of a producer.
 ghost use Rattle.std.specs.Prelude.{◌≡◌, ◌++◌, chars, map};
 ghost use Rattle.std.specs.Char.{to_ascii_uppercase};
 ghost use Rattle.hex.specs.Hex.{encode_lower};
@@ -65,7 +65,7 @@ fn colour_digits(value: u32) -> [u8; 8]
     in_capitals(digits)
 }
 
-/// Returns digits with capitals for their small letters.
+/// Returns the digits, their letters in capitals.
 fn in_capitals(digits: [u8; 8]) -> [u8; 8]
     ensures { result ≡ map to_ascii_uppercase digits }
 {

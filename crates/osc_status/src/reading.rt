@@ -8,8 +8,7 @@ ghost use Rattle.osc_status.specs.inner.Views.{bytes_view, number_view, text_vie
 use crate::arg::OscArg;
 use std::str;
 
-/// Returns the bytes before the padding at the front, and the bytes after the padding, if it is padded to a multiple of
-/// four.
+/// Returns the bytes before the first zero, and the bytes after their padding, if zeros pad them to a multiple of four.
 #[tactic(auto, unfolding(crate::specs::inner::Reading::padded_at))]
 pub(crate) fn padded_at(bytes: &[u8]) -> Option<(&[u8], &[u8])>
     ensures { option_map bytes_view result ≡ padded_at bytes.now }

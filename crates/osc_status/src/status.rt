@@ -13,14 +13,13 @@ use crate::producer::add_producer;
 use play_outside::{Sent, Sink};
 use play_types::MediaNames;
 
-/// The number of ticks is told modulo this, so that it is a number of a message.
+/// The number of ticks in a message is taken modulo this, so that it fits an argument.
 pub const TICKS_MODULUS: u64 = 2_147_483_648;
 
 /// Writes the line of a channel after `ticks` ticks: `O`, the number of ticks, and the bytes of the message
 /// `/channel/c/ticks` in hexadecimal. Its argument is the number of ticks modulo [`TICKS_MODULUS`].
 ///
-/// It takes no memory, and is one write. The result is `Failed` only if `to` failed, and then a prefix of the line was
-/// written.
+/// The line is one write. The result is `Failed` only if `to` failed, and then a prefix of the line was written.
 pub fn write_channel_status<K: Sink>(ticks: u64, channel: u8, to: &mut K) -> Sent
     ensures { Sends result (status_line ticks (ticks_message channel ticks)) (K.state to.old) (K.state to.new) }
 {
@@ -33,9 +32,9 @@ pub fn write_channel_status<K: Sink>(ticks: u64, channel: u8, to: &mut K) -> Sen
 /// hexadecimal: `/channel/c/layer/l/producer` with what the layer plays, `/channel/c/layer/l/frame` with the frame at
 /// which it is and the number of frames, and `/channel/c/layer/l/paused` with 1 or 0.
 ///
-/// A clip is named as in `names`, without the zero characters of its name, and has no name if `names` does not have its
-/// number. It takes no memory, and lines of at most 4,096 bytes together are one write. The result is `Failed` only if
-/// `to` failed, and then a prefix of the lines was written.
+/// A clip is named as in `names`, without the zero characters of its name, and its name is empty if `names` has no clip of
+/// its number. Lines of at most 4,096 bytes together are one write. The result is `Failed` only if `to` failed, and then a
+/// prefix of the lines was written.
 pub fn write_layer_status<K: Sink>(
     ticks: u64,
     layer: &LayerStatus,
@@ -85,7 +84,7 @@ fn add_frame<K: Sink>(ticks: u64, layer: &LayerStatus, pieces: &mut Pieces, to: 
     pieces.add(b"\n", to)
 }
 
-/// Adds the line of whether a layer is paused.
+/// Adds the line that says whether a layer is paused.
 fn add_paused<K: Sink>(ticks: u64, layer: &LayerStatus, pieces: &mut Pieces, to: &mut K) -> Sent
     ensures { Adds result (pieces.old ++ status_line ticks (paused_message layer.now)) pieces.new (K.state to.old) (K.state to.new) }
 {

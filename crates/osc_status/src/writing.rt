@@ -15,8 +15,8 @@ use play_outside::{Sent, Sink};
 /// Writes a message of the form of OSC 1.0: the address, a letter for each argument, and the arguments. Texts are UTF-8.
 ///
 /// The address begins with `/`, and neither it nor a word has a zero character. What is written is a message, which
-/// `read_message` reads back. It takes no memory, and a message of at most 4,096 bytes is one write. The result is `Failed`
-/// only if `to` failed, and then a prefix of the message was written.
+/// `read_message` reads back. A message of at most 4,096 bytes is one write. The result is `Failed` only if `to` failed, and
+/// then a prefix of the message was written.
 pub fn write_message<K: Sink>(address: &str, args: &[OscArg<'_>], to: &mut K) -> Sent
     requires slash { begins_with 47 address.now ≡ true }
     requires address { list_any is_zero address.now ≡ false }

@@ -13,7 +13,7 @@ pub straight-lt : (colour alpha : ℕ) → colour ≤ alpha → straight colour 
 straight-lt colour zero le = omega arith
 straight-lt colour (suc a) le = rw (straight-some colour a) ((div-lt_iff_lt-mul {k = suc a} {x = colour * 255 + suc a / 2} {y = 256} (omega arith)).1 (omega (arith, le)))
 
--- the straight form of a colour byte gives it again if it is multiplied
+-- the straight form of a colour byte gives it again when it is multiplied
 pub scaled-straight : (colour alpha : ℕ) → colour ≤ alpha → alpha < 256 → scaled (straight colour alpha) alpha ≡ colour
 scaled-straight colour zero le byte = omega (arith, le)
 scaled-straight colour (suc a) le byte =

@@ -28,7 +28,7 @@ fade p opacity = record {
   a = fade_byte p.a opacity;
 }
 
--- the pixel if the key has k 255ths
+-- the pixel keyed by k 255ths
 abbrev pub key : PixelView → ℕ → PixelView
 key p k = record { b = scaled p.b k; g = scaled p.g k; r = scaled p.r k; a = scaled p.a k }
 

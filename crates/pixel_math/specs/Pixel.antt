@@ -35,8 +35,7 @@ scaled value by = (value * by + 127) / 255
 abbrev pub multiplied : ℕ → ℕ → ℕ → ℕ → PixelView
 multiplied b g r a = pixel_of (scaled b a) (scaled g a) (scaled r a) a
 
--- a colour byte that is multiplied by this alpha, as it is before it is multiplied: the nearest byte, and 0 if the alpha
--- is 0
+-- a colour byte as it was before it was multiplied by this alpha: 0 if the alpha is 0, and otherwise the nearest byte
 abbrev pub straight : ℕ → ℕ → ℕ
 straight colour alpha = if alpha == 0 then 0 else (colour * 255 + alpha / 2) / alpha
 
@@ -64,6 +63,6 @@ blue_of value = value % 0x100
 abbrev pub colour_pixel : ℕ → PixelView
 colour_pixel value = multiplied (blue_of value) (green_of value) (red_of value) (alpha_of value)
 
--- the four bytes as they stand in a frame
+-- the four bytes in the order of a frame
 abbrev pub pixel_bytes : PixelView → List ℕ
 pixel_bytes p = p.b ∷ p.g ∷ p.r ∷ p.a ∷ []

@@ -42,7 +42,7 @@ pub fn key(p: Pixel, k: u8) -> Pixel
     )
 }
 
-/// Mixes two pixels: the one at step `j` of `d` on the way from `old` to `new`.
+/// Mixes two pixels: returns the pixel at step `j` of `d` on the way from `old` to `new`.
 pub fn mix(old: Pixel, new: Pixel, j: u32, d: u32) -> Pixel
     requires after { 0 < j }
     requires before { j < d }

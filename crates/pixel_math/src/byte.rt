@@ -11,8 +11,8 @@ pub fn scaled(value: u8, by: u8) -> u8
     ((u32::from(value) * u32::from(by) + 127) / 255) as u8
 }
 
-/// Returns the colour byte that gives `colour` if it is multiplied by `alpha`: 0 if the alpha is 0, and else the nearest
-/// byte to `colour * 255 / alpha`.
+/// Returns the colour byte that gives `colour` when it is multiplied by `alpha`: 0 if the alpha is 0, and else the nearest byte to
+/// `colour * 255 / alpha`.
 pub fn straight(colour: u8, alpha: u8) -> u8
     requires { colour ≤ alpha }
     ensures value { result ≡ straight colour alpha }
@@ -41,7 +41,7 @@ pub(crate) fn fade_byte(value: u8, opacity: u32) -> u8
     ((u32::from(value) * opacity + 500_000) / 1_000_000) as u8
 }
 
-/// Mixes two bytes: the one at step `j` of `d` on the way from `old` to `new`.
+/// Returns the byte at step `j` of `d` on the way from `old` to `new`.
 pub(crate) fn mix_byte(old: u8, new: u8, j: u32, d: u32) -> u8
     requires after { 0 < j }
     requires before { j < d }

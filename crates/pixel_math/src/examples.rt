@@ -1,5 +1,5 @@
-//! Worked examples of the formulas. Each is a function that does nothing, and its contract is the example. Bytes stand in
-//! the order blue, green, red, alpha.
+//! Worked examples of the formulas. Each is a function that does nothing, and its contract is the example. Bytes are in the order
+//! blue, green, red, alpha.
 ghost use Rattle.std.specs.Prelude.{◌≡◌, ◌<◌, [], ◌∷◌};
 ghost use Rattle.pixel_math.specs.Arithmetic.{fade, key, mix, over};
 ghost use Rattle.pixel_math.specs.Pixel.{colour_pixel, lowered, multiplied, pixel_bytes, pixel_of, straight, transparent};
@@ -37,7 +37,7 @@ pub fn bytes_of_colours()
     ensures blue { pixel_bytes (colour_pixel 0xFF0000FF) ≡ 255 ∷ 0 ∷ 0 ∷ 255 ∷ [] }
 {}
 
-/// Half red over blue, opaque and half, and the other way round.
+/// Half red over opaque blue and over half blue, and half blue over half red.
 pub fn pixels_over_pixels()
     ensures opaque_blue { over (pixel_of 0 0 128 128) (pixel_of 255 0 0 255) ≡ pixel_of 127 0 128 255 }
     ensures half_blue { over (pixel_of 0 0 128 128) (pixel_of 128 0 0 128) ≡ pixel_of 64 0 128 192 }

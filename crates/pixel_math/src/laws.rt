@@ -27,7 +27,7 @@ pub fn colour_by_alpha()
     ensures clear { (r g b : ℕ) → r < 256 → g < 256 → b < 256 → colour_pixel (colour_value 0 r g b) ≡ transparent }
 {}
 
-/// The straight form of a colour byte is a byte, and gives the colour byte again if it is multiplied.
+/// The straight form of a colour byte is a byte, and gives the colour byte again when it is multiplied.
 pub fn multiplied_straight_byte()
     ensures byte { (colour alpha : ℕ) → colour ≤ alpha → straight colour alpha < 256 }
     ensures back { (colour alpha : ℕ) → colour ≤ alpha → alpha < 256 → scaled (straight colour alpha) alpha ≡ colour }
@@ -56,7 +56,7 @@ pub fn key_at_ends()
     ensures nothing { (p : PixelView) → key p 0 ≡ transparent }
 {}
 
-/// A pixel that gives way to itself stays as it is, at every step.
+/// A pixel that is mixed with itself stays as it is, at every step.
 pub fn mix_of_equals()
     ensures { (p : PixelView) (j d : ℕ) → 0 < j → j < d → mix p p j d ≡ p }
 {}

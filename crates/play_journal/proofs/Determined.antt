@@ -44,7 +44,7 @@ apart_rest : (run : Run) (runs : List Run) → AreApart (run ∷ runs) → AreAp
 apart_rest run [] apart = tt
 apart_rest run (next ∷ runs) apart = apart.1
 
--- a run before runs
+-- the runs of a run of events and of those that follow it
 one_more : (event : Event) (times : ℕ) (events : List Event) (runs : List Run) → HasItsTimes event times →
     AreApart (record { event = event; times = times } ∷ runs) → runs_of events ≡ runs →
     runs_of (replicate times event ++ events) ≡ record { event = event; times = times } ∷ runs

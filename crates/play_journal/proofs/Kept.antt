@@ -13,7 +13,7 @@ use Rattle.play_journal.specs.Journal.{IsJournal}
 use Rattle.play_journal.specs.declared.entries.Entry.{Entry}
 use Rattle.play_journal.specs.Kept.{AreCounted, Counts, HoldsCommands, IsStopIfAny, entry_events, events_before, kept_events, stop_events}
 
--- ticks are no stop, hold no command, and may stand in a history
+-- ticks are no stop, hold no command, and may be in a history
 ticks-run : (n : ℕ) → ticks (replicate n Tick) ≡ n
 ticks-run zero = refl
 ticks-run (suc n) = omega (arith, ticks-run n)
@@ -26,7 +26,7 @@ history-run : (n : ℕ) → IsHistory (replicate n Tick)
 history-run zero = tt
 history-run (suc n) = history-run n
 
--- an event that holds commands is no stop, and may stand in a history
+-- an event that holds commands is no stop, and may be in a history
 none-one : (event : Event) → HoldsCommands event → stop_at (event ∷ []) ≡ None
 none-one (Do tag cmd) holds = refl
 none-one (Batch tag cmds) holds = refl
@@ -111,13 +111,13 @@ no_stop counts entries after stop counted none =
     none_of_position (length (events_before entries after)) stop
     (sym (stop_at-kept entries after stop counted.commands counted.last) ∙ none)
 
--- one tick more
+-- one more tick
 before-tick : (entries : List Entry) (after : ℕ) → events_before entries (after + 1) ≡ events_before entries after ++ Tick ∷ []
 before-tick entries after =
     ap (λ run. flat_map entry_events entries ++ run) (sym (replicate_more after Tick))
     ∙ sym (append_assoc (flat_map entry_events entries) (replicate after Tick) (Tick ∷ []))
 
--- one entry more, before which the ticks after the last one stand
+-- one more entry, which takes over the ticks after the last one
 before-entry : (entries : List Entry) (after : ℕ) (event : Event) →
     events_before (entries ++ record { ticks = after; event = event } ∷ []) 0 ≡ events_before entries after ++ event ∷ []
 before-entry entries after event =
@@ -154,7 +154,7 @@ pub after-few : (entries : List Entry) (after : ℕ) (stop : Option Event) → a
 after-few entries after stop =
     omega (arith, ticks-append (events_before entries after) (stop_events stop), ticks-append (flat_map entry_events entries) (replicate after Tick), ticks-run after)
 
--- the numbers of a journal with one event more
+-- the numbers of a journal with one more event
 held-more : (events : List Event) (event : Event) → held (events ++ event ∷ []) ≡ held events + held_by event
 held-more events event = omega (arith, held-append events (event ∷ []))
 
@@ -163,7 +163,7 @@ all-more : (entries : List Entry) (entry : Entry) → AllByRecursion (λ e. Hold
 all-more [] entry hold one = (one, tt)
 all-more (first ∷ entries) entry hold one = (hold.0, all-more entries entry hold.1 one)
 
--- after a tick
+-- the numbers after a tick
 pub counted-tick : (counts : Counts) (entries : List Entry) (after : ℕ) (stop : Option Event) → AreCounted counts entries after stop →
     stop ≡ None → counts.ticks < MAX_TICKS →
     AreCounted (record { limit = counts.limit; held = counts.held; ticks = counts.ticks + 1; before = counts.before + 1 }) entries (after + 1) stop
@@ -188,14 +188,14 @@ no_tick_held (Batch tag cmds) holds = refl
 no_tick_held Tick holds = absurd holds
 no_tick_held (Stop tag) holds = absurd holds
 
--- and holds at least one command
+-- a command or a batch holds at least one command
 some_held : (event : Event) → HoldsCommands event → 0 < held_by event
 some_held (Do tag cmd) holds = lit< tt
 some_held (Batch tag cmds) holds = holds
 some_held Tick holds = absurd holds
 some_held (Stop tag) holds = absurd holds
 
--- after a command or a batch
+-- the numbers after a command or a batch
 pub counted-commands : (counts : Counts) (entries : List Entry) (after : ℕ) (stop : Option Event) (event : Event) →
     AreCounted counts entries after stop → stop ≡ None → HoldsCommands event → counts.held + held_by event ≤ counts.limit →
     AreCounted (record { limit = counts.limit; held = counts.held + held_by event; ticks = counts.ticks; before = counts.before + 1 }) (entries ++ record { ticks = after; event = event } ∷ []) 0 stop
@@ -213,7 +213,7 @@ counted-commands counts entries after stop event counted none holds room = recor
   few = omega (arith, counted.few, some_held event holds);
 }
 
--- after a stop
+-- the numbers after a stop
 pub counted-stop : (counts : Counts) (entries : List Entry) (after : ℕ) (stop : Option Event) (tag : Tag) →
     AreCounted counts entries after stop → stop ≡ None → AreCounted counts entries after (Some (Stop tag))
 counted-stop counts entries after stop tag counted none = record {
@@ -229,7 +229,7 @@ counted-stop counts entries after stop tag counted none = record {
   few = counted.few;
 }
 
--- what contracts say of a journal
+-- what contracts see of a journal is a history within its limits
 pub is_journal : (counts : Counts) (entries : List Entry) (after : ℕ) (stop : Option Event) → AreCounted counts entries after stop →
     IsJournal (record { limit = counts.limit; events = kept_events entries after stop })
 is_journal counts entries after stop counted = record {

@@ -1,5 +1,5 @@
 -- The runs of a journal are those of its events.
-use Rattle.std.proofs.Common.{◌≡◌, ℕ, zero, suc, false, List, [], ◌∷◌, ◌++◌, replicate, Option, Some, None, refl, sym, ap, ap₂, ◌∙◌, arith, append_assoc, append-nil}
+use Rattle.std.proofs.Common.{◌≡◌, ℕ, ◌-◌, zero, suc, Bool, true, false, drop, List, [], ◌∷◌, ◌++◌, replicate, Option, Some, None, refl, sym, ap, ap₂, ◌∙◌, arith, append_assoc, append-nil}
 use Rattle.std.specs.Prelude.{◌&&◌}
 use Rattle.std.specs.List.{flat_map, AllByRecursion}
 use Rattle.std.proofs.lemmas.List.Concat.{flat_map-append}
@@ -9,6 +9,7 @@ use Rattle.play_journal.specs.Runs.{AreApart, AreRuns, HasItsTimes, Run, events_
 use Rattle.play_journal.specs.declared.entries.Entry.{Entry}
 use Rattle.play_journal.specs.Kept.{HoldsCommands, IsStop, IsStopIfAny, entry_events, kept_events, stop_events}
 use Rattle.play_journal.specs.Reading.{entry_runs, event_runs, one_run, runs_left, tick_runs}
+use Rattle.play_journal.specs.inner.Left.{events_left, stop_left}
 
 -- the events of runs
 events-ticks : (n : ℕ) → flat_map events_of (tick_runs n) ≡ replicate n Tick
@@ -115,3 +116,48 @@ are_runs entries after stop hold last = record {
       (times-append (tick_runs after) (event_runs stop) (times-ticks after) (times-stop stop));
   apart = apart-entries entries (tick_runs after ++ event_runs stop) hold (apart-end after stop last);
 }
+
+-- the runs that are read behind a place among ticks before an entry are those of the events that are left
+pub resumed_runs : (given : ℕ) (entry : Entry) (entries : List Entry) (after : ℕ) (stop : Option Event)
+    → AllByRecursion (λ (e : Entry). HoldsCommands e.event) (entry ∷ entries) → IsStopIfAny stop
+    → AreRuns (tick_runs (entry.ticks - given) ++ runs_left (Some entry.event) entries after stop) (events_left given (entry ∷ entries) after stop)
+resumed_runs given entry entries after stop hold last =
+    let left = entry.ticks - given in
+    let later = runs_left None entries after stop in
+    let are = are_runs entries after stop hold.1 last in
+    let other = no_tick entry.event hold.0 in
+    record {
+      whole =
+          flat_map-append events_of (tick_runs left) (one_run entry.event ∷ later)
+          ∙ ap₂ (λ xs ys. xs ++ ys) (events-ticks left) (ap (λ events. entry.event ∷ events) are.whole);
+      times = times-append (tick_runs left) (one_run entry.event ∷ later) (times-ticks left) (times-one entry.event, are.times);
+      apart = apart-ticks left entry.event later other (apart-event entry.event later other are.apart);
+    }
+
+-- the runs that are read behind a place after the last entry are those of the events that are left
+pub last_runs : (given after : ℕ) (stop : Option Event) → IsStopIfAny stop → AreRuns (runs_left None [] (after - given) stop) (events_left given [] after stop)
+last_runs given after stop last = are_runs [] (after - given) stop tt last
+
+-- without the first k, entries that hold commands still do
+pub hold-drop : (k : ℕ) (entries : List Entry) → AllByRecursion (λ (e : Entry). HoldsCommands e.event) entries
+    → AllByRecursion (λ (e : Entry). HoldsCommands e.event) (drop k entries)
+hold-drop zero entries hold = hold
+hold-drop (suc k) [] hold = tt
+hold-drop (suc k) (entry ∷ entries) hold = hold-drop k entries hold.1
+
+pub stop-left : (stopped : Bool) (stop : Option Event) → IsStopIfAny stop → IsStopIfAny (stop_left stopped stop)
+stop-left false stop last = last
+stop-left true stop last = tt
+
+-- each run that is read has its times, wherever the reading begins
+pub times-left : (entries : List Entry) (after : ℕ) (stop : Option Event)
+    → AllByRecursion (λ (run : Run). HasItsTimes run.event run.times) (runs_left None entries after stop)
+times-left entries after stop =
+    times-append (flat_map entry_runs entries) (tick_runs after ++ event_runs stop) (times-entries entries)
+    (times-append (tick_runs after) (event_runs stop) (times-ticks after) (times-stop stop))
+
+pub times-resumed : (given : ℕ) (event : Event) (entries : List Entry) (after : ℕ) (stop : Option Event)
+    → AllByRecursion (λ (run : Run). HasItsTimes run.event run.times) (tick_runs given ++ runs_left (Some event) entries after stop)
+times-resumed given event entries after stop =
+    times-append (tick_runs given) (runs_left (Some event) entries after stop) (times-ticks given)
+    (times-one event, times-left entries after stop)

@@ -11,7 +11,7 @@ pub record JournalView : Type 0 where
   pub limit : ℕ
   pub events : List Event
 
--- a journal with one event more at its end
+-- a journal with one more event at its end
 abbrev pub followed_by : Event → JournalView → JournalView
 followed_by event journal = record journal { events = journal.events ++ event ∷ [] }
 

@@ -24,6 +24,6 @@ event_runs (Some event) = one_run event ∷ []
 abbrev pub entry_runs : Entry → List Run
 entry_runs entry = tick_runs entry.ticks ++ one_run entry.event ∷ []
 
--- an event whose ticks were given, entries, the ticks after them, and a stop
+-- the runs of an event whose ticks were given, of entries, of the ticks after them, and of a stop
 abbrev pub runs_left : Option Event → List Entry → ℕ → Option Event → List Run
 runs_left next entries after stop = event_runs next ++ (flat_map entry_runs entries ++ (tick_runs after ++ event_runs stop))

@@ -10,7 +10,7 @@ pub record Run : Type 0 where
   pub event : Event
   pub times : ℕ
 
--- the run that an item tells
+-- the run of an item
 abbrev pub run_of : EventRun → Run
 run_of item = record { event = item.event.now; times = item.times }
 
@@ -25,7 +25,7 @@ is_tick (Batch tag cmds) = false
 is_tick Tick = true
 is_tick (Stop tag) = false
 
--- a run of ticks has at least one, and another event stands alone
+-- a run of ticks has at least one, and a run of another event has exactly one
 abbrev pub HasItsTimes : Event → ℕ → Type 0
 HasItsTimes (Do tag cmd) times = times ≡ 1
 HasItsTimes (Batch tag cmds) times = times ≡ 1

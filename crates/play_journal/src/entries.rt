@@ -1,5 +1,5 @@
 //! The commands of a journal, with the ticks before each.
-ghost use Rattle.std.specs.Prelude.{◌≡◌, ◌∷◌, ◌++◌, [], IfOk, OnOk, OnErr};
+ghost use Rattle.std.specs.Prelude.{◌≡◌, ◌∷◌, ◌++◌, [], IfOk, OnOk, OnErr, drop};
 ghost use Rattle.std.specs.Iterator.{YieldsFirstRef, item_count};
 ghost use Rattle.std.specs.List.{flat_map};
 
@@ -20,15 +20,15 @@ pub(crate) struct Entry {
 /// The most bytes that a command of a journal takes.
 const COMMAND_BYTES: usize = 128;
 
-// A command, or one that is alone in its batch, takes an entry.
+// A command takes an entry, also one that is alone in its batch.
 const _: () = prove!(size_of::<Entry>() <= 88);
 
 const _: () = prove!(size_of::<Entry>() <= COMMAND_BYTES);
 
-// The commands of a larger batch lie beside its entry. Those of two take the most for each.
+// The commands of a larger batch are kept beside its entry. A batch of two takes the most bytes for each command.
 const _: () = prove!(size_of::<Entry>() + 2 * size_of::<Cmd>() <= 2 * COMMAND_BYTES);
 
-/// Entries in order. They lie in blocks of one size, which are not moved when entries are added.
+/// Entries in order. They are kept in blocks of `BLOCK_ENTRIES`, which are not moved when entries are added.
 #[derive(Debug, Drop)]
 pub(crate) struct EntryList {
     blocks: Vec<Vec<Entry>>,
@@ -45,8 +45,8 @@ impl Model for EntryList {
 }
 
 impl EntryList {
-    /// Returns a list without entries that has room for the blocks of `most` entries. Their memory is taken block by
-    /// block.
+    /// Creates a list without entries, with room for the list of the blocks of `most` entries. The blocks are allocated
+    /// one by one.
     pub(crate) fn new(alloc: Global, most: usize) -> Result<EntryList, AllocError>
         ensures { IfOk result (λ entries. entries ≡ []) }
     {
@@ -63,6 +63,13 @@ impl EntryList {
         push_entry(&mut self.blocks, alloc, entry)
     }
 
+    /// Returns the entries in order, without the first `at`.
+    pub(crate) fn iter_from(&self, at: usize) -> Entries<'_>
+        ensures { result ≡ drop at self.now }
+    {
+        entries_from(self.blocks.as_slice(), at)
+    }
+
     /// Returns the entries in order.
     pub(crate) fn iter(&self) -> Entries<'_>
         ensures { result ≡ self.now }
@@ -71,6 +78,27 @@ impl EntryList {
             entries: &[],
             blocks: self.blocks.as_slice(),
         }
+    }
+}
+
+/// Returns the entries of the blocks, without the first `at`. Whole blocks are passed over at once.
+fn entries_from(mut blocks: &[Vec<Entry>], at: usize) -> Entries<'_>
+    ensures { result ≡ drop at (flat_map (λ block. block.items) blocks.entry.now) }
+{
+    let mut left = at;
+    while let Some((block, rest)) = blocks.split_first() {
+        if left < block.len() {
+            return Entries {
+                entries: &block.as_slice()[left..],
+                blocks: rest,
+            };
+        }
+        left -= block.len();
+        blocks = rest;
+    }
+    Entries {
+        entries: &[],
+        blocks: &[],
     }
 }
 

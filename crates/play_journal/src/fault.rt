@@ -9,7 +9,7 @@ use std::fmt;
 pub enum PushFault {
     /// Memory ran out.
     OutOfMemory,
-    /// The commands of the event would have made more than the limit, if `held` commands are held.
+    /// `held` commands are held, and those of the event would exceed the limit.
     JournalFull { held: u32 },
 }
 

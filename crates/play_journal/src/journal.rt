@@ -1,26 +1,32 @@
 //! The journal of a stage.
-ghost use Rattle.std.specs.Prelude.{◌≡◌, ◌+◌, ◌<◌, ◌≤◌, [], IfOk, IfErr, OnOk, OnErr, None, length};
+ghost use Rattle.std.specs.Prelude.{◌≡◌, ◌+◌, ◌++◌, ◌<◌, ◌≤◌, [], IfOk, IfErr, List, OnOk, OnErr, None, length, option_copied};
+ghost use Rattle.std.specs.List.{AllByRecursion};
 ghost use Rattle.play_types.specs.History.{held, held_by, stop_at, ticks};
+ghost use Rattle.play_types.specs.declared.event.Event.{Event};
 ghost use Rattle.play_types.specs.declared.event.Event.TheVariants.{Batch, Do, Stop, Tick};
 ghost use Rattle.play_types.specs.declared.event.TheConstants.{MAX_TICKS};
 ghost use Rattle.play_journal.specs.Journal.{IsJournal, IsRefused, followed_by};
 ghost use Rattle.play_journal.specs.Kept.{HoldsCommands};
-ghost use Rattle.play_journal.specs.Runs.{AreRuns};
+ghost use Rattle.play_journal.specs.Places.{Copies, passed};
+ghost use Rattle.play_journal.specs.Runs.{AreRuns, HasItsTimes};
+ghost use Rattle.play_journal.specs.inner.Left.{stop_left};
 
 use crate::entries::{Entry, EntryList};
 use crate::events::Events;
 use crate::fault::PushFault;
+use crate::place::Place;
+use crate::room::LogRoom;
 use play_types::{Cmd, CmdList, Event, Tag};
 use std::alloc::{AllocError, Global};
 use std::marker::Model;
 
 /// The events that have happened, in order.
 ///
-/// Each command takes one entry of at most 88 bytes, in which the number of the ticks before it stands too. The entries lie in
-/// blocks of 1,024, which are never moved and of which at most one is not full, and the room for the list of the blocks
-/// is taken when the journal is created. So a journal that holds 4,194,304 commands takes at most 353 MiB, also while it
-/// grows, and each push takes a bounded number of steps. Ticks and the stop stand in the journal itself and take no
-/// further memory.
+/// A command, also one that is alone in its batch, takes one entry of at most 88 bytes, which has the number of the ticks
+/// before it too. A larger batch takes an entry, and at most 56 bytes more for each command. The entries are kept in blocks of
+/// 1,024, which are never moved and of which at most one is not full, and the list of the blocks is allocated when the
+/// journal is created. So a journal that holds 4,194,304 commands outside larger batches takes at most 353 MiB, also while
+/// it grows, and each push takes a bounded number of steps. Ticks and the stop are kept inline and allocate nothing.
 #[derive(Debug, Drop)]
 pub struct Journal {
     limit: u32,
@@ -32,7 +38,7 @@ pub struct Journal {
     // The ticks after the last entry.
     after: u64,
     stop: Option<Event>,
-    // A tick, which the runs of ticks lend.
+    // A tick, which the runs of ticks borrow.
     tick: Event,
 }
 
@@ -82,7 +88,7 @@ impl Journal {
         Ok(())
     }
 
-    /// Adds a batch of commands at the end, which are one event. There is at least one command. The batch is refused if
+    /// Adds a batch of commands at the end, as one event. There is at least one command. The batch is refused if
     /// the commands held and those of the batch are more than the limit, which is tested first, and if memory runs out.
     /// After a fault the journal is as before. No stop may be held.
     pub fn push_batch(&mut self, alloc: Global, tag: Tag, cmds: &[Cmd]) -> Result<(), PushFault>
@@ -128,7 +134,7 @@ impl Journal {
         Ok(())
     }
 
-    /// Adds a tick at the end. No stop may be held, and fewer than 281,474,976,710,656 ticks. It takes no memory.
+    /// Adds a tick at the end. No stop may be held, and the ticks held must be fewer than 281,474,976,710,656.
     pub fn push_tick(&mut self)
         requires running { stop_at self.old.events ≡ None }
         requires time { ticks self.old.events < MAX_TICKS }
@@ -139,7 +145,7 @@ impl Journal {
         self.before += 1;
     }
 
-    /// Adds the stop at the end. No stop may be held. It takes no memory.
+    /// Adds the stop at the end. No stop may be held.
     pub fn push_stop(&mut self, tag: Tag)
         requires { stop_at self.old.events ≡ None }
         ensures { self.new ≡ followed_by (Stop tag) self.old }
@@ -157,6 +163,55 @@ impl Journal {
             self.after,
             self.stop.as_ref(),
         )
+    }
+
+    /// Returns the events behind a place in order, as [`Journal::events`] does. Of a run of ticks that begins before the
+    /// place, only the ticks behind it are returned. The place is one of this journal, from now or earlier.
+    ///
+    /// Blocks of 1,024 entries before the place are skipped whole, so finding the place takes one step for each of them,
+    /// which reads a length.
+    pub fn events_since(&self, since: Place) -> Events<'_>
+        ensures since { (past later : List Event) → self.now.events ≡ past ++ later → since ≡ passed past → AreRuns result later }
+        ensures times { AllByRecursion (λ run. HasItsTimes run.event run.times) result }
+        ensures range { IsJournal self.now }
+    {
+        let mut entries = self.entries.iter_from(since.entries);
+        let stop = stop_behind(since.stopped, &self.stop);
+        match entries.next() {
+            Some(entry) => Events::resumed(
+                &self.tick,
+                entry.ticks.saturating_sub(since.ticks),
+                &entry.event,
+                entries,
+                self.after,
+                stop,
+            ),
+            None => Events::new(
+                &self.tick,
+                entries,
+                self.after.saturating_sub(since.ticks),
+                stop,
+            ),
+        }
+    }
+
+    /// Copies events behind a place into `room`, which is emptied first, moves the place behind those that it copied, and
+    /// returns whether they are all that follow. It copies as many runs as fit, each whole: at most 256 runs, and 512
+    /// commands of batches. Of a run of ticks that begins before the place, the ticks behind it are a run. The place is one
+    /// of this journal, from now or earlier.
+    pub fn copy_since(&self, place: &mut Place, room: &mut LogRoom) -> bool
+        ensures { (past later : List Event) → self.now.events ≡ past ++ later → place.old ≡ passed past
+            → Copies past later result place.new room.new }
+    {
+        let _limit = self.limit();
+        room.clear();
+        for run in self.events_since(*place) {
+            if !room.add(run.event, run.times) {
+                return false;
+            }
+            place.pass(run.event, run.times);
+        }
+        true
     }
 
     /// Returns the number of commands held, at most the limit. Ticks and the stop are no commands.
@@ -193,4 +248,11 @@ impl Journal {
     {
         self.limit
     }
+}
+
+/// Returns the stop, or `None` if there is none or it was passed.
+fn stop_behind(passed: bool, stop: &Option<Event>) -> Option<&Event>
+    ensures { option_copied result ≡ stop_left passed stop.now }
+{
+    if passed { None } else { stop.as_ref() }
 }

@@ -11,7 +11,11 @@ pub mod examples;
 mod fault;
 mod journal;
 pub mod laws;
+mod place;
+mod room;
 
 pub use events::{EventRun, Events};
 pub use fault::PushFault;
 pub use journal::Journal;
+pub use place::Place;
+pub use room::{LogRoom, LogRun, LogRuns, ROOM_COMMANDS, ROOM_RUNS};

@@ -21,11 +21,11 @@ use Rattle.play_outside.specs.declared.folder.FileFault.TheVariants as file
 pub Rose-le : (before after : ℕ) → Rose before after → before ≤ after
 Rose-le before after rose = omega arith
 
--- a count that rose before it stood or rose, rose in the whole
+-- a count that rose and then did not fall rose in all
 pub Rose-then : (before middle after : ℕ) → Rose before middle → middle ≤ after → Rose before after
 Rose-then before middle after rose le = omega arith
 
--- a count that rose after it stood or rose, rose in the whole
+-- a count that did not fall and then rose rose in all
 pub Rose-after : (before middle after : ℕ) → before ≤ middle → Rose middle after → Rose before after
 Rose-after before middle after le rose = omega arith
 
@@ -36,7 +36,7 @@ Reads-count read.End buffer before after reads =
     let same : after.faults ≡ before.faults = ap (λ (s : SourceState). s.faults) reads.1 in omega arith
 Reads-count read.Failed buffer before after reads = let rose = reads.1 in omega arith
 
--- the count of a sink rose in a failed write, after it took bytes
+-- a failed write raises the count of a sink, also after it took bytes
 Failed-rose : (before state after : SinkState) → state.faults ≡ before.faults → after ≡ after_fault state → Rose before.faults after.faults
 Failed-rose before state after same failed =
     let count : after.faults ≡ one_more state.faults = ap (λ (s : SinkState). s.faults) failed in omega arith

@@ -16,7 +16,7 @@ bytes_of_file file = file.bytes.items
 abbrev name_of_file : MemFile → List ℕ
 name_of_file file = string_bytes file.name
 
--- finding by a test of an image is finding the image of what is found
+-- finding in the images of a list gives the image of what is found in the list
 option_map-find-map : {X Y Z : Type 0} (g : Y → Z) (f : X → Y) (test : Y → Bool) (xs : List X)
     → option_map g (find test (map f xs)) ≡ option_map (λ x. g (f x)) (find (λ x. test (f x)) xs)
 option_map-find-map g f test [] = refl

@@ -1,4 +1,4 @@
--- Texts that are written part by part, if a `?` follows each part.
+-- Texts that are written part by part, with a `?` after each part.
 use Rattle.std.proofs.Common.{◌≡◌, ℕ, ◌<◌, List, [], ◌∷◌, ◌++◌, take, length, get_or, refl, subst}
 use Rattle.std.specs.List.{flat_map}
 use Rattle.std.proofs.lemmas.List.{length_push}
@@ -15,13 +15,13 @@ pub added-then : (result : Sent) (start a b waiting more : List ℕ) (first stat
 added-then result start a b waiting more first state after so_far step =
     Adds-end result start (a ++ b) a b waiting more first state after refl so_far step
 
--- a write failed as the first part was added, and so the text was left
+-- a write failed as the first part was added, and so the `?` returned
 pub added-left : (one left : Sent) (start a rest more : List ℕ) (first after : SinkState)
     → Adds one (start ++ a) more first after → one ≡ sent.Failed → left ≡ sent.Failed → Adds left (start ++ (a ++ rest)) more first after
 added-left one left start a rest more first after step failed leaves =
     rw leaves (Adds-first start a rest more first after (rw failed at step))
 
--- a write failed as the text was added, and so it was left
+-- a write failed as the text was added, and so the `?` returned
 pub gathered-left : (one left : Sent) (text more : List ℕ) (first after : SinkState)
     → Adds one text more first after → one ≡ sent.Failed → left ≡ sent.Failed → Sends left text first after
 gathered-left one left text more first after step failed leaves = rw leaves (rw failed at step).0

@@ -20,7 +20,7 @@ drop-piece bytes piece others given count is_piece within =
     rw (front_piece bytes piece others given count is_piece within, ← drop-drop count given bytes)
     (sym (take-append-drop count (drop given bytes)))
 
--- what was given before, and then the piece, is what is given after it
+-- what was given before, and then the piece, is what was given after it
 pub take-piece : (bytes piece others : List ℕ) (given count : ℕ)
     → piece ≡ take count (take (length bytes - given) (drop given bytes)) → count ≤ length (take (length bytes - given) (drop given bytes))
     → take (given + count) bytes ≡ take given bytes ++ take count (piece ++ others)

@@ -32,6 +32,6 @@ Gives-end bytes (Some all) None gives at_end = cc
 Gives-end bytes (Some all) (Some rest) gives at_end =
     let whole : all ≡ bytes ++ rest = cc in rw (whole, at_end, append-nil) refl
 
--- at the end all that was left has been read, if it is told
+-- at the end all that was left has been read, if the source exposes this
 pub Consumes-end : (bytes : List ℕ) (before after : SourceState) → Consumes bytes before after → IsAtEnd after → IfSome before.left (λ all. all ≡ bytes)
 Consumes-end bytes before after reads at_end = Gives-end bytes before.left after.left reads.gives at_end

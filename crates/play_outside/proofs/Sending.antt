@@ -37,14 +37,14 @@ Sends-then sent.Failed a b first state after all rest = Fails-after a b first af
 pub taken_more : (done piece : List ℕ) (first state after : SinkState) → state ≡ after_taking first done → Sends sent.All piece state after → after ≡ after_taking first (done ++ piece)
 taken_more done piece first state after so_far all = all ∙ ap (λ (s : SinkState). after_taking s piece) so_far ∙ after_taking-after_taking first done piece
 
--- the sink failed in a piece of the text, after what stands before it was taken
+-- the sink failed in a piece of the text, after what comes before it was taken
 pub Fails-within : (whole done piece rest : List ℕ) (first state after : SinkState) → whole ≡ (done ++ piece) ++ rest → state ≡ after_taking first done → Fails piece state after → Fails whole first after
 Fails-within whole done piece rest first state after parts so_far fails =
     subst (λ text. Fails text first after) (sym parts)
     (Fails-before (done ++ piece) rest first after
     (Fails-after done piece first after (subst (λ s. Fails piece s after) so_far fails)))
 
--- the last piece of the text was sent, after what stands before it was taken
+-- the last piece of the text was sent, after what comes before it was taken
 pub Sends-last : (result : Sent) (whole done piece : List ℕ) (first state after : SinkState) → whole ≡ done ++ piece → state ≡ after_taking first done → Sends result piece state after → Sends result whole first after
 Sends-last sent.All whole done piece first state after parts so_far all =
     taken_more done piece first state after so_far all ∙ ap (after_taking first) (sym parts)

@@ -1,4 +1,4 @@
--- What a clock tells of itself.
+-- What contracts see of a clock.
 use Rattle.std.specs.Prelude.{ℕ, Option, Bool, true, ◌+◌, option_map}
 use Rattle.play_outside.specs.Faults.{one_more}
 
@@ -7,16 +7,16 @@ pub record ClockTold : Type 0 where
   pub pulses : ℕ
   pub closed : Bool
 
--- what was given, if the clock tells it, and how often it has failed
+-- what was given, if the clock exposes it, and how often it has failed
 pub record ClockState : Type 0 where
   pub told : Option ClockTold
   pub faults : ℕ
 
--- what is told after one more pulse
+-- what is exposed after one more pulse
 abbrev pub one_pulse : ClockTold → ClockTold
 one_pulse told = record told { pulses = told.pulses + 1 }
 
--- what is told after the clock answered Closed
+-- what is exposed after the clock answered Closed
 abbrev pub clock_closed : ClockTold → ClockTold
 clock_closed told = record told { closed = true }
 

@@ -19,7 +19,7 @@ abbrev pub bytes_at : List ℕ → List ℕ → Files → Option (List ℕ)
 bytes_at folder name files =
     option_map (λ file. file.bytes) (find (λ file. bytes_eq file.folder folder && bytes_eq file.name name) files.media)
 
--- what the folder holds was found, if it is told, and nothing changed
+-- what was found is what the folder holds, if the folder exposes it
 abbrev pub IsHeld : {A : Type 0} → (Files → Option A) → A → Option Files → Type 0
 IsHeld look found None = Unit {0}
 IsHeld look found (Some files) = look files ≡ Some found

@@ -1,7 +1,7 @@
--- What a folder of configuration and media tells of itself.
+-- What contracts see of a folder of configuration and media.
 use Rattle.std.specs.Prelude.{ℕ, Option, List}
 
--- a file: the folder that it lies in, its name and its bytes
+-- a file: its folder, its name and its bytes
 pub record MediaFile : Type 0 where
   pub folder : List ℕ
   pub name : List ℕ
@@ -17,7 +17,7 @@ pub record Files : Type 0 where
   pub configs : List ConfigFile
   pub media : List MediaFile
 
--- what is held, if it is told, and how often reading has failed
+-- what is held, if the folder exposes it, and how often reading has failed
 pub record FolderState : Type 0 where
   pub files : Option Files
   pub faults : ℕ

@@ -1,4 +1,4 @@
--- What a writer does that gathers small pieces.
+-- What a writer that gathers small pieces does.
 use Rattle.std.specs.Prelude.{◌≡◌, ℕ, List, [], ◌++◌}
 use Rattle.play_outside.specs.SinkState.{SinkState, after_taking}
 use Rattle.play_outside.specs.Sink.{Fails}

@@ -6,12 +6,12 @@ use Rattle.play_outside.specs.SinkState.{SinkState}
 use Rattle.play_outside.specs.declared.link.LinkStep.{LinkStep}
 use Rattle.play_outside.specs.declared.link.LinkStep.TheVariants.{Got, End, Again, Failed}
 
--- how many bytes were taken, 0 if the link does not tell them
+-- how many bytes were taken, or 0 if the link does not expose them
 abbrev pub count_taken : Option (List ℕ) → ℕ
 count_taken None = 0
 count_taken (Some bytes) = length bytes
 
--- what is told of the reads after one more, which gave these bytes
+-- the exposed reads after one more, which gave these bytes
 abbrev pub one_look : ℕ → List ℕ → Reading → Reading
 one_look taken bytes reading =
     record reading {

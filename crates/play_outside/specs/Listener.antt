@@ -1,10 +1,10 @@
--- What asking a listener does.
+-- What a call of a listener does.
 use Rattle.std.specs.Prelude.{◌≡◌, List, [], ◌∷◌}
 use Rattle.play_outside.specs.ListenerState.{ListenerState, after_came, after_none_came, after_listener_closed, after_listener_fault}
 use Rattle.play_outside.specs.declared.listener.Arrival.{Arrival}
 use Rattle.play_outside.specs.declared.listener.Arrival.TheVariants.{Came, Again, Closed, Failed}
 
--- a link that came meets the fact
+-- a link that came meets `Fact`
 abbrev pub IfCame : {L : Type 0} → Arrival L → (L → Type 0) → Type 0
 IfCame (Came line) Fact = Fact line
 IfCame Again Fact = Unit {0}
@@ -18,7 +18,7 @@ Arrives Again before after = after ≡ after_none_came before
 Arrives Closed before after = after ≡ after_listener_closed before
 Arrives Failed before after = after ≡ after_listener_fault before
 
--- the answer is the first of those that were planned, Closed if none was left, or Failed
+-- the answer is the first of those that were planned, Closed if none was left, or Failed, which uses up none
 abbrev pub LeavesAnswers : {L : Type 0} → Arrival L → List (Arrival L) → List (Arrival L) → Type 0
 LeavesAnswers (Came line) before after = before ≡ Came line ∷ after
 LeavesAnswers Again before after = before ≡ Again ∷ after

@@ -1,4 +1,4 @@
--- What a listener tells of itself.
+-- What contracts see of a listener.
 use Rattle.std.specs.Prelude.{ℕ, Option, Bool, true, ◌+◌, ◌-◌, List, [], ◌∷◌, ◌++◌, option_map}
 use Rattle.play_outside.specs.Faults.{one_more}
 
@@ -7,7 +7,7 @@ pub record ListenerTold (L : Type 0) : Type 0 where
   pub returned : List L
   pub closed : Bool
 
--- what was told, if the listener tells it; how many links came and were not given back; how often it found no link
+-- what is exposed, if the listener exposes it; how many links came and were not given back; how often it found no link
 -- yet; how often it has failed; and its mark
 pub record ListenerState (L : Type 0) : Type 0 where
   pub told : Option (ListenerTold L)
@@ -16,11 +16,11 @@ pub record ListenerState (L : Type 0) : Type 0 where
   pub faults : ℕ
   pub mark : ℕ
 
--- what is told after the listener answered Closed
+-- what is exposed after the listener answered Closed
 abbrev pub listener_closed : {L : Type 0} → ListenerTold L → ListenerTold L
 listener_closed told = record told { closed = true }
 
--- what is told after one more link was given back
+-- what is exposed after one more link was given back
 abbrev pub one_returned : {L : Type 0} → L → ListenerTold L → ListenerTold L
 one_returned line told = record told { returned = told.returned ++ line ∷ [] }
 

@@ -1,4 +1,4 @@
--- What a link tells of its reads.
+-- What a link exposes of its reads.
 use Rattle.std.specs.Prelude.{ℕ, Bool, false, List, []}
 use Rattle.play_outside.specs.declared.link.Look.{Look}
 

@@ -25,7 +25,7 @@ abbrev pub Sends : Sent → List ℕ → SinkState → SinkState → Type 0
 Sends sent.All bytes before after = after ≡ after_taking before bytes
 Sends sent.Failed bytes before after = Fails bytes before after
 
--- where a `?` goes on all was written, and if it leaves a write failed
+-- what a `?` was given: `All` if it went on, and `Failed` if it returned
 abbrev pub sent_from : {T : Type 0} → ControlFlow WriteFailed T → Sent
 sent_from (Continue output) = sent.All
 sent_from (Break failed) = sent.Failed

@@ -1,12 +1,12 @@
--- What a sink says of itself.
+-- What contracts see of a sink.
 use Rattle.std.specs.Prelude.{ℕ, Option, Some, None, List, ◌++◌}
 use Rattle.play_outside.specs.Faults.{one_more}
 use Rattle.play_outside.specs.Reading.{Reading}
 
--- the bytes that were taken, if the sink says which, how many of its calls failed, its mark, and the bytes that it had
--- taken when a write last failed, if a write has failed and the sink says which; then, of a link, what it tells of its
--- reads, if it tells of them, and how many of its reads found nothing yet. A sink that is no link tells of no reads,
--- and 0 of them found nothing yet
+-- the bytes that were taken, if the sink exposes them, how many of its calls failed, its mark, and the bytes that it had
+-- taken when a write last failed, if a write has failed and the sink exposes them; then, of a link, its reads, if it
+-- exposes them, and how many of its reads found nothing yet. A sink that is no link has no reads, and 0 of them found
+-- nothing yet
 pub record SinkState : Type 0 where
   pub taken : Option (List ℕ)
   pub faults : ℕ

@@ -5,7 +5,7 @@ use Rattle.play_outside.specs.SourceState.{SourceState}
 use Rattle.play_outside.specs.declared.source.ReadStep.{ReadStep}
 use Rattle.play_outside.specs.declared.source.ReadStep.TheVariants.{Got, End, Failed}
 
--- what was left is these bytes and what is left now, if it is told
+-- what was left is these bytes, then what is left now, if the source exposes it
 abbrev pub Gives : List ℕ → Option (List ℕ) → Option (List ℕ) → Type 0
 Gives bytes before None = before ≡ None
 Gives bytes before (Some rest) = before ≡ Some (bytes ++ rest)
@@ -15,7 +15,7 @@ pub record Consumes (bytes : List ℕ) (before after : SourceState) : Type 0 whe
   pub gives : Gives bytes before.left after.left
   pub faults : after.faults ≡ before.faults
 
--- nothing is left, if it is told
+-- nothing is left, if the source exposes this
 abbrev pub IsAtEnd : SourceState → Type 0
 IsAtEnd state = IfSome state.left (λ rest. rest ≡ [])
 

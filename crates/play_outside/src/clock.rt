@@ -1,4 +1,4 @@
-//! What gives the beat.
+//! The clock that gives the pulses of a server.
 ghost use Rattle.std.specs.Prelude.{◌≡◌};
 ghost use Rattle.play_outside.specs.ClockState.{ClockState};
 ghost use Rattle.play_outside.specs.Clock.{Beats};
@@ -14,18 +14,19 @@ pub enum Beat {
     Failed,
 }
 
-/// Pulses, one for each tick. A clock is told how full the history is, since it may be the only device of a thread that makes ticks.
+/// Pulses, one for each tick. A clock also receives the number of commands in the history, since it may be the only device of
+/// the thread that makes ticks.
 pub trait Clock: Send + Drop {
-    /// How many pulses were given and whether the clock has answered `Closed`, if it tells this, and how many faults
-    /// there were.
+    /// How many pulses were given and whether the clock has answered `Closed`, if it exposes this, and the number of
+    /// faults.
     ghost state: { Self → ClockState };
 
     /// Waits for the next pulse. A failed call raises the count of faults by one.
     fn next(&mut self) -> Beat
         ensures { Beats result (state self.old) (state self.new) };
 
-    /// Is told how many commands the history holds. A clock that has a person to tell may do so; what it gave and whether it has
-    /// failed stay as they were.
+    /// Receives the number of commands that the history holds. A clock may report it to an operator; its pulses and faults stay as
+    /// they were.
     fn holds(&mut self, commands: u32)
         ensures { state self.new ≡ state self.old }
     {

@@ -38,7 +38,7 @@ impl From<AllocError> for FileFault {
 
 /// Configurations by their paths, and media files by their folders and names.
 pub trait MediaDir {
-    /// What is held, if it is told, and how many faults there were.
+    /// The files that are held, if exposed, and the number of faults.
     ghost state: { Self → FolderState };
 
     /// Reads the bytes of the configuration at a path.

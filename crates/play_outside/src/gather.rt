@@ -8,8 +8,7 @@ ghost use Rattle.play_outside.specs.declared.sink.Sent.TheVariants.{All};
 use super::{Sent, Sink, send};
 use std::marker::Model;
 
-/// Bytes that wait to be written together, at most `ROOM` of them. They lie in the value itself. Contracts see the bytes
-/// that wait.
+/// Bytes that wait to be written together, at most `ROOM` of them, kept inline. Contracts see the bytes that wait.
 #[derive(Drop)]
 pub struct Gather<const ROOM: usize> {
     bytes: [u8; ROOM],
@@ -27,7 +26,7 @@ impl<const ROOM: usize> Model for Gather<ROOM> {
 }
 
 impl<const ROOM: usize> Gather<ROOM> {
-    /// Gathers, with no byte waiting yet.
+    /// Creates a gatherer with no byte waiting.
     pub fn new() -> Self
         ensures { result ≡ [] }
     {
@@ -37,9 +36,9 @@ impl<const ROOM: usize> Gather<ROOM> {
         }
     }
 
-    /// Adds bytes after those that wait. Nothing is written while there is room. If there is none, the bytes that wait
-    /// are written first, and then the added ones wait, or are written too if they are more than `ROOM`. After a
-    /// failed write nothing more is written, and no byte waits.
+    /// Adds bytes after those that wait. Nothing is written while there is room for them. If there is not, the bytes
+    /// that wait are written first, and then the added ones wait, or are written too if they are more than `ROOM`.
+    /// After a failed write nothing more is written, and no byte waits.
     pub fn add<K: Sink>(&mut self, bytes: &[u8], to: &mut K) -> Sent
         ensures adds { Adds result (self.old ++ bytes.now) self.new (K.state to.old) (K.state to.new) }
         ensures waits { length self.old + length bytes.now ≤ ROOM → (result ≡ All) × (self.new ≡ self.old ++ bytes.now) × (K.state to.new ≡ K.state to.old) }

@@ -2,8 +2,9 @@
 //! links and doors.
 //!
 //! Each object counts its faults. The count never falls, a call returns `Failed` only if the count rose in that
-//! call, and any other call leaves the count as it was. An object may tell what it has left, took or holds, so that a
-//! contract can speak of bytes; the contracts of an object that tells nothing claim nothing about them.
+//! call, and any other call leaves the count as it was. The ghost state of an object may expose what it has left,
+//! took or holds, so that contracts can speak of bytes; the contracts of an object that exposes nothing claim nothing about
+//! them.
 #![tactic(auto)]
 
 mod clock;
@@ -15,6 +16,7 @@ mod link;
 mod listener;
 mod memory;
 mod plain;
+mod rest;
 mod sink;
 mod source;
 
@@ -30,5 +32,6 @@ pub use memory::{
     MemSource, PlannedFaults,
 };
 pub use plain::{PlainClock, PlainDoor, PlainLink, PlainMedia, PlainSink, PlainSource};
+pub use rest::Rest;
 pub use sink::{Sent, Sink, WriteFailed, WriteStep, send, send_number, send_parts};
 pub use source::{ReadStep, Source};

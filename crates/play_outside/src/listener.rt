@@ -6,7 +6,7 @@ ghost use Rattle.play_outside.specs.Fresh.{IsNewSink};
 
 use super::Link;
 
-/// How many links of a listener may be out, which came and were not given back.
+/// The most links of a listener that may be out: that came and were not given back.
 pub const MOST_AWAY: u32 = 4_294_967_295;
 
 /// What a listener answered.
@@ -22,23 +22,23 @@ pub enum Arrival<L> {
     Failed,
 }
 
-/// A place where links come, and where they are given back.
+/// A source of links, which are given back to it after use.
 pub trait Listener: Send + Drop {
     /// The links that come.
     type Line: Link;
 
-    /// The links that were given back and whether the listener has answered `Closed`, if it tells this; how many
-    /// links are out; how often there was no link yet; how many faults there were; and the mark, which no call changes.
+    /// The links that were given back and whether the listener has answered `Closed`, if it exposes this; how many
+    /// links are out; how often there was no link yet; the number of faults; and the mark, which no call changes.
     ghost state: { Self → ListenerState Self.Line };
 
-    /// Looks for a link. If none has come yet the count of idle looks rises by one, and a failed call raises the
-    /// count of faults by one. A link that came took nothing yet, gave nothing, and has not failed.
+    /// Looks for a link. If none has come yet, the idle count rises by one; a failed call raises the count of faults by
+    /// one. A link that came has taken nothing, given nothing and not failed.
     fn next(&mut self) -> Arrival<Self::Line>
         requires { (state self.old).away < MOST_AWAY }
         ensures arrives { Arrives result (state self.old) (state self.new) }
         ensures fresh { IfCame result (λ line. IsNewSink (Self.Line.state line)) };
 
-    /// Takes a link back. It takes no memory.
+    /// Takes a link back.
     fn give_back(&mut self, line: Self::Line)
         requires { 0 < (state self.old).away }
         ensures { state self.new ≡ after_give_back (state self.old) line };

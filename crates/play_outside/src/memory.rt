@@ -1,4 +1,4 @@
-//! Objects in memory. Their calls fail if it is planned.
+//! Devices in memory, whose calls fail where this is planned.
 
 mod clock;
 mod door;

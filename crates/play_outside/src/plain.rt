@@ -1,4 +1,4 @@
-//! Objects that never fail.
+//! Devices that never fail.
 
 mod clock;
 mod door;

@@ -29,7 +29,7 @@ pub enum Sent {
     Failed,
 }
 
-/// What `?` hands on after a `Sent` that is `Failed`.
+/// What `?` returns early with after `Sent::Failed`.
 #[derive(Clone, Copy, Debug, PartialEq, Eq)]
 pub struct WriteFailed;
 
@@ -63,8 +63,8 @@ impl FromResidual<WriteFailed> for Sent {
 
 /// A place to write bytes to.
 pub trait Sink: Drop {
-    /// What was taken, now and when a write last failed, if the sink says so; how many calls failed; the mark, which
-    /// no call changes; and of a link what it tells of its reads, which no write changes.
+    /// The bytes taken, now and when a write last failed, if the sink exposes them; how many calls failed; the mark, which
+    /// no call changes; and of a link what it exposes of its reads, which no write changes.
     ghost state: { Self → SinkState };
 
     /// Takes a prefix of the piece, or fails and takes nothing. A failed write raises the count of faults by one.

@@ -6,7 +6,7 @@ ghost use Rattle.play_outside.specs.Source.{Reads};
 /// What a read did.
 #[derive(Clone, Copy, Debug, PartialEq, Eq)]
 pub enum ReadStep {
-    /// This many bytes stand at the beginning of the buffer, at least one.
+    /// This many bytes were put at the beginning of the buffer, at least one.
     Got(usize),
     /// Nothing is left.
     End,
@@ -16,7 +16,7 @@ pub enum ReadStep {
 
 /// Bytes to read, from the first to the last.
 pub trait Source {
-    /// What is left, if it is told, and how many faults there were.
+    /// The bytes that are left, if exposed, and the number of faults.
     ghost state: { Self → SourceState };
 
     /// Reads into the beginning of the buffer, finds that nothing is left, or fails and gives nothing. A failed read

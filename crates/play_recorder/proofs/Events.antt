@@ -1,6 +1,7 @@
--- A finder knows what a history says, event by event.
-use Rattle.std.proofs.Common.{◌≡◌, ℕ, ◌+◌, true, false, cond, List, [], ◌∷◌, ◌++◌, map, refl, sym, ap, ap₂, ◌∙◌, subst, append_assoc, append-nil, arith}
+-- A finder represents a history, event by event.
+use Rattle.std.proofs.Common.{◌≡◌, ℕ, ◌+◌, ◌<◌, true, false, cond, List, [], ◌∷◌, ◌++◌, map, refl, sym, ap, ap₂, ◌∙◌, subst, append_assoc, append-nil, arith}
 use Rattle.std.specs.Prelude.{Option, Some, None, option_and_then}
+use Rattle.std.specs.List.{AllByRecursion}
 use Rattle.play_types.specs.History.{ticks}
 use Rattle.play_types.specs.declared.command.Cmd.{Cmd}
 use Rattle.play_types.specs.declared.event.Tag.{Tag}
@@ -11,6 +12,8 @@ use Rattle.history_model.specs.recordings.Film.{Begun, accepted_after, accepted_
 use Rattle.history_model.specs.stage.Act.{act_after}
 use Rattle.history_model.specs.stage.Acts.{is_refused}
 use Rattle.play_recorder.specs.Finder.{FinderView, Represents}
+use Rattle.play_journal.specs.Runs.{HasItsTimes, Run}
+use Rattle.play_recorder.specs.inner.EachEvent.{HaveEvents}
 use Rattle.play_recorder.specs.inner.Begun.{followed, followed_all}
 use Rattle.play_recorder.proofs.Marks.{followed-knows, followed_all-knows}
 
@@ -83,7 +86,7 @@ module _ (name : List ℕ) (t : ℕ) (begun : Option Begun) (past : List Event) 
     begun = h.begun ∙ ap (begun_in name) (sym (accepted_commands-more past (Stop tag) ∙ append-nil (accepted_commands past)));
   }
 
--- the film of what a finder knows
+-- the film of a finder
 module _ (finder : FinderView) (events : List Event) (h : Represents finder events) where
   pub film_some : (begun : Begun) → finder.begun ≡ Some begun → span_of finder.ticks begun ≡ film_span events finder.name
   unfolding film_span
@@ -96,3 +99,14 @@ module _ (finder : FinderView) (events : List Event) (h : Represents finder even
   film_none is =
       ap (option_and_then (span_of finder.ticks)) (sym is)
       ∙ ap₂ (λ (t : ℕ) (found : Option Begun). option_and_then (span_of t) found) h.ticks h.begun
+
+-- a run has at least one event
+some_times : (event : Event) (times : ℕ) → HasItsTimes event times → 0 < times
+some_times (Do tag cmd) times one = omega (arith, one)
+some_times (Batch tag cmds) times one = omega (arith, one)
+some_times Tick times some = some
+some_times (Stop tag) times one = omega (arith, one)
+
+pub have_events : (runs : List Run) → AllByRecursion (λ (run : Run). HasItsTimes run.event run.times) runs → HaveEvents runs
+have_events [] all = tt
+have_events (run ∷ runs) all = (some_times run.event run.times all.0, have_events runs all.1)

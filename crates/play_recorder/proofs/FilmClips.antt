@@ -61,7 +61,7 @@ piece_at f one first (suc count) (suc i) k each inside small =
     ∙ piece_at f one (first + 1) count i k each (omega (arith, inside)) small
     ∙ ap (λ (n : ℕ). slice_index (f n) k) next
 
--- each byte of a pixel stands in other bytes too
+-- if the bytes of a pixel are in other bytes, and no colour byte is above its alpha, neither is one there
 low_there : (bytes : List ℕ) (at : ℕ) (p : PixelView) → ((k : ℕ) → k < 4 → slice_index bytes (at + k) ≡ slice_index (pixel_bytes p) k) → IsLow p → IsLoweredAt bytes at
 low_there bytes at p same h =
     let here : at + 0 ≡ at = omega arith in
@@ -147,7 +147,7 @@ module _ (setup : Setup) (history : List Event) (channel : ℕ) where
       ∙ ap (slice_index (picture_bytes setup history channel)) place
       ∙ in_picture x y k inside below small
 
--- the bytes of a clip without a colour byte above its alpha stay if it is prepared
+-- preparing a clip without a colour byte above its alpha changes no byte
 module _ (clip : ClipView) (is : IsClip clip) (low : IsLowered clip) where
   abbrev frame : ℕ
   frame = frame_bytes clip.geometry
@@ -195,7 +195,7 @@ module _ (clip : ClipView) (is : IsClip clip) (low : IsLowered clip) where
       let below : k < length clip.bytes = omega (arith, within, length-recoloured made clip) in
       byte-recoloured made clip k below ∙ kept_byte k below)
 
--- a clip of version 1 without a colour byte above its alpha stays if it is prepared
+-- preparing a clip of version 1 without a colour byte above its alpha changes nothing
 stays_prepared : (clip : ClipView) → IsClip clip → IsLowered clip → clip.version ≡ MULTIPLIED → prepared_clip clip ≡ clip
 unfolding prepared_clip
 stays_prepared clip is low first =
@@ -225,7 +225,7 @@ module _ (setup : Setup) (history : List Event) (span : Span) (film : IsFilm spa
         ∙ mul_comm (frame_bytes (size setup span.channel)) span.frames;
   }
 
-  -- its file is read as the film
+  -- the file of a film is read as the film
   pub film_read : clip_of (clip_bytes (filmed setup history span)) ≡ Ok (filmed setup history span)
   film_read = clip_of-clip_bytes (filmed setup history span) film_clip
 
@@ -251,7 +251,7 @@ module _ (setup : Setup) (history : List Event) (span : Span) (film : IsFilm spa
   unfolding filmed
   version_of_film = refl
 
-  -- preparing it changes no byte
+  -- preparing a film changes no byte
   pub film_prepared : AreOfVersion1 setup.clips → prepared_clip (filmed setup history span) ≡ filmed setup history span
   film_prepared clips = stays_prepared (filmed setup history span) film_clip (film_low clips) version_of_film
 

@@ -1,4 +1,4 @@
--- What is recorded tick by tick is what the film has.
+-- The frames that are recorded tick by tick are those of the film.
 use Rattle.std.proofs.Common.{◌≡◌, ℕ, zero, suc, ◌+◌, ◌-◌, ◌<◌, ◌≤◌, ◌==◌, min, Bool, true, false, cond, List, [], ◌∷◌, ◌++◌, map, refl, sym, ap, ap₂, ◌∙◌, subst, append_assoc, append-nil, arith}
 use Rattle.std.specs.Prelude.{Option, Some, None, option_and_then, unwrap_or, flat_map}
 use Rattle.std.specs.List.{range_with_len}
@@ -18,7 +18,7 @@ use Rattle.history_model.specs.stage.Act.{Act, act_after}
 use Rattle.history_model.specs.stage.Acts.{is_refused}
 use Rattle.play_recorder.specs.Recording.{is_recorded, recorded_after, recorded_at}
 
--- the events before a tick in a history are those that stand before it
+-- the events before the tick that follows `past` are `past`
 before_tick-here : (past later : List Event) → before_tick (past ++ Tick ∷ later) (ticks past) ≡ past
 before_tick-here [] later = refl
 before_tick-here (Do tag cmd ∷ past) later = ap (λ events. Do tag cmd ∷ events) (before_tick-here past later)
@@ -29,14 +29,14 @@ before_tick-here (Tick ∷ past) later =
 before_tick-here (Stop tag ∷ past) later = ap (λ events. Stop tag ∷ events) (before_tick-here past later)
 
 module _ (setup : Setup) (span : Span) where
-  -- the frame of the tick that `count` ticks stand before in a history, and what is recorded of it
+  -- the frame of the tick after `count` ticks of a history, and what is recorded of it
   abbrev frame : List Event → ℕ → List ℕ
   frame history count = raw_frame setup (before_tick history count) span.channel
 
   abbrev piece : List Event → ℕ → List ℕ
   piece history count = cond (is_recorded span count) (frame history count) []
 
-  -- the pieces of the ticks from one on
+  -- the pieces of `count` ticks, the first of which comes after `first` ticks
   abbrev pieces : List Event → ℕ → ℕ → List ℕ
   pieces history first count = flat_map (piece history) (range_with_len first count)
 
@@ -123,7 +123,7 @@ module _ (setup : Setup) (span : Span) where
       (pieces_none history (span.first + span.frames) left (λ k low high. after_last k low))
       ∙ append-nil (flat_map (frame history) (range_with_len span.first span.frames)))
 
--- each command of a history stands behind ticks of the history alone
+-- each command of a history comes after no more ticks than the history has
 abbrev AreWithin : ℕ → List Act → Type 0
 AreWithin total [] = Unit {0}
 AreWithin total (act ∷ acts) = (act.ticks ≤ total) × AreWithin total acts
@@ -152,7 +152,7 @@ after_within total past (event ∷ later) low =
     (accepted_within total past event (omega (arith, low)))
     (after_within total (past ++ event ∷ []) later (omega (arith, low, one, more)))
 
--- a recording ends behind ticks of the history
+-- a recording ends after no more ticks than the history has
 mark_within : (total channel : ℕ) (acts : List Act) → AreWithin total acts → unwrap_or (first_mark channel acts) total ≤ total
 mark_within total channel [] within = omega arith
 mark_within total channel (act ∷ acts) within = by_test (mark_within total channel acts within.1) (is_mark_of channel act.cmd)

@@ -5,6 +5,8 @@ pub mod Served
 pub mod Refusals
 pub mod Playing
 pub mod Texts
+pub mod Needed
+pub mod Looking
 pub mod Recorders
 pub mod LowPixels
 pub mod FilmClips

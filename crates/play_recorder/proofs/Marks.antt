@@ -1,4 +1,4 @@
--- A recording goes on mark by mark as the commands of its history say.
+-- A recording goes on, mark by mark, with the commands of its history.
 use Rattle.std.proofs.Common.{◌≡◌, ℕ, ◌+◌, ◌≤◌, ◌==◌, Bool, true, false, cond, if◌then◌else◌, List, [], ◌∷◌, ◌++◌, map, inl, inr, refl, sym, ap, ◌∙◌, append_assoc, append-nil, arith}
 use Rattle.std.specs.Prelude.{Option, Some, None, option_map, option_and_then, unwrap_or}
 use Rattle.std.specs.Option.{option_map_or}
@@ -12,7 +12,7 @@ use Rattle.history_model.specs.stage.Act.{Act, act_after}
 use Rattle.play_recorder.specs.Finder.{FinderView, HasBegun, IsInTime}
 use Rattle.play_recorder.specs.inner.Begun.{begun_next, followed, followed_all, marked}
 
--- the first mark of a channel once one more command may be one
+-- the first mark of a channel after one more command, which may be a mark
 abbrev later_mark : ℕ → ℕ → Option Recording → Option ℕ → Option ℕ
 later_mark channel t mark None = if option_map_or (λ one. recording_channel one == channel) mark false then Some t else None
 later_mark channel t mark (Some at) = Some at
@@ -31,7 +31,7 @@ finder_at name t begun = record { name = name; ticks = t; begun = begun }
 abbrev begun_with : ℕ → ℕ → Option ℕ → Begun
 begun_with channel first end = record { channel = channel; first = first; end = end }
 
--- what a finder knows after a command that may be a mark
+-- the recording of a finder after a command that may be a mark
 abbrev after_mark : List ℕ → ℕ → Option Begun → Option Recording → Option Begun
 after_mark name t begun None = begun
 after_mark name t begun (Some mark) = begun_next (finder_at name t begun) mark
@@ -61,7 +61,7 @@ begun_more name t channel first (Some mark) None = by_test (recording_channel ma
     by_test true = refl
     by_test false = refl
 
--- none has begun before a command that may be a mark
+-- no recording has begun before a command that may be a mark
 begun_first : (name : List ℕ) (t : ℕ) (mark : Option Recording) →
     elim (option_and_then (begun_on name) mark) [
       | None ↦ None
@@ -96,7 +96,7 @@ begun_in-more name (act ∷ acts) t cmd = by_channel (begun_in-more name acts t 
         ap (λ end. Some (begun_with channel act.ticks end)) (first_mark-more channel acts t cmd)
         ∙ begun_more name t channel act.ticks (mark_of cmd) (first_mark channel acts)
 
--- a finder that knows what commands say goes on with one more, and with any number
+-- a finder with the recording of some commands goes on with one more, and with any number
 pub followed-knows : (name : List ℕ) (acts : List Act) (t : ℕ) (cmd : Cmd)
     → followed (finder_at name t (begun_in name acts)) cmd ≡ finder_at name t (begun_in name (acts ++ act_after t cmd ∷ []))
 followed-knows name acts t cmd =

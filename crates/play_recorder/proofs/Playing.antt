@@ -19,7 +19,7 @@ use Rattle.stage_core.specs.declared.fault.TickFault.TheVariants as tick
 use Rattle.play_recorder.specs.Recording.{AreServedEvents, IsServedEvent}
 use Rattle.play_recorder.specs.inner.Replay.{CanPlay, new_stage}
 
--- what holds if there is a value, if there is one
+-- what a result promises for `Ok` holds if it is `Ok`
 pub from_ok : {T E A : Type 0} (result : Result T E) (value : T) → result ≡ Ok value → OnOk result A → A
 from_ok (Ok other) value is holds = holds
 from_ok (Err fault) value is holds = cc
@@ -36,7 +36,7 @@ pub stop_taken : (events : List Event) (result : Result ℕ Ended) → IfErr res
 stop_taken events (Ok number) cause running = refl
 stop_taken events (Err ended) cause running = absurd (none-some ended.at (sym running ∙ cause))
 
--- nothing follows a stop: what stands before an event has none
+-- nothing follows a stop: the events before another one have none
 pub running_before : (past : List Event) (event : Event) → IsHistory (past ++ event ∷ []) → stop_at past ≡ None
 running_before [] event h = refl
 running_before (Do tag cmd ∷ past) event h = stop_at-other (Do tag cmd) past refl ∙ rw (running_before past event h) refl
@@ -62,7 +62,7 @@ served_last : (n : ℕ) (xs : List Event) (event : Event) → AreServedEvents n 
 served_last n [] event h = h.0
 served_last n (x ∷ xs) event h = served_last n xs event h.1
 
--- what is known of the next event of a stage
+-- what holds for the next event of a stage
 module _ (stage : StageView) (event : Event) (can : CanPlay stage (stage.journal.events ++ event ∷ [])) where
   pub next_running : stop_at stage.journal.events ≡ None
   next_running = running_before stage.journal.events event can.history
@@ -84,7 +84,7 @@ pub can_play : (config : ConfigView) (journal : JournalView) → IsJournal journ
     → held journal.events ≤ config.journal_limit → CanPlay (new_stage config) journal.events
 can_play config journal is served room = record { history = is.history; served = served; room = room; time = is.ticks }
 
--- what can be played, can be in parts
+-- if a history can be played, so can its first part
 can_front : (stage : StageView) (xs ys : List Event) → CanPlay stage (xs ++ ys) → CanPlay stage xs
 can_front stage xs ys can =
     let room = can.room in

@@ -1,5 +1,5 @@
 -- A recorder goes on, event by event.
-use Rattle.std.proofs.Common.{◌≡◌, ◌≢◌, ℕ, zero, suc, ◌+◌, ◌-◌, ◌≤◌, Bool, true, false, List, [], ◌∷◌, ◌++◌, length, map, unwrap_or, refl, sym, ap, ◌∙◌, subst, subst₂, append_assoc, append-nil, arith}
+use Rattle.std.proofs.Common.{◌≡◌, ◌≢◌, ℕ, zero, suc, ◌+◌, ◌-◌, ◌<◌, ◌≤◌, Bool, true, false, List, [], ◌∷◌, ◌++◌, length, map, unwrap_or, refl, sym, ap, ◌∙◌, subst, subst₂, append_assoc, append-nil, arith}
 use Rattle.std.specs.Prelude.{Err, Option, Some, nat_le, ◌&&◌, option_map, slice_get}
 use Rattle.std.specs.List.{range_with_len}
 use Rattle.std.proofs.lemmas.Bool.{leb-true}
@@ -25,17 +25,21 @@ use Rattle.history_model.specs.recordings.Film.{Span, film_span, filmed}
 use Rattle.history_model.specs.scripts.History.{channel_size}
 use Rattle.history_model.specs.scripts.Output.{raw_frame}
 use Rattle.play_scene.specs.Frames.{FrameView, frame_at, zero_frame}
-use Rattle.band_render.specs.Histories.{HasFrame, Represents, scenes_after}
+use Rattle.band_render.specs.Histories.{HasFrame, scenes_after}
 use Rattle.band_render.specs.Rendered.{AreRendered, sizes}
-use Rattle.band_render.proofs.Ticks.{frame_of_tick, represents-first, represents-other, represents-tick}
+use Rattle.needed_frames.specs.Depth.{depth}
+use Rattle.needed_frames.specs.Rendered.{RepresentsFrom}
+use Rattle.needed_frames.proofs.Rendering.{from-first, from-other, from-skipped, from-tick, whole_frame}
 use Rattle.stage_core.specs.Stage.{StageView, after_event}
 use Rattle.play_recorder.specs.Recording.{recorded_after, recorded_at, setup_with}
 use Rattle.play_recorder.specs.declared.recorder.Halt.{Halt}
 use Rattle.play_recorder.specs.declared.recorder.Recorder.{Recorder}
 use Rattle.play_recorder.specs.declared.replay.Replay.{Replay}
 use Rattle.play_recorder.specs.inner.Recorder.{Follows, is_over, IsReady, WritesText, bytes_in, channels_in, events_in, header_in, setup_in}
+use Rattle.play_recorder.specs.inner.Needed.{NeedsNoneOf, first_needed, least_needed}
 use Rattle.play_recorder.specs.inner.Replay.{HasScenes, new_stage}
 use Rattle.play_recorder.proofs.FilmFrames.{film_recorded}
+use Rattle.play_recorder.proofs.Needed.{event_needs, later_needs}
 use Rattle.play_recorder.proofs.Playing.{IsPlayedTo, all_played, none_played, one_played}
 use Rattle.play_recorder.proofs.Texts.{none_behind, recorded-append, stopped-within}
 
@@ -59,8 +63,8 @@ pub new_ready : (recorder : Recorder) → recorder.replay.stage ≡ new_stage re
 new_ready recorder new scenes frames = record {
   channels = ap (λ (s : StageView). s.channels) new;
   scenes = scenes;
-  frames = subst₂ (λ es last. Represents (setup_in recorder) es recorder.media.now last) (sym (ap (λ (s : StageView). s.journal.events) new)) (sym frames)
-      (represents-first (setup_in recorder) recorder.config.now.channels recorder.media.now refl (sym (zero_sizes recorder.config.now.channels)));
+  frames = subst₂ (λ es last. RepresentsFrom (setup_in recorder) recorder.skipped es recorder.media.now last) (sym (ap (λ (s : StageView). s.journal.events) new)) (sym frames)
+      (from-first (setup_in recorder) recorder.skipped recorder.config.now.channels recorder.media.now refl (sym (zero_sizes recorder.config.now.channels)));
 }
 
 -- there is a frame for each channel
@@ -81,7 +85,24 @@ module _ (recorder : Recorder) (replay : Replay) (renderer : List FrameView) (re
   pub as_many : length replay.scenes ≡ length recorder.renderer
   as_many = scene_count ∙ ready.channels ∙ sym (frame_count recorder ready)
 
-  module _ (rendered : AreRendered recorder.renderer recorder.media.now replay.scenes renderer) where
+  -- after the tick the recorder is ready, if the frames represent the history with it
+  ready_with : RepresentsFrom (setup_in recorder) recorder.skipped (events_in recorder ++ Tick ∷ []) recorder.media.now renderer → IsReady after_tick
+  ready_with represents =
+      let channels : replay.stage.channels ≡ recorder.replay.stage.channels = ap (λ (s : StageView). s.channels) made in
+      record {
+        channels = channels ∙ ready.channels;
+        scenes = scene_count ∙ sym channels;
+        frames = subst (λ es. RepresentsFrom (setup_in recorder) recorder.skipped es recorder.media.now renderer) (sym (ap (λ (s : StageView). s.journal.events) made)) represents;
+      }
+
+  -- the tick is skipped
+  pub ready_after_skipped : renderer ≡ recorder.renderer → ticks (events_in recorder) < recorder.skipped → IsReady after_tick
+  ready_after_skipped same early =
+      ready_with
+      (from-skipped (setup_in recorder) recorder.skipped (events_in recorder) recorder.media.now renderer early
+      (subst (RepresentsFrom (setup_in recorder) recorder.skipped (events_in recorder) recorder.media.now) (sym same) ready.frames))
+
+  module _ (rendered : AreRendered recorder.renderer recorder.media.now replay.scenes renderer) (late : recorder.skipped ≤ ticks (events_in recorder)) where
     of_history : AreRendered recorder.renderer recorder.media.now (scenes_after (events_in recorder) (length recorder.renderer)) renderer
     of_history =
         subst (λ (s : List (List Drawn)). AreRendered recorder.renderer recorder.media.now s renderer)
@@ -89,22 +110,17 @@ module _ (recorder : Recorder) (replay : Replay) (renderer : List FrameView) (re
 
     pub ready_after_tick : IsReady after_tick
     ready_after_tick =
-        let channels : replay.stage.channels ≡ recorder.replay.stage.channels = ap (λ (s : StageView). s.channels) made in
-        record {
-          channels = channels ∙ ready.channels;
-          scenes = scene_count ∙ sym channels;
-          frames = subst (λ es. Represents (setup_in recorder) es recorder.media.now renderer) (sym (ap (λ (s : StageView). s.journal.events) made))
-              (represents-tick (setup_in recorder) (events_in recorder) recorder.media.now recorder.renderer renderer ready.frames of_history);
-        }
+        ready_with (from-tick (setup_in recorder) recorder.skipped (events_in recorder) recorder.media.now recorder.renderer renderer late ready.frames of_history)
 
     pub frame_after_tick : (channel : ℕ) → IsConfigured (channels_in recorder) channel
+        → recorder.skipped ≤ ticks (events_in recorder) - depth (events_in recorder) channel
         → bytes_in after_tick channel ≡ raw_frame (setup_in recorder) (events_in recorder) channel
     unfolding raw_frame
-    frame_after_tick channel configured =
+    frame_after_tick channel configured early =
         let there : IsConfigured (length recorder.renderer) channel =
         subst (λ (n : ℕ). IsConfigured n channel) (sym (frame_count recorder ready)) configured in
         let has : HasFrame (setup_in recorder) (events_in recorder) channel (frame_at channel renderer) =
-        frame_of_tick (setup_in recorder) (events_in recorder) recorder.media.now recorder.renderer renderer channel ready.frames of_history there in
+        whole_frame (setup_in recorder) recorder.skipped (events_in recorder) recorder.media.now recorder.renderer renderer late ready.frames of_history channel there early in
         λ i. has.picture i ++ has.sound i
 
 -- the replay took an event that is no tick
@@ -113,8 +129,8 @@ pub ready_after_event : (recorder : Recorder) (replay : Replay) (event : Event) 
 ready_after_event recorder replay event other ready scenes made = record {
   channels = ap (λ (s : StageView). s.channels) made ∙ ready.channels;
   scenes = scenes;
-  frames = subst (λ es. Represents (setup_in recorder) es recorder.media.now recorder.renderer) (sym (ap (λ (s : StageView). s.journal.events) made))
-      (represents-other (setup_in recorder) (events_in recorder) event recorder.media.now recorder.renderer other ready.frames);
+  frames = subst (λ es. RepresentsFrom (setup_in recorder) recorder.skipped es recorder.media.now recorder.renderer) (sym (ap (λ (s : StageView). s.journal.events) made))
+      (from-other (setup_in recorder) recorder.skipped (events_in recorder) recorder.media.now event recorder.renderer other ready.frames);
 }
 
 -- the events before the ones that are left were played, and the frames of the recorded ticks among them were written
@@ -123,16 +139,20 @@ pub record IsRecordedTo (first : Recorder) (events : List Event) (start state : 
   pub config : now.config.now ≡ first.config.now
   pub media : now.media.now ≡ first.media.now
   pub film : now.film.now ≡ first.film.now
+  pub skipped : now.skipped ≡ first.skipped
+  pub needed : first.skipped ≤ least_needed first.film.now (events_in now) left first.film.now.first
   pub played : IsPlayedTo first.replay.stage events now.replay.stage left
   pub written : state ≡ after_taking start (recorded_after (setup_in first) first.film.now [] (events_in now))
 
 pub none_recorded : (first : Recorder) (events : List Event) (start : SinkState) (left : List Event) → IsReady first → events_in first ≡ [] → left ≡ events
-    → IsRecordedTo first events start start first left
-none_recorded first events start left ready empty is = record {
+    → first.skipped ≤ first_needed first.film.now events → IsRecordedTo first events start start first left
+none_recorded first events start left ready empty is needed = record {
   ready = ready;
   config = refl;
   media = refl;
   film = refl;
+  skipped = refl;
+  needed = subst₂ (λ past later. first.skipped ≤ least_needed first.film.now past later first.film.now.first) (sym empty) (sym is) needed;
   played = none_played first.replay.stage events left empty is;
   written = sym (after_taking-nil start) ∙ ap (λ (past : List Event). after_taking start (recorded_after (setup_in first) first.film.now [] past)) (sym empty);
 }
@@ -145,6 +165,12 @@ module _ (first : Recorder) (events : List Event) (start state : SinkState) (now
       subst (λ config. IsConfigured (length config.channels) now.film.now.channel) (sym recorded.config)
       (subst (λ film. IsConfigured (channels_in first) film.channel) (sym recorded.film) configured)
 
+  -- and what the event needs was not skipped
+  pub none_skipped : NeedsNoneOf now.skipped now.film.now (events_in now) event
+  none_skipped =
+      subst₂ (λ skipped span. NeedsNoneOf skipped span (events_in now) event) (sym recorded.skipped) (sym recorded.film)
+      (event_needs first.skipped first.film.now (events_in now) event (least_needed first.film.now (events_in now ++ event ∷ []) left first.film.now.first) recorded.needed)
+
   -- what is recorded at the event
   pub same_text : recorded_at (setup_in now) now.film.now (events_in now) event ≡ recorded_at (setup_in first) first.film.now (events_in now) event
   same_text = λ i. recorded_at (setup_with (recorded.config i) (recorded.media i)) (recorded.film i) (events_in now) event
@@ -156,7 +182,7 @@ module _ (first : Recorder) (events : List Event) (start state : SinkState) (now
       ∙ ap (λ (l : List ℕ). recorded_after (setup_in first) first.film.now [] (events_in now) ++ l)
       (append-nil (recorded_at (setup_in first) first.film.now (events_in now) event))
 
-  -- after it the rest is left
+  -- after the event the rest is left
   pub one_recorded : (new : Recorder) (after : SinkState) → IsReady new → Follows event now new
       → after ≡ after_taking state (recorded_at (setup_in now) now.film.now (events_in now) event)
       → IsRecordedTo first events start after new left
@@ -165,13 +191,16 @@ module _ (first : Recorder) (events : List Event) (start state : SinkState) (now
     config = follows.config ∙ recorded.config;
     media = follows.media ∙ recorded.media;
     film = follows.film ∙ recorded.film;
+    skipped = follows.skipped ∙ recorded.skipped;
+    needed = subst (λ past. first.skipped ≤ least_needed first.film.now past left first.film.now.first) (sym (ap (λ (s : StageView). s.journal.events) follows.stage))
+        (later_needs first.skipped first.film.now (events_in now) event (least_needed first.film.now (events_in now ++ event ∷ []) left first.film.now.first) recorded.needed);
     played = one_played first.replay.stage events now.replay.stage event left recorded.played new.replay.stage follows.stage;
     written = taken_more (recorded_after (setup_in first) first.film.now [] (events_in now)) (recorded_at (setup_in first) first.film.now (events_in now) event) start state after
         recorded.written (step ∙ ap (after_taking state) same_text)
         ∙ ap (after_taking start) (sym (ap (λ (s : StageView). recorded_after (setup_in first) first.film.now [] s.journal.events) follows.stage ∙ parts));
   }
 
-  -- what stopped at it stopped in the whole
+  -- a recorder that stopped at the event stopped in the whole text
   pub stopped_at : (reason : Halt) (after : SinkState) → WritesText (Err reason) (recorded_at (setup_in now) now.film.now (events_in now) event) state after
       → WritesText (Err reason) (recorded_after (setup_in first) first.film.now [] events) start after
   stopped_at reason after stops =
@@ -190,7 +219,7 @@ second_holds : (x y : Bool) → (x && y) ≡ true → y ≡ true
 second_holds true y e = e
 second_holds false y e = cc
 
--- the last recorded tick was played: what is left records nothing
+-- the last recorded tick was played, so no remaining event is recorded
 pub film_over : (first : Recorder) (events : List Event) (start state : SinkState) (now : Recorder) (left : List Event)
     → IsRecordedTo first events start state now left → is_over now.film.now (ticks (events_in now)) ≡ true
     → state ≡ after_taking start (recorded_after (setup_in first) first.film.now [] events)

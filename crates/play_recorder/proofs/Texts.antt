@@ -19,7 +19,7 @@ use Rattle.play_recorder.specs.declared.recorder.Halt.{Halt}
 use Rattle.play_recorder.specs.declared.recorder.Halt.TheVariants as halt
 use Rattle.play_recorder.specs.inner.Recorder.{WritesText}
 
--- a prefix of a part was taken, after what stands before the part
+-- a prefix of a part was taken, after the text before the part
 pub prefix-within : (whole done piece rest : List ℕ) (first state after : SinkState) → whole ≡ (done ++ piece) ++ rest → state ≡ after_taking first done
     → TakesPrefix piece state after → TakesPrefix whole first after
 prefix-within whole done piece rest first state after parts so_far takes =
@@ -36,7 +36,7 @@ prefix-within whole done piece rest first state after parts so_far takes =
           ∙ take-append-add done piece takes.count));
     })
 
--- what stopped in a part of a text, after what stands before it was written, stopped in the text
+-- what stopped in a part of a text, after the text before the part was written, stopped in the text
 pub stopped-within : (reason : Halt) (whole done piece rest : List ℕ) (first state after : SinkState) → whole ≡ (done ++ piece) ++ rest → state ≡ after_taking first done
     → WritesText (Err reason) piece state after → WritesText (Err reason) whole first after
 stopped-within halt.Failed whole done piece rest first state after parts so_far fails = Fails-within whole done piece rest first state after parts so_far fails
@@ -52,8 +52,8 @@ stopped-last reason done piece first state after so_far stops =
 pub none_taken : (text : List ℕ) (state : SinkState) → TakesPrefix text state state
 none_taken text state = record { count = 0; within = omega arith; taken = sym (after_taking-nil state) }
 
--- a tick behind the last recorded one is not recorded
-not_recorded : (span : Span) (count : ℕ) → span.first + span.frames ≤ count → is_recorded span count ≡ false
+-- a tick after the last recorded one is not recorded
+pub not_recorded : (span : Span) (count : ℕ) → span.first + span.frames ≤ count → is_recorded span count ≡ false
 not_recorded span count over =
     ap (λ (b : Bool). nat_le span.first count && b) (le-ltb count (span.first + span.frames) over) ∙ and-false (nat_le span.first count)
 
@@ -67,7 +67,7 @@ module _ (setup : Setup) (span : Span) where
       ∙ sym (append_assoc (recorded_at setup span past x) (recorded_after setup span (past ++ x ∷ []) xs) (recorded_after setup span ((past ++ x ∷ []) ++ xs) ys))
       ∙ ap (λ events. (recorded_at setup span past x ++ recorded_after setup span (past ++ x ∷ []) xs) ++ recorded_after setup span events ys) (append_assoc past (x ∷ []) xs)
 
-  -- nothing is recorded behind the last recorded tick
+  -- nothing is recorded after the last recorded tick
   pub none_behind : (past later : List Event) → span.first + span.frames ≤ ticks past → recorded_after setup span past later ≡ []
   none_behind past [] over = refl
   none_behind past (event ∷ later) over =

@@ -20,7 +20,7 @@ abbrev pub IsInTime : ℕ → Option Begun → Type 0
 IsInTime ticks None = Unit {0}
 IsInTime ticks (Some begun) = HasBegun ticks begun
 
--- a finder knows what these events say of its name
+-- a finder has the number of ticks of these events, and the first recording of its name in them
 pub record Represents (finder : FinderView) (events : List Event) : Type 0 where
   pub ticks : finder.ticks ≡ ticks events
   pub begun : finder.begun ≡ begun_in finder.name (accepted_commands events)

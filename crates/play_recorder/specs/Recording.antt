@@ -16,7 +16,7 @@ use Rattle.history_model.specs.scripts.Output.{raw_frame}
 use Rattle.play_recorder.specs.declared.recording.Recorded.{Recorded}
 use Rattle.play_recorder.specs.declared.recording.Recorded.TheVariants as recorded
 
--- whether the tick that `count` ticks stand before is a recorded one
+-- whether the tick after the first `count` ticks is recorded
 abbrev pub is_recorded : Span → ℕ → Bool
 is_recorded span count = nat_le span.first count && nat_lt count (span.first + span.frames)
 
@@ -37,14 +37,14 @@ recorded_after setup span past (event ∷ later) =
 abbrev pub setup_with : ConfigView → List Entry → Setup
 setup_with config entries = record { channels = map channel_size config.channels; clips = clips_of entries }
 
--- each place, channel and route that the commands of an event name is of one of the first `channels` channels
+-- the commands of an event name only layers, channels and routes of the first `channels` channels
 abbrev pub IsServedEvent : ℕ → Event → Type 0
 IsServedEvent channels (Do tag cmd) = IsServed channels cmd
 IsServedEvent channels (Batch tag cmds) = All (IsServed channels) cmds
 IsServedEvent channels Tick = Unit {0}
 IsServedEvent channels (Stop tag) = Unit {0}
 
--- and those of each event
+-- and so do the commands of each event
 abbrev pub AreServedEvents : ℕ → List Event → Type 0
 AreServedEvents channels [] = Unit {0}
 AreServedEvents channels (event ∷ events) = IsServedEvent channels event × AreServedEvents channels events

@@ -2,3 +2,4 @@ pub mod Begun
 pub mod EachEvent
 pub mod Replay
 pub mod Recorder
+pub mod Needed

@@ -27,7 +27,7 @@ impl Model for Begun {
 }
 
 impl Begun {
-    /// Returns the recording after a mark behind `ticks` ticks: a mark of its channel ends it, if it runs.
+    /// Returns the recording after a mark that comes after `ticks` ticks: a mark of its channel ends it, if it runs.
     pub(crate) fn marked(self, mark: Recording, ticks: u64) -> Begun
         ensures { result ≡ marked ticks mark self }
     {

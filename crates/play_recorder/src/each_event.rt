@@ -7,7 +7,7 @@ use play_journal::{EventRun, Events, Journal};
 use play_types::Event;
 use std::marker::Model;
 
-/// The events of a journal that are left, in order, also those of a run one by one.
+/// The remaining events of a journal in order, one by one, also those of a run.
 #[derive(Debug, Drop)]
 pub(crate) struct EachEvent<'a> {
     // The rest of a run.

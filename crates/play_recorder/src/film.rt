@@ -31,7 +31,7 @@ impl Model for Film {
 }
 
 impl Film {
-    /// Returns whether the tick behind `before` ticks is recorded.
+    /// Returns whether the tick after the first `before` ticks is recorded.
     pub(crate) fn has(&self, before: u64) -> bool
         ensures { result ≡ is_recorded self.now before }
     {

@@ -1,4 +1,4 @@
-//! Looking for the recording of a name while a history is made.
+//! The search for the recording of a name while a history is made.
 ghost use Rattle.std.specs.Prelude.{◌≡◌, ◌<◌, ◌++◌, ◌∷◌, [], List, None, Option};
 ghost use Rattle.play_types.specs.declared.event.Event.{Event};
 ghost use Rattle.play_types.specs.declared.event.Event.TheVariants.{Tick};
@@ -13,8 +13,7 @@ use crate::film::Film;
 use play_types::{Answer, Cmd, CmdList, Event, RecName, Recording};
 use std::marker::Model;
 
-/// What is known of the recording of a name by the events of a history so far: the first that has begun, if one has. It takes no
-/// memory.
+/// The first recording of a name in the events of a history so far, if one has begun.
 #[derive(Debug, Drop)]
 pub struct FilmFinder {
     name: RecName,
@@ -34,7 +33,7 @@ impl Model for FilmFinder {
 }
 
 impl FilmFinder {
-    /// Creates a finder for a name, which was given no events.
+    /// Creates a finder for a name, before the first event.
     #[tactic(auto, unfolding(history_model::specs::recordings::Film::accepted_commands))]
     pub fn new(name: RecName) -> FilmFinder
         ensures name { result.name ≡ name }
@@ -48,10 +47,10 @@ impl FilmFinder {
         }
     }
 
-    /// Takes the next event of the history and the answer to it, which for a tick and a stop is `Done`. A tick may be given if
-    /// fewer than 281,474,976,710,656 ticks were given before.
+    /// Takes the next event of the history and the answer to it, which is `Done` for a tick and a stop. Before a tick, fewer than
+    /// 281,474,976,710,656 ticks must have been taken.
     ///
-    /// The finder then knows what the history with this event says, if the answer is `Refused` exactly if the event is refused.
+    /// If the answer is `Refused` exactly if the event is refused, the finder then has the recording of the history with this event.
     pub fn event(&mut self, event: &Event, answer: &Answer)
         requires { event.now ≡ Tick → self.old.ticks < MAX_TICKS }
         ensures name { self.new.name ≡ self.old.name }
@@ -75,15 +74,15 @@ impl FilmFinder {
         }
     }
 
-    /// Returns the film of the recording by the events that were given: `None` exactly if no recording of the name has begun, or
-    /// no tick is recorded.
+    /// Returns the film of the recording in the events so far: `None` exactly if no recording of the name has begun, or no tick is
+    /// recorded.
     pub fn film(&self) -> Option<Film>
         ensures { (events : List Event) → Represents self.now events → result ≡ film_span events self.now.name }
     {
         self.begun?.film(self.ticks)
     }
 
-    /// Takes a command that is not refused.
+    /// Takes a command that was not refused.
     fn follow(&mut self, cmd: &Cmd)
         ensures { self.new ≡ followed self.old cmd.now }
     {
@@ -92,7 +91,7 @@ impl FilmFinder {
         }
     }
 
-    /// Takes the commands of a batch that is not refused.
+    /// Takes the commands of a batch that was not refused.
     fn follow_all(&mut self, cmds: &CmdList)
         ensures { self.new ≡ followed_all self.old cmds.now }
     {

@@ -12,11 +12,11 @@ use play_journal::Journal;
 use play_types::{Config, RecName};
 use std::alloc::{AllocError, Global};
 
-/// Returns the film of a name by the events of a journal: `None` exactly if no recording of the name has begun, or no tick is
-/// recorded. The events are played again, but no frame is made.
+/// Returns the film of a name in the events of a journal: `None` exactly if no recording of the name has begun, or no tick is recorded.
+/// The events are played again, but no frame is made.
 ///
-/// The places, channels and routes that the journal names are of configured channels, and it has no more commands than the limit
-/// of the configuration's journal.
+/// The layers, channels and routes in the journal must be of configured channels, and its commands must be no more than the limit of the
+/// configuration's journal.
 pub fn find_film(
     alloc: Global,
     config: &Config,

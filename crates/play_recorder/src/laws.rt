@@ -13,8 +13,8 @@ ghost use Rattle.history_model.specs.recordings.Film.{Span, film_span, filmed};
 ghost use Rattle.play_recorder.specs.Film.{IsFilm};
 ghost use Rattle.play_recorder.specs.Recording.{recorded_after, setup_with};
 
-/// The recorded ticks of a name are ticks of the history. What is recorded while the history is played again, tick by tick, is
-/// what the film has.
+/// The recorded ticks of a name are ticks of the history. The frames that are recorded while the history is played again, tick by tick,
+/// are those of the film.
 pub fn films_are_recorded()
     ensures within { (history : List Event) (name : List ℕ) (span : Span) → film_span history name ≡ Some span →
         span.first + span.frames ≤ ticks history }

@@ -1,10 +1,10 @@
 //! Films of recordings.
 //!
-//! `ADD` and `REMOVE` mark recordings in the history of a server. A `FilmFinder` is given the events of a history with their
-//! answers, one by one, and tells which ticks of which channel are recorded under a name. `find_film` plays the events of a journal
-//! again and tells it of them. `write_film` plays them too, and writes what the channel shows and sounds at these ticks as a clip
-//! file. It keeps no frame but the last one, and can
-//! tell a [`Watcher`] how far it is.
+//! `ADD` and `REMOVE` mark recordings in the history of a server. A `FilmFinder` takes the events of a history with their answers, one by
+//! one, and finds which ticks of which channel are recorded under a name. `find_film` plays the events of a journal again and hands them
+//! to a finder. `write_film` plays them too, and writes what the channel shows and sounds at these ticks as a clip file. It makes no
+//! frames before those that the film needs, and keeps no frame but the last one. `FilmSource::write_watched` also reports the progress to
+//! a [`Watcher`].
 #![tactic(auto)]
 
 mod begun;
@@ -12,6 +12,7 @@ mod each_event;
 mod film;
 mod finder;
 mod finding;
+mod first_needed;
 pub mod laws;
 mod recorder;
 mod recording;

@@ -1,13 +1,15 @@
 //! The frames of a film, made while the history is played again.
-ghost use Rattle.std.specs.Prelude.{◌≡◌, ◌<◌, ◌≤◌, ◌++◌, ◌∷◌, [], ℕ, IfOk, None, OnOk};
+ghost use Rattle.std.specs.Prelude.{◌≡◌, ◌-◌, ◌<◌, ◌≤◌, ◌++◌, ◌∷◌, [], ℕ, IfOk, None, OnOk};
 ghost use Rattle.play_types.specs.History.{stop_at, ticks};
 ghost use Rattle.play_types.specs.Scene.{IsConfigured};
 ghost use Rattle.play_types.specs.declared.event.Event.TheVariants.{Tick};
 ghost use Rattle.play_types.specs.declared.event.TheConstants.{MAX_TICKS};
 ghost use Rattle.play_outside.specs.Sink.{Sends};
 ghost use Rattle.history_model.specs.scripts.Output.{raw_frame};
+ghost use Rattle.needed_frames.specs.Depth.{depth};
 ghost use Rattle.play_recorder.specs.Recording.{Records, recorded_after, recorded_at};
 ghost use Rattle.play_recorder.specs.declared.recorder.Halt.TheVariants as halt;
+ghost use Rattle.play_recorder.specs.inner.Needed.{NeedsNoneOf, first_needed};
 ghost use Rattle.play_recorder.specs.inner.Replay.{CanPlay, new_stage};
 ghost use Rattle.play_recorder.specs.inner.Recorder.{Follows, IsReady, WritesText, bytes_in, channels_in, events_in, header_in, setup_in};
 
@@ -42,7 +44,7 @@ impl From<AllocError> for Halt {
     }
 }
 
-/// What makes a film: the history that is played again, and the frames of its last tick.
+/// The recorder of a film: the history that is played again, and the frames of its last tick.
 #[derive(Drop)]
 pub(crate) struct Recorder<'a> {
     pub(crate) config: &'a Config,
@@ -50,17 +52,20 @@ pub(crate) struct Recorder<'a> {
     pub(crate) film: &'a Film,
     pub(crate) replay: Replay,
     pub(crate) renderer: Renderer,
+    /// The number of first ticks for which no frames are made.
+    pub(crate) skipped: u64,
 }
 
 impl<'a> Recorder<'a> {
-    /// Creates the recorder of a film, before the first event. It takes the room for the live places, the scenes and the frames of
-    /// all channels, which `workers` threads make.
+    /// Creates the recorder of a film, before the first event, with memory for the live layers, the scenes and the frames of all
+    /// channels. `workers` threads make the frames, but none for the first `skipped` ticks.
     pub(crate) fn new(
         alloc: Global,
         config: &'a Config,
         media: &'a MediaTable,
         film: &'a Film,
         workers: u32,
+        skipped: u64,
     ) -> Result<Recorder<'a>, AllocError>
         requires some_workers { 1 ≤ workers }
         requires few_workers { workers ≤ 64 }
@@ -69,6 +74,7 @@ impl<'a> Recorder<'a> {
         ensures config { IfOk result (λ recorder. recorder.config.now ≡ config.entry.now) }
         ensures media { IfOk result (λ recorder. recorder.media.now ≡ media.entry.now) }
         ensures film { IfOk result (λ recorder. recorder.film.now ≡ film.entry.now) }
+        ensures skipped { IfOk result (λ recorder. recorder.skipped ≡ skipped) }
     {
         Ok(Recorder {
             config,
@@ -76,11 +82,12 @@ impl<'a> Recorder<'a> {
             film,
             replay: Replay::new(alloc, config)?,
             renderer: Renderer::new(alloc, config, workers)?,
+            skipped,
         })
     }
 
-    /// Plays the events of a journal in order, and writes the file of the film meanwhile: what stands before the frames, and then
-    /// the frames of the recorded ticks.
+    /// Plays the events of a journal in order, and writes the file of the film meanwhile: its header, and then the frames of the recorded
+    /// ticks.
     pub(crate) fn write<R: Threads + Sync, K: Sink, W: Watcher>(
         &mut self,
         rt: &R,
@@ -93,6 +100,7 @@ impl<'a> Recorder<'a> {
         requires new { events_in self.old ≡ [] }
         requires channel { IsConfigured (channels_in self.old) self.old.film.now.channel }
         requires can { CanPlay self.old.replay.stage journal.now.events }
+        requires needed { self.old.skipped ≤ first_needed self.old.film.now journal.now.events }
         ensures { Records result
             (header_in self.old ++ recorded_after (setup_in self.old) self.old.film.now [] journal.now.events)
             (K.state to.old) (K.state to.new) }
@@ -107,7 +115,7 @@ impl<'a> Recorder<'a> {
         }
     }
 
-    /// Writes what stands before the frames in the file of the film.
+    /// Writes the header of the file of the film.
     fn write_header<K: Sink>(&self, to: &mut K) -> Sent
         requires { IsConfigured (channels_in self.now) self.now.film.now.channel }
         ensures { Sends result (header_in self.now) (K.state to.old) (K.state to.new) }
@@ -131,6 +139,7 @@ impl<'a> Recorder<'a> {
         requires new { events_in self.old ≡ [] }
         requires channel { IsConfigured (channels_in self.old) self.old.film.now.channel }
         requires can { CanPlay self.old.replay.stage journal.now.events }
+        requires needed { self.old.skipped ≤ first_needed self.old.film.now journal.now.events }
         ensures { WritesText result (recorded_after (setup_in self.old) self.old.film.now [] journal.now.events) (K.state to.old) (K.state to.new) }
     {
         for event in each_event(journal) {
@@ -143,7 +152,7 @@ impl<'a> Recorder<'a> {
         Ok(())
     }
 
-    /// Tells how many ticks were made again, of how many, and how many frames were written.
+    /// Reports how many ticks were made again, of how many, and how many frames were written.
     fn tell<W: Watcher>(&self, watcher: &mut W) {
         let made = self.replay.stage.journal().ticks();
         let film = self.film;
@@ -163,6 +172,7 @@ impl<'a> Recorder<'a> {
         requires ready { IsReady self.old }
         requires channel { IsConfigured (channels_in self.old) self.old.film.now.channel }
         requires can { CanPlay self.old.replay.stage (events_in self.old ++ event.now ∷ []) }
+        requires needed { NeedsNoneOf self.old.skipped self.old.film.now (events_in self.old) event.now }
         ensures ready { OnOk result (IsReady self.new) }
         ensures follows { OnOk result (Follows event.now self.old self.new) }
         ensures written { WritesText result (recorded_at (setup_in self.old) self.old.film.now (events_in self.old) event.now)
@@ -183,6 +193,7 @@ impl<'a> Recorder<'a> {
         requires running { stop_at (events_in self.old) ≡ None }
         requires channel { IsConfigured (channels_in self.old) self.old.film.now.channel }
         requires time { ticks (events_in self.old) < MAX_TICKS }
+        requires needed { NeedsNoneOf self.old.skipped self.old.film.now (events_in self.old) Tick }
         ensures ready { OnOk result (IsReady self.new) }
         ensures follows { OnOk result (Follows Tick self.old self.new) }
         ensures written { WritesText result (recorded_at (setup_in self.old) self.old.film.now (events_in self.old) Tick)
@@ -199,7 +210,8 @@ impl<'a> Recorder<'a> {
         }
     }
 
-    /// Makes the next tick, and its frames.
+    /// Makes the next tick, and its frames if it is not skipped. The frame of a channel that needs none of the skipped ones is that of
+    /// the history.
     fn tick<R: Threads + Sync>(&mut self, rt: &R)
         requires ready { IsReady self.old }
         requires running { stop_at (events_in self.old) ≡ None }
@@ -207,11 +219,15 @@ impl<'a> Recorder<'a> {
         ensures ready { IsReady self.new }
         ensures follows { Follows Tick self.old self.new }
         ensures frames { (channel : ℕ) → IsConfigured (channels_in self.old) channel →
+            self.old.skipped ≤ ticks (events_in self.old) - depth (events_in self.old) channel →
             bytes_in self.new channel ≡ raw_frame (setup_in self.old) (events_in self.old) channel }
     {
+        let before = self.replay.stage.journal().ticks();
         self.replay.tick();
-        self.renderer
-            .render(rt, &self.replay.scenes, self.media, &OpenGate);
+        if before >= self.skipped {
+            self.renderer
+                .render(rt, &self.replay.scenes, self.media, &OpenGate);
+        }
     }
 
     /// Writes what the channel of the film shows and sounds at the last tick.

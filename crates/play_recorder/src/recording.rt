@@ -1,11 +1,16 @@
 //! The file of a film, made from the history.
-ghost use Rattle.std.specs.Prelude.{◌≡◌, ◌≤◌, List, ℕ, Some, length};
+ghost use Rattle.std.specs.Prelude.{◌≡◌, ◌≤◌, IfOk, List, ℕ, Some, length};
 ghost use Rattle.play_types.specs.ClipFile.{clip_bytes};
 ghost use Rattle.play_types.specs.History.{held};
 ghost use Rattle.history_model.specs.recordings.Film.{film_span, filmed};
+ghost use Rattle.play_types.specs.Scene.{IsConfigured};
 ghost use Rattle.play_recorder.specs.Recording.{AreServedEvents, Records, setup_with};
+ghost use Rattle.play_recorder.specs.inner.Needed.{first_needed};
+ghost use Rattle.play_recorder.specs.inner.Recorder.{IsReady};
+ghost use Rattle.play_recorder.specs.inner.Replay.{new_stage};
 
 use crate::film::Film;
+use crate::first_needed::first_needed;
 use crate::recorder::Recorder;
 use crate::watcher::{Unwatched, Watcher};
 use clip_format::MediaTable;
@@ -26,8 +31,8 @@ pub enum Recorded {
     OutOfMemory,
 }
 
-/// What a film is made of: what the history was made with, its journal, the film that was found in it, and the number of threads
-/// that make the frames.
+/// What a film is made from: the configuration and the clips of the history, its journal, the film that was found in it, and the number
+/// of threads that make the frames.
 #[derive(Clone, Copy)]
 pub struct FilmSource<'a> {
     pub config: &'a Config,
@@ -37,12 +42,13 @@ pub struct FilmSource<'a> {
     pub workers: u32,
 }
 
-/// Writes the clip file of a film that was found in this journal: version 1, the size of the channel, and what the channel shows
-/// and sounds at each recorded tick. The events are played again, and no frame but the last one is kept.
+/// Writes the clip file of a film that was found in this journal: version 1, the size of the channel, and what the channel shows and
+/// sounds at each recorded tick. The events are played again, first without frames, to find from which tick on the film needs frames, and
+/// then with the frames from there on. No frame but the last one is kept.
 ///
-/// `media` has the clips that the history was made with, and `workers`, 1 to 64, is the number of threads that make the frames.
-/// The places, channels and routes that the journal names are of configured channels, and it has no more commands than the limit
-/// of the configuration's journal.
+/// `media` has the clips that the history was made with, and `workers`, 1 to 64, is the number of threads that make the frames. The
+/// layers, channels and routes in the journal must be of configured channels, and its commands must be no more than the limit of the
+/// configuration's journal.
 pub fn write_film<R: Threads + Sync, K: Sink>(
     rt: &R,
     alloc: Global,
@@ -70,8 +76,8 @@ pub fn write_film<R: Threads + Sync, K: Sink>(
     source.write_watched(rt, alloc, to, &mut Unwatched)
 }
 
-impl FilmSource<'_> {
-    /// Writes the clip file of the film, as [`write_film`] does, and tells a watcher after each event how far it is.
+impl<'a> FilmSource<'a> {
+    /// Writes the clip file of the film, as [`write_film`] does, and reports the progress to `watcher` after each event.
     pub fn write_watched<R: Threads + Sync, K: Sink, W: Watcher>(
         self,
         rt: &R,
@@ -88,9 +94,33 @@ impl FilmSource<'_> {
             (K.state to.old) (K.state to.new) }
     {
         let _held = self.journal.held();
-        match Recorder::new(alloc, self.config, self.media, self.film, self.workers) {
+        match self.recorder(alloc) {
             Ok(mut recorder) => recorder.write(rt, alloc, self.journal, to, watcher),
             Err(AllocError) => Recorded::OutOfMemory,
         }
+    }
+    /// Creates the recorder of the film, which makes no frames before those that the film needs.
+    fn recorder(self, alloc: Global) -> Result<Recorder<'a>, AllocError>
+        requires channel { IsConfigured (length self.config.now.channels) self.film.now.channel }
+        requires some_workers { 1 ≤ self.workers }
+        requires few_workers { self.workers ≤ 64 }
+        requires served { AreServedEvents (length self.config.now.channels) self.journal.now.events }
+        requires room { held self.journal.now.events ≤ self.config.now.journal_limit }
+        ensures ready { IfOk result IsReady }
+        ensures new { IfOk result (λ recorder. recorder.replay.stage ≡ new_stage self.entry.config.now) }
+        ensures config { IfOk result (λ recorder. recorder.config.now ≡ self.entry.config.now) }
+        ensures media { IfOk result (λ recorder. recorder.media.now ≡ self.entry.media.now) }
+        ensures film { IfOk result (λ recorder. recorder.film.now ≡ self.entry.film.now) }
+        ensures needed { IfOk result (λ recorder. recorder.skipped ≡ first_needed self.entry.film.now self.entry.journal.now.events) }
+    {
+        let skipped = first_needed(alloc, self.config, self.journal, self.film)?;
+        Recorder::new(
+            alloc,
+            self.config,
+            self.media,
+            self.film,
+            self.workers,
+            skipped,
+        )
     }
 }

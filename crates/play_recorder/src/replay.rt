@@ -15,7 +15,7 @@ use play_types::{Answer, Cmd, CmdList, Config, Event, Scenes, Tag};
 use stage_core::{ApplyFault, Stage};
 use std::alloc::{AllocError, Global};
 
-/// What a history is played on once more: the stage with the events so far, and the scenes of its last tick.
+/// A history that is played once more: the stage with the events so far, and the scenes of its last tick.
 #[derive(Drop)]
 pub(crate) struct Replay {
     pub(crate) stage: Stage,
@@ -23,7 +23,7 @@ pub(crate) struct Replay {
 }
 
 impl Replay {
-    /// Creates a replay of no events. It takes the room for the live places and the scenes of all channels.
+    /// Creates a replay of no events, with memory for the live layers and the scenes of all channels.
     pub(crate) fn new(alloc: Global, config: &Config) -> Result<Replay, AllocError>
         ensures stage { IfOk result (λ replay. replay.stage ≡ new_stage config.now) }
         ensures scenes { IfOk result HasScenes }
@@ -34,7 +34,7 @@ impl Replay {
         })
     }
 
-    /// Does an event of the history again, and returns the answer to it, which for a tick and a stop is `Done`.
+    /// Applies an event of the history again, and returns the answer to it, which is `Done` for a tick and a stop.
     pub(crate) fn event(&mut self, alloc: Global, event: &Event) -> Result<Answer, AllocError>
         requires scenes { HasScenes self.old }
         requires can { CanPlay self.old.stage (events_in self.old ++ event.now ∷ []) }
@@ -67,7 +67,7 @@ impl Replay {
         self.stage.tick(&mut self.scenes).unwrap();
     }
 
-    /// Does a command of the history again, and returns the answer to it.
+    /// Applies a command of the history again, and returns the answer to it.
     fn apply(&mut self, alloc: Global, tag: Tag, cmd: Cmd) -> Result<Answer, AllocError>
         requires running { stop_at (events_in self.old) ≡ None }
         requires served { IsServed self.old.stage.channels cmd }
@@ -83,7 +83,7 @@ impl Replay {
         }
     }
 
-    /// Does a batch of the history again, and returns the answer to it.
+    /// Applies a batch of the history again, and returns the answer to it.
     fn apply_batch(&mut self, alloc: Global, tag: Tag, cmds: &CmdList) -> Result<Answer, AllocError>
         requires running { stop_at (events_in self.old) ≡ None }
         requires some { 0 < length cmds.now }

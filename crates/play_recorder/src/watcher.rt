@@ -1,9 +1,9 @@
-//! Who is told how far the writing of a film is.
+//! Reports on the progress of writing a film.
 
-/// Is told how far the writing of a film is. What it does changes nothing that is written.
+/// Receives the progress of writing a film. It changes nothing that is written.
 pub trait Watcher {
-    /// Takes that `ticks` ticks of the history were made again, of `all` up to the last recorded one, and that `frames` frames of
-    /// the film were written.
+    /// Reports that `ticks` ticks of the history were made again, of `all` up to the last recorded one, and that `frames` frames of the
+    /// film were written.
     fn watch(&mut self, ticks: u64, all: u64, frames: u32);
 }
 

@@ -1,9 +1,10 @@
 -- The parts of frames, and the pixels that each has of those of all.
 use Rattle.std.proofs.Common.{◌≡◌, ℕ, zero, suc, ◌+◌, ◌-◌, ◌*◌, ◌%◌, ◌<◌, ◌≤◌, List, [], ◌∷◌, ◌++◌, length, map, take, drop, set, get_or, slice_index, replicate, refl, sym, subst, ap, ap₂, ◌∙◌, append_assoc, length-drop, length-take-le, take-append-drop, take_at, drop_at, drop-drop, ⊎_elim, arith}
 use Rattle.std.proofs.lemmas.Bool.{cases_lt}
-use Rattle.std.proofs.lemmas.List.{nil_from_length, drop-append-le, drop-replicate, get_or-replicate, get_or_past, length-replicate, take-append-le, take-replicate}
+use Rattle.std.proofs.lemmas.List.{nil_from_length, drop-append-le, drop-replicate, get_or-replicate, get_or_past, length-replicate, length_push, map_more, take-append-le, take-replicate}
 use Rattle.std.proofs.Math.Seq.{drop-append-add, take-append-add}
-use Rattle.play_scene.specs.Frames.{ArePixels, FrameView, IsFrame, no_frame, picture_length, pictures_length, pixels_of, with_piece, with_pixels}
+use Rattle.play_types.specs.Config.{ChannelView}
+use Rattle.play_scene.specs.Frames.{ArePixels, FrameView, IsFrame, no_frame, picture_length, pictures_length, pixels_of, with_piece, with_pixels, zero_frame}
 use Rattle.play_scene.specs.Parts.{ArePartsOf, BeginAt, frame_of, frames_of, parts_length, transparent}
 use Rattle.play_scene.specs.declared.part.Part.{Part}
 use Rattle.play_types.specs.declared.geometry.Geometry.{Geometry}
@@ -261,3 +262,13 @@ pub zero_parts : (parts : List Part) (pixels : List ℕ) (count : ℕ) → pixel
     ArePartsOf pixels parts
 zero_parts parts pixels count zeros counted starts =
     subst (λ (list : List ℕ). ArePartsOf list parts) (sym (zeros ∙ ap (λ (n : ℕ). replicate n 0) counted)) (parts_of_zeros parts starts)
+
+-- one more frame of a configuration
+pub zero_frames-turn : {Y : Type 0} (channels : List ChannelView) (yielded : List Y) (y : Y) (channel : ChannelView) (before after : List FrameView) →
+    (length yielded < length channels) × (channel ≡ get_or channels (length yielded) channel) →
+    before ≡ map zero_frame (take (length yielded) channels) → after ≡ before ++ zero_frame channel ∷ [] →
+    after ≡ map zero_frame (take (length (yielded ++ y ∷ [])) channels)
+zero_frames-turn channels yielded y channel before after turn so_far more =
+    more ∙ ap₂ (λ (list : List FrameView) (last : ChannelView). list ++ zero_frame last ∷ []) so_far turn.1
+    ∙ sym (map_more zero_frame channels (length yielded) channel turn.0)
+    ∙ ap (λ (n : ℕ). map zero_frame (take n channels)) (sym (length_push yielded y))

@@ -1,9 +1,8 @@
 -- Bytes of which a piece is replaced.
-use Rattle.std.proofs.Common.{◌≡◌, ℕ, zero, suc, ◌+◌, ◌-◌, ◌*◌, ◌/◌, ◌%◌, ◌<◌, ◌≤◌, List, [], ◌++◌, length, take, drop, slice_index, refl, sym, ap, ap₂, ◌∙◌, ⊎_elim, append_assoc, append-nil, length-append, length-drop, length-take-le, take-append-drop, take_at, drop_at, drop-drop, arith, Vec}
+use Rattle.std.proofs.Common.{◌≡◌, ℕ, ◌+◌, ◌-◌, ◌*◌, ◌/◌, ◌%◌, ◌<◌, ◌≤◌, List, ◌++◌, length, take, drop, slice_index, refl, sym, ap, ap₂, ◌∙◌, ⊎_elim, length-append, length-drop, length-take-le, drop-drop, arith, Vec}
 use Rattle.std.proofs.lemmas.Bool.{cases_lt}
 use Rattle.std.specs.Vec.{with_items}
-use Rattle.std.proofs.lemmas.List.{with_items_is, get_or_append_left, get_or-append_right, get_or-take, get_or-drop, get_or_past, drop_all}
-use Rattle.pixel_math.specs.Pixel.{PixelView, IsPixel, pixel_bytes}
+use Rattle.std.proofs.lemmas.List.{with_items_is, get_or_append_left, get_or-append_right, get_or-take, get_or-drop}
 use Rattle.play_scene.proofs.Pixels.{lowered_alike}
 use Rattle.play_scene.specs.Frames.{AreLowered, ArePixels, with_piece}
 
@@ -75,49 +74,3 @@ copied_piece list at count copied piece bytes are same counted fits =
     ∙ ap (λ (xs : List ℕ). take at list.items ++ (piece ++ xs)) (drop-drop (length piece) at list.items) in
     let long = ap length inner ∙ length-with_piece at piece list.items fits ∙ sym list.ok.0 in
     with_items_is list (take at bytes ++ (copied ++ drop count (drop at bytes))) long ∙ inner
-
--- an empty piece replaces nothing
-pub with_piece-none : (at : ℕ) (bytes : List ℕ) → with_piece at [] bytes ≡ bytes
-with_piece-none at bytes =
-    let same : at + 0 ≡ at = omega arith in
-    ap (λ n. take at bytes ++ drop n bytes) same ∙ take-append-drop at bytes
-
--- a piece put behind another one is both as one piece
-pub with_piece-more : (at : ℕ) (p q bytes : List ℕ) → at + length p ≤ length bytes →
-    with_piece (at + length p) q (with_piece at p bytes) ≡ with_piece at (p ++ q) bytes
-with_piece-more at p q bytes fits =
-    let head = take at bytes in
-    let front = head ++ p in
-    let rest = drop (at + length p) bytes in
-    let len : length front ≡ at + length p = length-append head p ∙ ap (λ n. n + length p) (length-take-le at bytes (omega (arith, fits))) in
-    let whole : with_piece at p bytes ≡ front ++ rest = sym (append_assoc head p rest) in
-    let sum : at + length p + length q ≡ at + length (p ++ q) = omega (arith, length-append p q) in
-    let taken : take (at + length p) (with_piece at p bytes) ≡ front = ap (take (at + length p)) whole ∙ take_at front rest (at + length p) len in
-    let dropped : drop (at + length p + length q) (with_piece at p bytes) ≡ drop (at + length (p ++ q)) bytes =
-    ap (drop (at + length p + length q)) whole
-    ∙ sym (drop-drop (length q) (at + length p) (front ++ rest))
-    ∙ ap (drop (length q)) (drop_at front rest (at + length p) len)
-    ∙ drop-drop (length q) (at + length p) bytes
-    ∙ ap (λ n. drop n bytes) sum in
-    ap₂ (λ (xs ys : List ℕ). xs ++ (q ++ ys)) taken dropped
-    ∙ append_assoc head p (q ++ drop (at + length (p ++ q)) bytes)
-    ∙ ap (λ (xs : List ℕ). head ++ xs) (sym (append_assoc p q (drop (at + length (p ++ q)) bytes)))
-
--- a piece of all bytes replaces all
-pub with_piece-all : (piece bytes : List ℕ) → length piece ≡ length bytes → with_piece 0 piece bytes ≡ piece
-with_piece-all piece bytes same =
-    let none : drop (0 + length piece) bytes ≡ [] = drop_all (0 + length piece) bytes (omega (arith, same)) in
-    ap (λ (xs : List ℕ). piece ++ xs) none ∙ append-nil piece
-
--- the bytes of a pixel are those of a whole pixel, none a colour above its alpha
-lowered_pixel : (p : PixelView) → IsPixel p → AreLowered (pixel_bytes p)
-lowered_pixel p h zero = record { blue = h.blue; green = h.green; red = h.red }
-lowered_pixel p h (suc n) =
-    let bytes = pixel_bytes p in
-    let b = get_or_past bytes (4 * suc n) 0 (omega arith) in
-    let g = get_or_past bytes (4 * suc n + 1) 0 (omega arith) in
-    let r = get_or_past bytes (4 * suc n + 2) 0 (omega arith) in
-    record { blue = omega (arith, b); green = omega (arith, g); red = omega (arith, r) }
-
-pub ArePixels-pixel : (p : PixelView) → IsPixel p → ArePixels (pixel_bytes p)
-ArePixels-pixel p h = record { whole = refl; lowered = lowered_pixel p h }

@@ -5,7 +5,7 @@ use Rattle.std.proofs.lemmas.List.{get_or_append_left, get_or-append_right, get_
 use Rattle.clip_format.specs.Preparing.{IsLoweredAt}
 use Rattle.play_scene.specs.Frames.{ArePixels}
 
--- a pixel of which each byte stands in other bytes too
+-- a pixel each byte of which is in other bytes too
 pub lowered_alike : (xs ys : List ℕ) (i j : ℕ) → ((k : ℕ) → k < 4 → slice_index ys (j + k) ≡ slice_index xs (i + k)) → IsLoweredAt xs i → IsLoweredAt ys j
 lowered_alike xs ys i j same h =
     let here : j + 0 ≡ j = omega arith in

@@ -1,29 +1,13 @@
--- Rows and columns that are added one after another.
-use Rattle.std.proofs.Common.{◌≡◌, ℕ, zero, suc, ◌+◌, ◌*◌, ◌≤◌, List, [], ◌∷◌, ◌++◌, length, length-append, refl, ap, ◌∙◌, add-one, append-nil, arith}
+-- The bytes of rows and of pictures.
+use Rattle.std.proofs.Common.{◌≡◌, ℕ, zero, suc, ◌+◌, ◌*◌, ◌≤◌, List, length, length-append, refl, ◌∙◌, arith}
 use Rattle.std.specs.Prelude.{flat_map}
 use Rattle.std.specs.List.{range_with_len}
 use Rattle.std.proofs.lemmas.Nat.{mul-le}
-use Rattle.std.proofs.lemmas.Grind.{flat_map-append}
 use Rattle.pixel_math.specs.Pixel.{PixelView, pixel_bytes}
 use Rattle.play_types.specs.Geometry.{IsSize}
 use Rattle.play_types.specs.declared.geometry.Geometry.{Geometry}
 use Rattle.history_model.specs.text.Frames.{frame_bytes}
 use Rattle.play_scene.specs.Frames.{picture_length}
-
--- one more number at the end of a range
-range_with_len-suc : (a n : ℕ) → range_with_len a (suc n) ≡ range_with_len a n ++ (a + n) ∷ []
-range_with_len-suc a zero = ap (λ (k : ℕ). k ∷ []) (omega arith)
-range_with_len-suc a (suc n) =
-    ap (λ (l : List ℕ). a ∷ l) (range_with_len-suc (a + 1) n ∙ ap (λ (k : ℕ). range_with_len (a + 1) n ++ k ∷ []) (omega arith))
-
--- one more piece after those of the numbers before
-pub flat_map-range_more : {A : Type 0} (f : ℕ → List A) (n : ℕ) → flat_map f (range_with_len 0 (n + 1)) ≡ flat_map f (range_with_len 0 n) ++ f n
-flat_map-range_more {A = A} f n =
-    ap (λ (k : ℕ). flat_map f (range_with_len 0 k)) (add-one n)
-    ∙ ap (flat_map f) (range_with_len-suc 0 n)
-    ∙ flat_map-append f (range_with_len 0 n) ((0 + n) ∷ [])
-    ∙ ap (λ (l : List A). flat_map f (range_with_len 0 n) ++ l) (append-nil (f (0 + n)))
-    ∙ ap (λ (k : ℕ). flat_map f (range_with_len 0 n) ++ f k) (omega arith)
 
 -- the bytes of `count` pieces from the one at `first` on, each of one size
 pub length-pieces : (f : ℕ → List ℕ) (size first count : ℕ) → ((k : ℕ) → length (f k) ≡ size) → length (flat_map f (range_with_len first count)) ≡ size * count

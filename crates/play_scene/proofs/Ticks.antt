@@ -12,11 +12,9 @@ use Rattle.history_model.proofs.Frames.{frame_pixel-scene, last_pixel-tick}
 use Rattle.play_types.specs.declared.geometry.Geometry.{Geometry}
 use Rattle.pixel_math.specs.Pixel.{lowered, transparent}
 use Rattle.play_scene.specs.Picture.{clips_of}
-use Rattle.play_scene.specs.Frames.{ArePictures, FrameView, IsFrame, Shows, frame_at, no_frame, pixel_in, with_picture, zero_frame}
+use Rattle.play_scene.specs.Frames.{ArePictures, FrameView, Shows, frame_at, no_frame, pixel_in, zero_frame}
 use Rattle.play_scene.proofs.Reading.{pixel_in-shown}
 use Rattle.play_scene.proofs.Stills.{size-pictures}
-use Rattle.play_scene.proofs.Writing.{frame_at-with_bytes}
-use Rattle.history_model.specs.text.Frames.{frame_bytes}
 
 -- the pixel of a scene of a history, at the size of the channel's frame
 pub history_pixel : (setup : Setup) (history : List Event) (frames : List FrameView) (entries : List Entry) (channel x y : ℕ) →
@@ -66,28 +64,3 @@ next_pictures setup history frames entries clips sizes shows = record {
       last_pixel-tick setup history channel x y
       ∙ sym (pixel_in-shown (frame_at channel frames) (frame_pixel setup history channel) x y (shows channel configured) h k);
 }
-
--- a frame into which the picture of a channel's scene is written shows the channel's frame of that tick
-pub rendered_pictures : (setup : Setup) (history : List Event) (prev next : List FrameView) (entries : List Entry) (channel : ℕ) →
-    ArePictures (pictures_after setup history) prev entries → IsConfigured (length prev) channel → IsConfigured (length next) channel →
-    (frame_at channel next).size ≡ (frame_at channel prev).size →
-    IsFrame (frame_at channel (with_picture channel
-    (scene_pixel (pictures_after setup history) (frame_at channel next).size (scene history channel)) next)) →
-    Shows (frame_at channel (with_picture channel
-    (scene_pixel (pictures_after setup history) (frame_at channel next).size (scene history channel)) next))
-    (frame_pixel setup history channel)
-rendered_pictures setup history prev next entries channel are configured there same whole =
-    let pictures = pictures_after setup history in
-    let size = (frame_at channel next).size in
-    let picture = scene_pixel pictures size (scene history channel) in
-    let bytes = frame_bytes size.width size.height picture in
-    let written = frame_at-with_bytes channel bytes next there in
-    let shown : picture ≡ frame_pixel setup history channel =
-    λ i x y. (ap (λ (s : Geometry). scene_pixel pictures s (scene history channel) x y) same
-    ∙ history_pixel setup history prev entries channel x y are configured) i in
-    record {
-      whole = whole;
-      bytes = ap (λ (frame : FrameView). frame.bytes) written
-          ∙ ap (frame_bytes size.width size.height) shown
-          ∙ sym (ap (λ (frame : FrameView). frame_bytes frame.size.width frame.size.height (frame_pixel setup history channel)) written);
-    }

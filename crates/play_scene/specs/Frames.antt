@@ -54,11 +54,11 @@ zero_frame channel = record {
 abbrev pub with_piece : ℕ → List ℕ → List ℕ → List ℕ
 with_piece at piece bytes = take at bytes ++ (piece ++ drop (at + length piece) bytes)
 
--- the frames of which one channel has these bytes
+-- the frames, with these bytes for one channel
 abbrev pub with_bytes : ℕ → List ℕ → List FrameView → List FrameView
 with_bytes channel bytes frames = slice_set frames (channel - 1) (record (frame_at channel frames) { bytes = bytes })
 
--- the frames of which one channel has this sound
+-- the frames, with this sound for one channel
 abbrev pub with_sound : ℕ → List ℕ → List FrameView → List FrameView
 with_sound channel sound frames = slice_set frames (channel - 1) (record (frame_at channel frames) { sound = sound })
 
@@ -79,12 +79,6 @@ abbrev pub with_pixels : List ℕ → List FrameView → List FrameView
 with_pixels pixels [] = []
 with_pixels pixels (frame ∷ frames) =
     record frame { bytes = take (picture_length frame.size) pixels } ∷ with_pixels (drop (picture_length frame.size) pixels) frames
-
--- the frames of which one channel shows this pixel at each column and row
-abbrev pub with_picture : ℕ → (ℕ → ℕ → PixelView) → List FrameView → List FrameView
-with_picture channel pixel frames =
-    let size = (frame_at channel frames).size in
-    with_bytes channel (frame_bytes size.width size.height pixel) frames
 
 -- the pixel at a column and a row of a frame
 abbrev pub pixel_in : FrameView → ℕ → ℕ → PixelView

@@ -65,9 +65,9 @@ row_of_layers layers y =
     map (λ x. let pixel : PixelView = scene_pixel tile_pictures (raster 5 3) layers x y in colour_value pixel.a pixel.r pixel.g pixel.b)
     (range_with_len 0 5)
 
--- a colour of which a clip keeps the middle of the two lower rows, the mirrored clip at an opacity, and a translucent colour
--- that is filled upside down; three white layers between them are not shown, for a fill without width, a fill outside and a
--- clip without width
+-- a colour of which a clip keeps the middle of the two lower rows, the mirrored clip at an opacity, and a translucent colour that is
+-- filled upside down; three white layers between them are not shown: one has a fill without width, one a fill outside of the frame,
+-- and one a clip without width
 abbrev pub placed_layers : List Drawn
 placed_layers =
     clipped (coloured 0xFF204060) (numbers (pos 300000) (pos 500000) (pos 500000) (pos 500000))

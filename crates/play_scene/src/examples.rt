@@ -27,8 +27,8 @@ pub fn frames_of_a_clip()
     ensures shortened { row_of (played (Clip 1) 0 2) 9 1 ≡ 80 ∷ [] }
 {}
 
-/// A colour is everywhere. A frame that the clip does not have, a file that is not readable, a number without a clip and
-/// a route are transparent.
+/// A colour fills every column. A frame that the clip does not have, a file that is not readable, a number without a clip and a
+/// route are transparent.
 pub fn other_pictures()
     ensures colour { row_of (played (Colour 0xFF400000) 0 0) 5 2 ≡ 64 ∷ 64 ∷ [] }
     ensures no_frame { row_of (played (Clip 1) 2 2) 1 1 ≡ 0 ∷ [] }
@@ -60,7 +60,7 @@ pub fn frame_of_a_channel()
     ensures narrower { reds_of (still.Channel 1 ∷ []) 1 ≡ 60 ∷ [] }
 {}
 
-/// A piece replaces the bytes if it is put.
+/// A piece replaces the bytes where it is put.
 pub fn piece_of_bytes()
     ensures { with_piece 2 (7 ∷ 8 ∷ []) (0 ∷ 1 ∷ 2 ∷ 3 ∷ 4 ∷ []) ≡ 0 ∷ 1 ∷ 7 ∷ 8 ∷ 4 ∷ [] }
 {}

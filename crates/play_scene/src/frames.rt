@@ -9,9 +9,8 @@ use std::alloc::{AllocError, Global};
 use std::marker::Model;
 use std::mem;
 
-/// A frame for each channel of a configuration: the bytes of its pixels, in rows from the top, each from the left, blue,
-/// green, red and alpha of each pixel, and the bytes of its sound. No pixel has a colour byte above its alpha. Only
-/// [`Frames::new`] takes memory.
+/// A frame for each channel of a configuration: the bytes of its pixels, in rows from the top, each from the left, blue, green, red
+/// and alpha of each pixel, and the bytes of its sound. No pixel has a colour byte above its alpha. Only [`Frames::new`] allocates.
 #[derive(Drop)]
 pub struct Frames {
     parts: Vec<Part>,

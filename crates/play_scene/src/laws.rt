@@ -12,7 +12,7 @@ ghost use Rattle.history_model.specs.pictures.Frame.{frame_pixel, pictures_after
 ghost use Rattle.history_model.specs.pictures.Media.{Setup, clip_pixel};
 ghost use Rattle.history_model.specs.pictures.Raster.{Pictures};
 ghost use Rattle.history_model.specs.pictures.Scene.{scene};
-ghost use Rattle.play_scene.specs.Frames.{ArePictures, FrameView, IsFrame, Shows, frame_at, pictures_of, pixel_in, with_picture, zero_frame};
+ghost use Rattle.play_scene.specs.Frames.{ArePictures, FrameView, Shows, frame_at, pictures_of, pixel_in, zero_frame};
 ghost use Rattle.play_scene.specs.Picture.{clips_of};
 
 /// Frames and a media table give the pictures of the next tick. If they give those after a history, a pixel of the scene of a
@@ -33,18 +33,6 @@ pub fn pixels_of_prepared_clips()
     ensures straight { (clip : ClipView) (frame column row : ℕ) → IsClip clip → AreBytes clip.bytes →
         column < clip.geometry.width → row < clip.geometry.height →
         clip_pixel (straight_clip clip) frame column row ≡ clip_pixel clip frame column row }
-{}
-
-/// If the frames of the tick before give the pictures after a history, a frame into which the picture of the channel's scene
-/// is written has the bytes of the channel's frame at the tick after the history.
-pub fn rendered_frames()
-    ensures { (setup : Setup) (history : List Event) (prev next : List FrameView) (entries : List Entry) (channel : ℕ) →
-        ArePictures (pictures_after setup history) prev entries →
-        IsConfigured (length prev) channel → IsConfigured (length next) channel →
-        (frame_at channel next).size ≡ (frame_at channel prev).size →
-        let picture = scene_pixel (pictures_after setup history) (frame_at channel next).size (scene history channel) in
-        IsFrame (frame_at channel (with_picture channel picture next)) →
-        Shows (frame_at channel (with_picture channel picture next)) (frame_pixel setup history channel) }
 {}
 
 /// A frame with the bytes of a picture has its pixels. The zero frames are the pictures before the first tick, and frames with

@@ -1,52 +1,13 @@
-//! Where the picture of a layer lies in the frame.
-ghost use Rattle.std.specs.Prelude.{◌≡◌, ◌≢◌, ◌-ℤ◌, ◌*ℤ◌, ◌<◌, ◌≤◌, ◌^◌, pos, nat_abs, length, IfSome, if◌then◌else◌};
-ghost use Rattle.play_types.specs.Scene.{IsDrawn, NamesConfigured};
+//! Which column of a raster a column of the frame shows.
+ghost use Rattle.std.specs.Prelude.{◌≡◌, ◌≢◌, ◌-ℤ◌, ◌*ℤ◌, ◌<◌, ◌≤◌, ◌^◌, pos, nat_abs, IfSome, if◌then◌else◌};
 ghost use Rattle.play_types.specs.Setting.{IsWide};
-ghost use Rattle.history_model.specs.pictures.Frame.{layer_pixel};
 ghost use Rattle.history_model.specs.pictures.Placing.{filled_column, floor_div, is_kept, twice_middle, twice_part};
-ghost use Rattle.history_model.specs.pictures.Raster.{Pictures};
-ghost use Rattle.play_scene.specs.Frames.{ArePictures};
 
-use crate::frames::Frames;
-use crate::layer::raster_pixel;
-use clip_format::MediaTable;
-use pixel_math::{Pixel, fade};
-use play_types::{Drawn, Geometry, MICROS_PER_UNIT};
+use play_types::MICROS_PER_UNIT;
 
-/// Returns the pixel at column `x` and row `y` of a frame of this size if a layer is laid into it: the pixel of its
-/// raster that its fill brings there, at its opacity, and transparent if its clip does not keep the place or its fill does
-/// not reach it.
-pub(crate) fn placed_pixel(
-    layer: &Drawn,
-    size: Geometry,
-    prev: &Frames,
-    media: &MediaTable,
-    x: u16,
-    y: u16,
-) -> Pixel
-    requires column { x < size.width }
-    requires row { y < size.height }
-    requires range { IsDrawn layer.now }
-    requires names { NamesConfigured (length prev.now) layer.now }
-    ensures { (pictures : Pictures) → ArePictures pictures prev.now media.now →
-        result ≡ layer_pixel pictures size x y layer.now }
-{
-    let (fill, clip) = (layer.fill, layer.clip);
-    let across = visible_column(size.width, (fill[0], fill[2]), (clip[0], clip[2]), x);
-    let down = visible_column(size.height, (fill[1], fill[3]), (clip[1], clip[3]), y);
-    let Some(column) = across else {
-        return Pixel::transparent();
-    };
-    let Some(row) = down else {
-        return Pixel::transparent();
-    };
-    let pixel = raster_pixel(layer, size, prev, media, column, row);
-    fade(pixel, layer.opacity as u32)
-}
-
-/// Returns the raster column that column `x` of a frame of `width` columns shows by the left edges and widths of a fill and a
-/// clip, in millionths of the frame, -1,000,000,000 to 1,000,000,000, and `None` if it shows none. It does so for rows too,
-/// with top edges and heights. It takes no memory.
+/// Returns the raster column that column `x` of a frame of `width` columns shows by the left edges and widths of a fill and a clip,
+/// in millionths of the frame, -1,000,000,000 to 1,000,000,000, and `None` if it shows none. With a height, top edges and heights it
+/// gives the row that row `x` shows.
 pub fn visible_column(width: u16, fill: (i64, i64), clip: (i64, i64), x: u16) -> Option<u16>
     requires fill { IsWide fill.0 × IsWide fill.1 }
     requires clip { IsWide clip.0 × IsWide clip.1 }
@@ -91,7 +52,7 @@ fn filled_column(width: u16, edge: i64, scale: i64, x: u16) -> Option<u16>
     Some(column as u16)
 }
 
-/// Returns the number of the raster column that column `x` of a frame shows by a fill that has a width. It may lie outside of
+/// Returns the number of the raster column that column `x` of a frame shows by a fill whose width is not 0. It may lie outside of
 /// the raster.
 fn column_at(width: u16, edge: i64, scale: i64, x: u16) -> i64
     requires edge { IsWide edge }

@@ -49,7 +49,7 @@ moment-of rate text =
     (two_digits 59 hours.1) (any-in _))
     (two_digits 99 text) (any-in _))
 
--- an END that a line says is at such a moment
+-- an END line has such a moment
 abbrev IsEarly : SheetLine → Type 0
 IsEarly line.Comment = Unit {0}
 IsEarly (line.Cue cue) = Unit {0}

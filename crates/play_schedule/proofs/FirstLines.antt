@@ -18,7 +18,7 @@ lines-cons : (line : List ℕ) (parts : List (List ℕ)) → 0 < length parts �
 lines-cons line [] l = absurd (omega arith)
 lines-cons line (part ∷ parts) l = refl
 
--- a text with a line feed begins with what stands before the first, without a carriage return at its end
+-- a text with a line feed begins with the line before the first, without a carriage return at its end
 cut_line : (text : List ℕ) → position_or_len is_end text < length text → StartsWithLine text (strip_carriage_return (before_first is_end text)) (after_first is_end text)
 cut_line text l = record {
   lines = ap lines_of_parts (slice_split_first is_end text 0 l)
@@ -26,7 +26,7 @@ cut_line text l = record {
   shorter = omega (arith, length-drop (position_or_len is_end text + 1) text);
 }
 
--- what stands before and after a place
+-- the bytes before and after a position
 abbrev cut_at : List ℕ → ℕ → List ℕ × List ℕ
 cut_at text at = (take at text, drop (at + 1) text)
 

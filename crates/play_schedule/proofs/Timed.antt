@@ -1,4 +1,4 @@
--- Before each line of a script stand as many ticks as its moment says.
+-- Before each line of a script come as many ticks as its moment.
 use Rattle.std.proofs.Common.{◌≡◌, ℕ, zero, suc, ◌+◌, List, [], ◌∷◌, ◌++◌, replicate, refl, sym, ap, ap₂, ◌∙◌, subst, arith, append-nil, zero-add, add-zero, add_assoc}
 use Rattle.std.specs.Prelude.{flat_map, map}
 use Rattle.std.specs.List.{AllByRecursion, range_with_len}

@@ -1,4 +1,4 @@
--- Lines of a sheet, each alone. Words are parted by one space.
+-- Single lines of a sheet. Words are separated by one space.
 use Rattle.std.specs.Prelude.{ℕ, ◌==◌, nat_lt, if◌then◌else◌, Option, Some, None, option_map, option_and_then, unwrap_or, List, [], ◌∷◌, length, codes, bytes_eq}
 use Rattle.std.specs.Option.{option_or}
 use Rattle.play_types.specs.declared.event.Tag.{Tag}
@@ -12,22 +12,22 @@ use Rattle.play_schedule.specs.declared.cue.Start.{Start}
 use Rattle.play_schedule.specs.declared.cue.Start.TheVariants.{At, After}
 use Rattle.play_schedule.specs.Time.{moment_of}
 
--- what a cue line says: when its first copy is due, its copies, and a line of a connection
+-- the contents of a cue line: when its first copy is due, its copies, and a connection with the text that it sends
 pub record CueLine : Type 0 where
   pub start : Start
   pub copies : Copies
   pub tag : Tag
   pub text : List ℕ
 
--- what a line of a sheet says
+-- the contents of a line of a sheet
 pub data SheetLine : Type 0 where
-  -- nothing, for a reader alone
+  -- an empty line or a comment
   Comment : SheetLine
   -- a text that is due
   Cue : CueLine → SheetLine
   -- the number of ticks of the sheet
   End : ℕ → SheetLine
-  -- nothing that a sheet may say
+  -- a line that no sheet may have
   Malformed : SheetLine
 
 -- what follows this word and a space, if a text begins with them
@@ -73,14 +73,14 @@ repeated text =
 abbrev pub copies_of : List ℕ → Copies × List ℕ
 copies_of text = unwrap_or (repeated text) (once, text)
 
--- `w.s text` of a script: a connection and what it says
+-- `w.s text`: a connection and the text that it sends
 abbrev pub said_of : List ℕ → Option (Tag × List ℕ)
 said_of text =
     option_and_then
     (λ (p : List ℕ × (List ℕ × List ℕ)). option_map (λ (tag : Tag). (tag, p.1.1)) (tag_of p.0 p.1.0))
     (addressed_parts text)
 
--- the cue line that begins with these words, after which the text goes on with `w.s text`
+-- the cue line with this start and these copies, which ends with `w.s text`
 abbrev pub cue_line : Start → Copies × List ℕ → Option SheetLine
 cue_line start copies =
     option_map
@@ -110,15 +110,15 @@ end_line rate line =
     (λ (rest : List ℕ). option_map (λ (moment : ℕ). End moment) (moment_of rate rest))
     (after_word (codes "END") line)
 
--- what a line says that has one of the three forms
+-- the contents of a line of one of the three forms
 abbrev pub form_of : ℕ → List ℕ → Option SheetLine
 form_of rate line = option_or (at_line rate line) (option_or (after_line line) (end_line rate line))
 
--- what a line says that is not too long: it may be empty or begin with #
+-- the contents of a line that is not too long: a comment if it is empty or begins with #
 abbrev pub short_line : ℕ → List ℕ → SheetLine
 short_line rate [] = Comment
 short_line rate (c ∷ more) = if c == 35 then Comment else unwrap_or (form_of rate (c ∷ more)) Malformed
 
--- what a line says, with `rate` frames a second: a line that is too long says nothing that a sheet may say
+-- the contents of a line, with `rate` frames a second: a line that is too long is malformed
 abbrev pub line_of : ℕ → List ℕ → SheetLine
 line_of rate line = if nat_lt MAX_SCRIPT_LINE_BYTES (length line) then Malformed else short_line rate line

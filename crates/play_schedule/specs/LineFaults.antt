@@ -1,4 +1,4 @@
--- What is wrong with a faulty line of a sheet, as far as the line itself tells.
+-- What is wrong with a faulty line of a sheet, as far as the line alone shows.
 use Rattle.std.specs.Prelude.{ℕ, nat_lt, is_some, is_none, ◌&&◌, if◌then◌else◌, Bool, false, Option, Some, None, option_and_then, unwrap_or, List, [], ◌∷◌, length, codes}
 use Rattle.std.specs.Option.{option_map_or}
 use Rattle.amcp_text.specs.Numbers.{are_digits, number_within}
@@ -10,7 +10,7 @@ use Rattle.play_schedule.specs.declared.line_fault.LineFault.TheVariants.{TooLon
 use Rattle.play_schedule.specs.Line.{SheetLine, Comment, Cue, End, Malformed, after_word, line_of, repeated}
 use Rattle.play_schedule.specs.Time.{frame_number, moment_of, two_digits}
 
--- what stands before the first space of a text and what follows it: without a space that is all and nothing
+-- the bytes before the first space of a text and those after it: the whole text and nothing if there is no space
 abbrev pub first_word : List ℕ → List ℕ × List ℕ
 first_word text = unwrap_or (parts_at 32 text) (text, [])
 
@@ -30,7 +30,7 @@ frame_of text =
     (two_digits 59 hours.1))
     (two_digits 99 text)
 
--- why a text is no moment: its frame is not below the rate, or it is too late, or it is no time at all
+-- why a text is no moment: its time is too late, its frame is not below the rate, or it is no time at all
 abbrev pub time_fault : ℕ → List ℕ → LineFault
 time_fault rate text =
     option_map_or
@@ -60,14 +60,14 @@ form_fault rate line =
     (after_word (codes "AT") line)
     (option_map_or after_fault (after_word (codes "AFTER") line) (option_map_or (time_fault rate) (after_word (codes "END") line) Beginning))
 
--- what is wrong with a line that is faulty where it stands, by what it says: a comment is never faulty
+-- what is wrong with a line that is faulty in its sheet, by its contents: a comment is never faulty
 abbrev pub fault_of_said : ℕ → List ℕ → SheetLine → Option LineFault
 fault_of_said rate line Comment = None
 fault_of_said rate line (Cue cue) = Some CuePlace
 fault_of_said rate line (End moment) = Some EndPlace
 fault_of_said rate line Malformed = Some (form_fault rate line)
 
--- what is wrong with a line that is faulty where it stands, with `rate` frames a second
+-- what is wrong with a line that is faulty in its sheet, with `rate` frames a second
 abbrev pub fault_of_line : ℕ → List ℕ → Option LineFault
 fault_of_line rate line =
     if nat_lt MAX_SCRIPT_LINE_BYTES (length line) then Some TooLong else fault_of_said rate line (line_of rate line)

@@ -1,4 +1,4 @@
--- The copies of a sheet in order, and what they still give.
+-- The copies of a sheet in order, and the lines that are left of them.
 use Rattle.std.specs.Prelude.{◌≡◌, ℕ, ◌-◌, ◌<◌, ◌≤◌, ◌==◌, ◌&&◌, nat_lt, max, if◌then◌else◌, Bool, List, [], ◌∷◌, ◌++◌, take, flat_map, replicate, slice_get}
 use Rattle.std.specs.List.{AllByRecursion, list_all}
 use Rattle.std.specs.Option.{option_map_or}
@@ -16,7 +16,7 @@ Entry = (ℕ × ℕ) × ℕ
 abbrev pub key_cmp : ℕ × ℕ → ℕ × ℕ → Ordering
 key_cmp one other = ordering_then (nat_cmp one.0 other.0) (nat_cmp one.1 other.1)
 
--- the lines of this number of copies of a cue
+-- the lines of `count` copies of a cue
 abbrev pub copied_lines : ℕ → Cue → List ScriptLine
 copied_lines count cue = replicate count (Said cue.tag cue.text)
 
@@ -24,8 +24,7 @@ copied_lines count cue = replicate count (Said cue.tag cue.text)
 abbrev pub entry_lines : List Cue → Entry → List ScriptLine
 entry_lines cues entry = option_map_or (copied_lines entry.1) (slice_get cues entry.0.1) []
 
--- what entries give after this number of ticks, until the end of the sheet: ticks up to the moment of each, and its
--- lines
+-- the lines of entries after `taken` ticks, up to the end of the sheet: ticks up to the moment of each entry, and its lines
 abbrev pub lines_left : List Cue → ℕ → ℕ → List Entry → List ScriptLine
 lines_left cues ticks taken [] = replicate (ticks - taken) (Ticks 1)
 lines_left cues ticks taken (entry ∷ entries) =
@@ -44,11 +43,11 @@ abbrev pub AreAscending : List Entry → Type 0
 AreAscending [] = Unit {0}
 AreAscending (entry ∷ entries) = AllByRecursion (λ (other : Entry). Precedes entry.0 other.0) entries × AreAscending entries
 
--- each entry is of one of the first cues and has a copy, which is due at the end of the sheet or before
+-- each entry is of one of the first `cues` cues and has a copy, and is due no later than the end of the sheet
 abbrev pub AreOf : ℕ → ℕ → List Entry → Type 0
 AreOf ticks cues entries = AllByRecursion (λ (entry : Entry). (entry.0.1 < cues) × ((0 < entry.1) × (entry.0.0 ≤ ticks))) entries
 
--- the entries are those of the first cues, this many
+-- the entries are those of the first `done` cues
 pub record IsOrderOf (cues : List Cue) (ticks done : ℕ) (entries : List Entry) : Type 0 where
   pub ascending : AreAscending entries
   pub each : AreOf ticks done entries

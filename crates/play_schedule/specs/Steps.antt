@@ -6,8 +6,8 @@ use Rattle.history_model.specs.declared.limits.TheConstants.{MAX_TICKS_PER_LINE}
 use Rattle.play_schedule.specs.declared.steps.SheetStep.{SheetStep}
 use Rattle.play_schedule.specs.declared.steps.SheetStep.TheVariants.{Ticks, Line}
 
--- what is taken of the lines that are left, with a line for each tick: ticks that come next, one at least and as many
--- as a line of a script may ask for at most, or the next line, or nothing, if no line is left
+-- the step that is taken of the lines that are left, with a line for each tick: none if no line is left, ticks that come next,
+-- at least one and at most as many as a line of a script may ask for, or the next line
 abbrev pub TakesStep : List ScriptLine → Option SheetStep → List ScriptLine → Type 0
 TakesStep old None new = (old ≡ []) × (new ≡ [])
 TakesStep old (Some (Ticks count)) new =

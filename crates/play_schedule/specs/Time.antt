@@ -9,7 +9,7 @@ use Rattle.play_schedule.specs.declared.limits.TheConstants.{MAX_MOMENT}
 abbrev pub moment_within : ℕ → Option ℕ
 moment_within moment = if nat_le moment MAX_MOMENT then Some moment else None
 
--- the number that two digits before a colon write, if it is at most this, and what follows the colon
+-- the number that two digits before a colon write, if it is at most `most`, and what follows the colon
 abbrev pub two_digits : ℕ → List ℕ → Option (ℕ × List ℕ)
 two_digits most text =
     option_and_then
@@ -17,7 +17,7 @@ two_digits most text =
     if length p.0 == 2 then option_map (λ (n : ℕ). (n, p.1)) (number_within 0 most p.0) else None)
     (parts_at 58 text)
 
--- the number of a frame that two or three digits write, if a second of `rate` frames has it
+-- the number of a frame that two or three digits write, if it is below `rate`
 abbrev pub frame_number : ℕ → List ℕ → Option ℕ
 frame_number rate text =
     if (length text == 2) || (length text == 3)

@@ -26,7 +26,7 @@ pub struct Cue {
     /// The moment of the first copy.
     pub moment: u32,
     pub copies: Copies,
-    /// The connection that says the text.
+    /// The connection that sends the text.
     pub tag: Tag,
     pub text: ByteList,
 }

@@ -1,4 +1,4 @@
-//! A place in the order of copies.
+//! A position in the order of copies.
 ghost use Rattle.std.specs.Prelude.{◌≡◌, ◌+◌, ◌<◌, ◌≤◌, ◌∷◌, ◌++◌, ℕ, List, [], nat_lt, replicate, true};
 ghost use Rattle.history_model.specs.scripts.Line.{Ticks};
 ghost use Rattle.history_model.specs.declared.limits.TheConstants.{MAX_TICKS_PER_LINE};
@@ -9,7 +9,7 @@ ghost use Rattle.play_schedule.specs.Cursor.{IsWithin, left_of};
 use crate::order::Order;
 use history_model::MAX_TICKS_PER_LINE;
 
-/// A place in the order of copies: the ticks that were taken, the copies that come next, and those that come later.
+/// A position in the order of copies: the ticks that were taken, the copies that come next, and those that come later.
 #[derive(Drop)]
 pub struct Cursor {
     /// The number of ticks that were taken.
@@ -26,7 +26,7 @@ pub struct Cursor {
 }
 
 impl Cursor {
-    /// Returns the place before the first copy.
+    /// Returns the position before the first copy.
     pub fn new(later: Order, ticks: u32) -> Cursor
         ensures left { (cues : List Cued) → left_of cues result ≡ lines_left cues ticks 0 later.entries }
         ensures within { (cues : ℕ) → are_of cues later.entries ≡ true → IsWithin cues result }
@@ -41,7 +41,7 @@ impl Cursor {
         }
     }
 
-    /// Goes on to the next copies, or to the end of the sheet, if neither a copy nor a tick comes first.
+    /// Goes on to the next copies, or to the end of the sheet, unless a copy or a tick comes before them.
     pub fn turn(&mut self)
         ensures left { (cues : List Cued) → left_of cues self.new ≡ left_of cues self.old }
         ensures within { (cues : ℕ) → IsWithin cues self.old → IsWithin cues self.new }
@@ -68,7 +68,7 @@ impl Cursor {
         self.taken < self.moment
     }
 
-    /// Takes the ticks that come next, as many as a step may have, and returns their number.
+    /// Takes the ticks that come next, at most as many as a step may have, and returns their number.
     pub fn wait(&mut self) -> u32
         requires { self.old.taken < self.old.moment }
         ensures some { 1 ≤ result }

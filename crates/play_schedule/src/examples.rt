@@ -20,8 +20,8 @@ pub fn times()
     ensures no_frames { moment "00:00:00" ≡ None }
 {}
 
-/// At a moment the lines of a sheet come in their order, whatever their times, and each moment before the end is
-/// followed by one tick.
+/// Lines that are due at one moment come in the order of the sheet, however their times are written, and each moment before the
+/// end is followed by one tick.
 pub fn scripts_of_sheets()
     ensures order { script "AT 00:00:00:02 1.1 PLAY 1-0 BLUE\nAT 0 1.1 PLAY 1-0 RED\nAFTER 1 2.1 MIXER 1-0 OPACITY 0.5\nEND 3\n"
         ≡ says "PLAY 1-0 RED" ∷ tick ∷ second_says "MIXER 1-0 OPACITY 0.5" ∷ tick ∷ says "PLAY 1-0 BLUE" ∷ tick ∷ [] }

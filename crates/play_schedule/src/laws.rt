@@ -7,7 +7,7 @@ ghost use Rattle.play_schedule.specs.SheetView.{SheetView};
 ghost use Rattle.play_schedule.specs.Sheet.{sheet_of};
 ghost use Rattle.play_schedule.specs.Unfolding.{script_of, ticks_in, timed};
 
-/// Each line of the script of a sheet comes after as many ticks as its moment says.
+/// Each line of the script of a sheet comes after as many ticks as its moment.
 pub fn moments_of_lines()
     ensures lines { (sheet : SheetView) → map (λ line. line.1) (timed sheet) ≡ script_of sheet }
     ensures moments { (sheet : SheetView) (before after : List (ℕ × ScriptLine)) (moment : ℕ) (line : ScriptLine)
@@ -19,7 +19,7 @@ pub fn lines_of_sheets_are_lines()
     ensures { (rate : ℕ) (bytes : List ℕ) (sheet : SheetView) → sheet_of rate bytes ≡ Ok sheet → AreLines (script_of sheet) }
 {}
 
-/// The script of a sheet has as many ticks as its END says, and no END that is read is after the latest moment.
+/// The script of a sheet has as many ticks as its END names, and no END of a valid sheet is after the latest moment.
 pub fn ticks_of_sheets()
     ensures script { (sheet : SheetView) → ticks_in (script_of sheet) ≡ sheet.ticks }
     ensures latest { (rate : ℕ) (bytes : List ℕ) (sheet : SheetView) → sheet_of rate bytes ≡ Ok sheet → sheet.ticks ≤ MAX_MOMENT }

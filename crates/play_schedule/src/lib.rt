@@ -1,12 +1,13 @@
 //! Cue sheets: lines of connections, each with the moment at which it is due.
 //!
-//! [`read_sheet`] reads a sheet, or returns the first fault that it has. [`Sheet::steps`] orders the copies of its
-//! lines, and [`SheetSteps::next`] returns them one by one, with the ticks between them. What they return is the
-//! unfolding of the sheet: for each moment its lines, and then one tick. [`fault_at`] says of a faulty line what is wrong
-//! with it, [`SheetSteps::place`] which line a copy has, and [`Timecode::of`] how its moment is written. [`parts_at`] and [`tag_of`] read the words of lines of other kinds too.
+//! [`read_sheet`] reads a sheet, or returns the first fault that it has. [`Sheet::steps`] orders the copies of its lines, and
+//! [`SheetSteps::next`] returns them one by one, with the ticks between them. These steps are the unfolding of the sheet: for
+//! each moment its lines, and then, before the end, one tick. [`fault_at`] returns what is wrong with a faulty line,
+//! [`SheetSteps::place`] the line and the moment of a copy, and [`Timecode::of`] a moment as a timecode. [`parts_at`] and
+//! [`tag_of`] read the words of lines of other kinds too.
 //!
-//! The definitions of times, lines, sheets and unfoldings stand in `specs/`. The modules `examples` and `laws` show
-//! what they say.
+//! The definitions of times, lines, sheets and unfoldings are in `specs/`. The modules `examples` and `laws` show what they
+//! mean.
 #![tactic(auto)]
 
 mod cue;

@@ -12,17 +12,17 @@ use amcp_text::{number_within, plain_number_within};
 use history_model::{MAX_SCRIPT_LINE_BYTES, MAX_SESSION, MAX_WORKER};
 use play_types::Tag;
 
-/// What a cue line says.
+/// The contents of a cue line.
 #[derive(Clone, Copy)]
 pub struct CueLine<'a> {
     pub start: Start,
     pub copies: Copies,
-    /// The connection that says the text.
+    /// The connection that sends the text.
     pub tag: Tag,
     pub text: &'a [u8],
 }
 
-/// What a line of a sheet says.
+/// The contents of a line of a sheet.
 #[derive(Clone, Copy)]
 pub enum SheetLine<'a> {
     /// Nothing: the line is empty or a comment.
@@ -31,17 +31,17 @@ pub enum SheetLine<'a> {
     Cue(CueLine<'a>),
     /// The number of ticks of the sheet.
     End(u32),
-    /// Nothing that a sheet may say.
+    /// A line that no sheet may have.
     Malformed,
 }
 
-/// The copies of a line that asks for none.
+/// The copies of a line without `EVERY n TIMES k`.
 const ONCE: Copies = Copies {
     count: 1,
     interval: 0,
 };
 
-/// Returns what a line says, its end left out, with `rate` frames a second.
+/// Parses a line, given without its line end, with `rate` frames a second in its timecodes.
 pub fn line_of(rate: u32, line: &[u8]) -> SheetLine<'_>
     ensures { line_view result ≡ line_of rate line.now }
 {
@@ -51,7 +51,7 @@ pub fn line_of(rate: u32, line: &[u8]) -> SheetLine<'_>
     short_line(rate, line)
 }
 
-/// Returns what a line says that is not too long.
+/// Parses a line that is not too long.
 fn short_line(rate: u32, line: &[u8]) -> SheetLine<'_>
     ensures { line_view result ≡ short_line rate line.now }
 {
@@ -61,7 +61,7 @@ fn short_line(rate: u32, line: &[u8]) -> SheetLine<'_>
     }
 }
 
-/// Returns what a line says that has one of the three forms.
+/// Parses a line of one of the three forms.
 fn form_of(rate: u32, line: &[u8]) -> Option<SheetLine<'_>>
     ensures { option_map line_view result ≡ form_of rate line.now }
 {
@@ -74,7 +74,7 @@ fn form_of(rate: u32, line: &[u8]) -> Option<SheetLine<'_>>
     end_line(rate, line)
 }
 
-/// Returns what a line says that begins with `AT time`.
+/// Parses a line that begins with `AT time`.
 fn at_line(rate: u32, line: &[u8]) -> Option<SheetLine<'_>>
     ensures { option_map line_view result ≡ at_line rate line.now }
 {
@@ -84,7 +84,7 @@ fn at_line(rate: u32, line: &[u8]) -> Option<SheetLine<'_>>
     cue_line(Start::At(moment), copies, rest)
 }
 
-/// Returns what a line says that begins with `AFTER n`.
+/// Parses a line that begins with `AFTER n`.
 fn after_line(line: &[u8]) -> Option<SheetLine<'_>>
     ensures { option_map line_view result ≡ after_line line.now }
 {
@@ -93,7 +93,7 @@ fn after_line(line: &[u8]) -> Option<SheetLine<'_>>
     cue_line(Start::After(ticks), ONCE, rest)
 }
 
-/// Returns what the line `END time` says.
+/// Parses the line `END time`.
 fn end_line(rate: u32, line: &[u8]) -> Option<SheetLine<'_>>
     ensures { option_map line_view result ≡ end_line rate line.now }
 {
@@ -115,7 +115,7 @@ fn cue_line(start: Start, copies: Copies, rest: &[u8]) -> Option<SheetLine<'_>>
     }))
 }
 
-/// Returns the copies that a text asks for, one if it asks for none, and what follows.
+/// Returns the copies of `EVERY n TIMES k`, or one copy if a text does not begin with that, and what follows.
 fn copies_of(text: &[u8]) -> (Copies, &[u8])
     ensures { copies_view result ≡ copies_of text.now }
 {
@@ -136,7 +136,7 @@ pub fn repeated(text: &[u8]) -> Option<(Copies, &[u8])>
     Some((Copies { count, interval }, rest))
 }
 
-/// Returns the connection of `w.s text` and what it says.
+/// Returns the connection of `w.s text` and the text that it sends.
 fn said_of(text: &[u8]) -> Option<(Tag, &[u8])>
     ensures { option_map said_view result ≡ said_of text.now }
 {

@@ -1,4 +1,4 @@
-//! What is wrong with a faulty line of a sheet, for the person who mends it.
+//! What is wrong with a faulty line of a sheet, for the message to its author.
 ghost use Rattle.std.specs.Prelude.{◌≡◌, option_and_then, option_map, slice_get, ◌-◌};
 ghost use Rattle.std.specs.Str.Lines.{lines};
 ghost use Rattle.amcp_text.specs.Numbers.{are_digits};
@@ -13,7 +13,7 @@ use crate::words::parts_at;
 use amcp_text::number_within;
 use history_model::MAX_SCRIPT_LINE_BYTES;
 
-/// What is wrong with a faulty line of a sheet, as far as the line itself tells.
+/// What is wrong with a faulty line of a sheet, as far as the line alone shows.
 #[derive(Clone, Copy, Debug, PartialEq, Eq)]
 pub enum LineFault {
     /// It has more than 8,192 bytes.
@@ -31,19 +31,19 @@ pub enum LineFault {
     /// After `EVERY` comes no `n TIMES k` with `n` of at most [`MAX_MOMENT`](crate::MAX_MOMENT) and `k` from 1 to
     /// [`MAX_LINE_COPIES`](crate::MAX_LINE_COPIES).
     Copies,
-    /// No connection `w.s`, space and text come where they have to.
+    /// `w.s text` is missing where it should follow, or `w.s` is out of range.
     Connection,
-    /// It is a cue line that may not stand there: it follows END, a copy is due after
-    /// [`MAX_MOMENT`](crate::MAX_MOMENT), or the copies are more than [`MAX_COPIES`](crate::MAX_COPIES).
+    /// It is a cue line out of place: it follows END, a copy is due after [`MAX_MOMENT`](crate::MAX_MOMENT), or the copies are
+    /// more than [`MAX_COPIES`](crate::MAX_COPIES).
     CuePlace,
-    /// It is an END that may not stand there: it follows another, or a copy is due after it.
+    /// It is an END out of place: it follows another, or a copy is due after it.
     EndPlace,
 }
 
-/// Returns what is wrong with the line of this number, from 1, of the bytes of a sheet, if the line is faulty. The number is one
-/// that [`read_sheet`](crate::read_sheet) names.
+/// Returns what is wrong with the line `number`, counted from 1, of the bytes of a sheet. The number is one that
+/// [`read_sheet`](crate::read_sheet) named as that of the faulty line.
 ///
-/// There is no answer if the bytes have fewer lines, or the line is a comment, which is never faulty.
+/// Returns `None` if the bytes have fewer lines, or if the line is empty or a comment, which is never faulty.
 pub fn fault_at(bytes: &[u8], rate: u32, number: u32) -> Option<LineFault>
     ensures { result ≡ option_and_then (fault_of_line rate) (slice_get (lines bytes.now) (number - 1)) }
 {
@@ -51,7 +51,7 @@ pub fn fault_at(bytes: &[u8], rate: u32, number: u32) -> Option<LineFault>
     fault_of_line(rate, line)
 }
 
-/// Returns the line of a text at this place, from 0, its end left out.
+/// Returns line `at`, counted from 0, of a text, without its line end.
 fn line_at(text: &[u8], at: u32) -> Option<&[u8]>
     ensures { option_map (λ line. line.now) result ≡ slice_get (lines text.now) at }
 {
@@ -67,7 +67,7 @@ fn line_at(text: &[u8], at: u32) -> Option<&[u8]>
     None
 }
 
-/// Returns what is wrong with a line that is faulty where it stands, with `rate` frames a second. A comment is never faulty.
+/// Returns what is wrong with a line that is faulty in its sheet, with `rate` frames a second. A comment is never faulty.
 fn fault_of_line(rate: u32, line: &[u8]) -> Option<LineFault>
     ensures { result ≡ fault_of_line rate line.now }
 {
@@ -165,7 +165,7 @@ fn is_whole(text: &[u8]) -> bool
     }
 }
 
-/// Returns whether a text has no byte but digits.
+/// Returns whether a text consists of digits only.
 fn are_digits(text: &[u8]) -> bool
     ensures { result ≡ are_digits text.now }
 {
@@ -182,7 +182,7 @@ fn frame_of(text: &[u8]) -> Option<u32>
     frame_number(1_000, frames)
 }
 
-/// Returns the bytes before the first space of a text, and those after it. Without a space they are all and none.
+/// Returns the bytes before the first space of a text, and those after it: the whole text and nothing if there is no space.
 fn first_word(text: &[u8]) -> (&[u8], &[u8])
     ensures { parts_view result ≡ first_word text.now }
 {

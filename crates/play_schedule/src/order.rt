@@ -8,10 +8,10 @@ use crate::cue::Cue;
 use std::alloc::{AllocError, Global};
 use std::collections::BTreeMap;
 
-/// How many copies are due at a moment of the cue of a number.
+/// The number of copies that are due, by their moment and the number of their cue.
 pub type Order = BTreeMap<(u32, usize), u32>;
 
-/// Returns the copies of cues. The cues are numbered from 0.
+/// Returns the order of the copies of cues. The cues are numbered from 0.
 pub fn order_of(alloc: Global, cues: &[Cue], ticks: u32) -> Result<Order, AllocError>
     requires { is_due_after ticks cues.now ≡ false }
     ensures { IfOk result (λ order. IsOrderOf cues.now ticks (length cues.now) order.entries) }

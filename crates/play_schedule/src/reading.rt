@@ -5,7 +5,7 @@ ghost use Rattle.play_schedule.specs.Due.{copies_in, is_due_after};
 
 use crate::cue::Cue;
 
-/// What was read of a sheet, of which no line was faulty.
+/// What was read of a sheet so far, in which no line was faulty.
 #[derive(Drop)]
 pub struct Reading {
     pub cues: Vec<Cue>,

@@ -1,4 +1,4 @@
-//! A sheet is read line by line.
+//! Reading of a sheet line by line.
 ghost use Rattle.std.specs.Prelude.{◌≡◌, ◌+◌, ◌-◌, ◌*◌, ◌^◌, ◌<◌, ◌∷◌, ◌++◌, List, [], None, OnOk, false};
 ghost use Rattle.play_schedule.specs.Line.{SheetLine as Said};
 ghost use Rattle.play_schedule.specs.Line as line;
@@ -15,7 +15,7 @@ use play_types::ByteList;
 use std::alloc::{AllocError, Global};
 
 impl Reading {
-    /// Returns what was read before the first line.
+    /// Creates the state before the first line.
     pub fn new(alloc: Global) -> Reading
         ensures { HasRead result [] }
     {
@@ -29,7 +29,7 @@ impl Reading {
         }
     }
 
-    /// Takes the next line. It returns the fault of the line if it is faulty.
+    /// Reads the next line. Returns the fault of the line if it is faulty.
     pub fn take(&mut self, alloc: Global, line: SheetLine<'_>) -> Result<(), SheetFault>
         requires room { self.old.lines < u32.MAX }
         ensures lines { OnOk result (self.new.lines ≡ self.old.lines + 1) }
@@ -46,7 +46,7 @@ impl Reading {
         }
     }
 
-    /// Takes a cue line. It returns the fault of the line if it is faulty.
+    /// Reads a cue line. Returns the fault of the line if it is faulty.
     fn take_cue(&mut self, alloc: Global, cue: CueLine<'_>) -> Result<(), SheetFault>
         requires room { self.old.lines < u32.MAX }
         ensures lines { OnOk result (self.new.lines ≡ self.old.lines + 1) }
@@ -60,7 +60,7 @@ impl Reading {
         Ok(())
     }
 
-    /// Takes an END. It returns the fault of the line if it is faulty.
+    /// Reads an END. Returns the fault of the line if it is faulty.
     fn take_end(&mut self, moment: u32) -> Result<(), SheetFault>
         requires room { self.old.lines < u32.MAX }
         ensures lines { OnOk result (self.new.lines ≡ self.old.lines + 1) }
@@ -74,7 +74,7 @@ impl Reading {
         Ok(())
     }
 
-    /// Returns the sheet, if its END was read.
+    /// Returns the sheet, or `NoEnd` if no END was read.
     pub fn finish(self) -> Result<Sheet, SheetFault>
         ensures { (before : List Said) → HasRead self before → IsReadAs (ended_sheet (cues_of before) (end_of before)) result }
     {

@@ -15,7 +15,7 @@ use std::error::Error;
 use std::fmt;
 use std::marker::Model;
 
-/// A cue sheet: the lines that connections say, each with the moments at which it is due, and a number of ticks.
+/// A cue sheet: the lines that connections send, each with the moments at which it is due, and a number of ticks.
 #[derive(Debug, Drop)]
 pub struct Sheet {
     pub(crate) cues: Vec<Cue>,
@@ -39,9 +39,9 @@ impl Model for Sheet {
 /// Why a text is no cue sheet.
 #[derive(Clone, Copy, Debug, PartialEq, Eq)]
 pub enum SheetFault {
-    /// The line of this number, from 1, is the first faulty one: it has no form of a sheet's lines or more than 8,192
-    /// bytes, it follows END, it has a moment after [`MAX_MOMENT`](crate::MAX_MOMENT), the copies with its own are more
-    /// than [`MAX_COPIES`](crate::MAX_COPIES), or it is an END before the moment of a copy.
+    /// The line of this number, from 1, is the first faulty one: it has none of the forms of a sheet or more than 8,192 bytes,
+    /// it follows END, it has a moment after [`MAX_MOMENT`](crate::MAX_MOMENT), the copies with its own are more than
+    /// [`MAX_COPIES`](crate::MAX_COPIES), or it is an END before the moment of a copy.
     Line { at: u32 },
     /// No line is faulty, and none is END.
     NoEnd,
@@ -52,7 +52,7 @@ pub enum SheetFault {
 impl fmt::Display for SheetFault {
     fn fmt<W: fmt::Write>(&self, f: &mut fmt::Formatter<W>) -> fmt::Result {
         match self {
-            SheetFault::Line { at } => write!(f, "line {at} is no line that may stand there"),
+            SheetFault::Line { at } => write!(f, "line {at} is not valid"),
             SheetFault::NoEnd => write!(f, "no line is END"),
             SheetFault::OutOfMemory => write!(f, "out of memory"),
         }
@@ -74,11 +74,10 @@ impl From<AllocError> for SheetFault {
 
 /// Reads a cue sheet, with `rate` frames a second in its timecodes.
 ///
-/// A line ends at LF, and one CR before it belongs to the end. Empty lines and those that begin with `#` are passed
-/// over. The other lines are `AT time w.s text`, `AT time EVERY n TIMES k w.s text`, `AFTER n w.s text` and at last
-/// `END time`.
+/// A line ends at LF, and one CR before it belongs to the end. Empty lines and those that begin with `#` are ignored. The other
+/// lines are `AT time w.s text`, `AT time EVERY n TIMES k w.s text`, `AFTER n w.s text`, and finally `END time`.
 ///
-/// [`SheetFault::Line`] names the first faulty line, and [`SheetFault::NoEnd`] comes exactly if no line is faulty and
+/// [`SheetFault::Line`] names the first faulty line, and [`SheetFault::NoEnd`] is returned exactly if no line is faulty and
 /// none is END.
 pub fn read_sheet(alloc: Global, bytes: &[u8], rate: u32) -> Result<Sheet, SheetFault>
     requires { length bytes.now ≤ MAX_SHEET_BYTES }

@@ -20,7 +20,7 @@ pub enum SheetStep {
     Line(Tag, ByteList),
 }
 
-/// Where a copy of a cue line stands.
+/// The line and the moment of a copy of a cue line.
 #[derive(Clone, Copy, Debug, PartialEq, Eq)]
 pub struct CuePlace {
     /// The number of its line in the sheet, from 1.
@@ -50,7 +50,7 @@ impl<'a> Model for SheetSteps<'a> {
 }
 
 impl Sheet {
-    /// Returns the steps of the sheet, before the first. It takes the memory for the order of the copies.
+    /// Returns the steps of the sheet, before the first. Allocates the memory for the order of the copies.
     pub fn steps(&self, alloc: Global) -> Result<SheetSteps<'_>, AllocError>
         ensures { IfOk result (λ steps. steps ≡ script_of self.now) }
     {
@@ -83,8 +83,8 @@ impl<'a> SheetSteps<'a> {
         Ok(Some(SheetStep::Line(cue.tag, text)))
     }
 
-    /// Returns where the copy that was taken last stands, for a person who is told of it. Before the first copy it is no place of a
-    /// copy.
+    /// Returns the line and the moment of the copy that [`SheetSteps::next`] has just returned, for messages. Before the first
+    /// copy and after ticks, it has no meaning.
     pub fn place(&self) -> CuePlace {
         CuePlace {
             line: self.numbers.get(self.cursor.cue).copied().unwrap_or(0),

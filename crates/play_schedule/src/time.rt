@@ -57,7 +57,7 @@ pub fn two_digits(most: u32, text: &[u8]) -> Option<(u32, &[u8])>
     Some((number, rest))
 }
 
-/// Returns the number of a frame that two or three digits write, if a second of `rate` frames has it.
+/// Returns the number of a frame that two or three digits write, if it is below `rate`.
 pub fn frame_number(rate: u32, text: &[u8]) -> Option<u32>
     ensures { result ≡ frame_number rate text.now }
 {

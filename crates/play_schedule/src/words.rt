@@ -1,4 +1,4 @@
-//! Words of a line, parted by one space each.
+//! Words of a line, separated by one space.
 ghost use Rattle.std.specs.Prelude.{◌≡◌, ◌==◌, option_map, position};
 ghost use Rattle.history_model.specs.text.Parts.{parts_at};
 
@@ -10,7 +10,7 @@ pub fn parts_at(byte: u8, text: &[u8]) -> Option<(&[u8], &[u8])>
     Some((&text[..at], &text[at + 1..]))
 }
 
-/// Returns the place of the first `byte` of a text.
+/// Returns the index of the first `byte` of a text.
 fn place_of(byte: u8, text: &[u8]) -> Option<usize>
     ensures { result ≡ position (λ c. c == byte) text.now }
 {

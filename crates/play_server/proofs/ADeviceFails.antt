@@ -1,5 +1,5 @@
--- The devices after a run: which counts of faults rose, and which are as they were.
-use Rattle.std.proofs.Common.{◌≡◌, ℕ, zero, suc, ◌+◌, ◌<◌, Bool, true, false, true≢false, List, [], ◌∷◌, ◌++◌, length, refl, sym, ap, ◌∙◌, subst, arith, inl, inr}
+-- The devices after a run: which counts of faults rose, and which are unchanged.
+use Rattle.std.proofs.Common.{◌≡◌, ℕ, zero, suc, ◌+◌, ◌<◌, ◌||◌, Bool, true, false, true≢false, List, [], ◌∷◌, ◌++◌, length, refl, sym, ap, ◌∙◌, subst, arith, inl, inr}
 use Rattle.std.specs.Prelude.{All, Option, Some, None, IfSome, option_map, vec_len}
 use Rattle.std.specs.List.{AllByRecursion, list_any}
 use Rattle.std.proofs.lemmas.Bool.{or_cases, or_parts}
@@ -57,12 +57,12 @@ kept_door (work.Ended at) before after count well = count
 kept_door work.DoorFault before after count well = absurd (true≢false well)
 kept_door work.SessionsOver before after count well = count
 
--- a clock that has answered Closed tells it
+-- a clock that has answered Closed records it
 told_closed : (told : Option ClockTold) → IfSome (option_map (λ (t : ClockTold). record t { closed = true }) told) (λ t. t.closed ≡ true)
 told_closed None = tt
 told_closed (Some told) = refl
 
--- the last event is one of those of which all are such
+-- what holds of all elements holds of the last one
 last_of_all : {X : Type 0} (P : X → Type 0) (xs : List X) (x : X) → AllByRecursion P (xs ++ x ∷ []) → P x
 last_of_all P [] x all = all.0
 last_of_all P (first ∷ xs) x all = last_of_all P xs x all.1
@@ -175,28 +175,33 @@ module _ {C D O L : Type 0} (device : DeviceStates C D O L) (tells : L → SinkS
   ticks_rose (OutFault (suc before_it)) met shown devices fault meets clock outs =
       inr (inr (inl (out_rose device.out (record shown { history = outs.before }) (suc before_it) before_it 1 devices.0.outs.items devices.1.outs.items outs.outs (omega arith) (omega (arith, meets.1)))))
 
-  -- a device failed in a run that ended so
+  -- a device failed in a run that ended with DeviceFault
   pub device_rose : (devices : Devices C D O × Devices C D O) → vec_len devices.0.outs ≡ length program.config.channels
       → HasRun device tells program serve.DeviceFault devices → ADeviceFails device devices.0 devices.1
   device_rose devices count run =
-      let fault = fault_told (has_device_fault run.ticker run.runs run.written) run.ending in
+      let fault = fault_told (has_device_fault run.ticker run.runs run.written run.logged) run.ending in
       let outs : length devices.0.outs.items ≡ length program.config.channels = sym devices.0.outs.ok.0 ∙ count in
       elim (or_cases (is_tick_fault run.ticker) _ fault) [
         | inl ticker ↦ ticks_rose run.ticker run.met _ devices ticker (subst (λ (n : ℕ). Meets n run.ticker run.met) (sym outs) run.meets) run.clock run.outs
-        | inr other ↦ elim (or_cases (list_any (λ (r : DoorRun L). is_door_fault r.end) run.runs) (is_cut run.written) other) [
+        | inr other ↦ elim (or_cases (list_any (λ (r : DoorRun L). is_door_fault r.end) run.runs) (is_cut run.written || is_cut run.logged) other) [
           | inl door ↦ inr (inl (door_rose device.door _ run.history 1 run.runs devices.0.doors.items devices.1.doors.items run.doors door))
-          | inr cut ↦ inr (inr (inr (cut_rose run.written _ _ _ cut run.text)))
+          | inr cut ↦ elim (or_cases (is_cut run.written) (is_cut run.logged) cut) [
+            | inl text ↦ inr (inr (inr (inl (cut_rose run.written _ _ _ text run.text))))
+            | inr log ↦ inr (inr (inr (inr (cut_rose run.logged _ _ _ log run.log.sends))))
+          ]
         ]
       ]
 
-  -- what a run that ended without a fault tells of its parts
+  -- the parts of a run that ended without a fault had none
   pub no_faults : (devices : Devices C D O × Devices C D O) → (run : HasRun device tells program serve.Ended devices)
-      → (is_tick_fault run.ticker ≡ false) × (list_any (λ (r : DoorRun L). is_door_fault r.end) run.runs ≡ false) × (is_cut run.written ≡ false)
+      → (is_tick_fault run.ticker ≡ false) × (list_any (λ (r : DoorRun L). is_door_fault r.end) run.runs ≡ false)
+      × (is_cut run.written ≡ false) × (is_cut run.logged ≡ false)
   no_faults devices run =
-      let none = none_told (has_device_fault run.ticker run.runs run.written) run.ending in
+      let none = none_told (has_device_fault run.ticker run.runs run.written run.logged) run.ending in
       let parts = or_parts (is_tick_fault run.ticker) _ none in
-      let others = or_parts (list_any (λ (r : DoorRun L). is_door_fault r.end) run.runs) (is_cut run.written) parts.1 in
-      (parts.0, others.0, others.1)
+      let others = or_parts (list_any (λ (r : DoorRun L). is_door_fault r.end) run.runs) (is_cut run.written || is_cut run.logged) parts.1 in
+      let texts = or_parts (is_cut run.written) (is_cut run.logged) others.1 in
+      (parts.0, others.0, texts.0, texts.1)
 
   -- no device failed in a run that ended without a fault
   pub devices_stay : (devices : Devices C D O × Devices C D O) → HasRun device tells program serve.Ended devices → NoDeviceFails device devices.0 devices.1
@@ -206,6 +211,7 @@ module _ {C D O L : Type 0} (device : DeviceStates C D O L) (tells : L → SinkS
         doors = doors_stay device.door _ run.history 1 run.runs devices.0.doors.items devices.1.doors.items run.doors well.1;
         outs = outs_stay device.out _ run.ticker devices.0.outs.items devices.1.outs.items well.0 run.outs;
         history = uncut_stays run.written _ _ _ well.2 run.text;
+        log = uncut_stays run.logged _ _ _ well.3 run.log.sends;
       }
 
   -- who made the last event

@@ -1,4 +1,4 @@
--- Devices that are new, in the words in which they are kept.
+-- New devices are unused, and unused devices are new.
 use Rattle.std.proofs.Common.{◌≡◌, List, [], ◌∷◌, Bool, false, length, ap, arith}
 use Rattle.std.specs.Prelude.{Option, Some, None, IfSome, slice_index_or}
 use Rattle.play_outside.specs.ListenerState.{ListenerTold, ListenerState}
@@ -39,6 +39,8 @@ new_devices-unused words devices new = record {
   out_marks = new.out_marks;
   history = new.history;
   history_mark = new.history_mark;
+  log = new.log;
+  log_mark = new.log_mark;
 }
 
 -- unused devices are new
@@ -51,4 +53,6 @@ unused_devices-new words devices unused = record {
   out_marks = unused.out_marks;
   history = unused.history;
   history_mark = unused.history_mark;
+  log = unused.log;
+  log_mark = unused.log_mark;
 }

@@ -59,7 +59,7 @@ has_final_last [] = refl
 has_final_last (event ∷ events) = ap (λ (b : Bool). is_final event || b) (has_final_last events) ∙ or-true (is_final event)
 
 -- the ticker has seen a stop
-pub seen_stop : (ticker : TickEnd) (old new : PassView) → EndsPass ticker old new → (at : ℕ) × (stop_at new.seen ≡ Some at)
+pub seen_stop : (ticker : TickEnd) (old new : PassView) → EndsPass [] ticker old new → (at : ℕ) × (stop_at new.seen ≡ Some at)
 seen_stop ClockClosed old new end = (end.at, end.stopped)
 seen_stop (Ended at) old new end = (at, end.0)
 seen_stop TicksOver old new end = (end.0.at, end.0.stopped)
@@ -67,23 +67,23 @@ seen_stop ClockFault old new end = (end.at, end.stopped)
 seen_stop (OutFault channel) old new end = (end.at, end.stopped)
 
 -- what was met, by a history that goes on from what the ticker has seen
-pub ticks_end : (met : TickEnd) (old new : PassView) (history : List Event) → EndsPass met old new → IsPrefix new.seen history → ticks history ≡ ticks new.seen → TicksEndBy history met
+pub ticks_end : (met : TickEnd) (old new : PassView) (history : List Event) → EndsPass [] met old new → IsPrefix new.seen history → ticks history ≡ ticks new.seen → TicksEndBy history met
 ticks_end ClockClosed old new history end grows same = tt
 ticks_end (Ended at) old new history end grows same = stop_stays new.seen history at grows end.0
 ticks_end TicksOver old new history end grows same = same ∙ end.1
 ticks_end ClockFault old new history end grows same = tt
 ticks_end (OutFault channel) old new history end grows same = tt
 
--- what the outputs took is of each history with the same ticks
+-- the outputs took the frames of each history that goes on without a tick
 pub written_later : {O : Type 0} (state : O → SinkState) (setup : Setup) (seen history : List Event) → GoesOn seen history → (ticker : TickEnd) (olds news : List O)
-    → AreWritten state ticker (record { setup = setup; history = seen }) olds news → AreWritten state ticker (record { setup = setup; history = history }) olds news
+    → AreWritten state ticker (record { setup = setup; given = []; history = seen }) olds news → AreWritten state ticker (record { setup = setup; given = []; history = history }) olds news
 written_later {O} state setup seen history on = go
   where
-    takes : (olds news : List O) → AllTakeFrames state (record { setup = setup; history = seen }) olds news → AllTakeFrames state (record { setup = setup; history = history }) olds news
-    takes olds news all = still_taken state setup seen history olds news on all
+    takes : (olds news : List O) → AllTakeFrames state (record { setup = setup; given = []; history = seen }) olds news → AllTakeFrames state (record { setup = setup; given = []; history = history }) olds news
+    takes olds news all = still_taken state (record { setup = setup; given = [] }) seen history olds news on all
 
     go : (ticker : TickEnd) (olds news : List O)
-        → AreWritten state ticker (record { setup = setup; history = seen }) olds news → AreWritten state ticker (record { setup = setup; history = history }) olds news
+        → AreWritten state ticker (record { setup = setup; given = []; history = seen }) olds news → AreWritten state ticker (record { setup = setup; given = []; history = history }) olds news
     go ClockClosed olds news all = takes olds news all
     go (Ended at) olds news all = takes olds news all
     go TicksOver olds news all = takes olds news all

@@ -46,7 +46,7 @@ split_at (Stop tag ∷ rest) count few =
     let next = split_at rest count few in
     record { later = next.later; whole = ap (λ (events : List Event). Stop tag ∷ events) next.whole; passed = next.passed }
 
--- the events before a tick in a history are those that stand before it
+-- the events before a tick in a history are those that come before it
 before_tick-here : (past later : List Event) → before_tick (past ++ Tick ∷ later) (ticks past) ≡ past
 before_tick-here [] later = refl
 before_tick-here (Do tag cmd ∷ past) later = ap (λ (events : List Event). Do tag cmd ∷ events) (before_tick-here past later)
@@ -68,7 +68,7 @@ module _ (setup : Setup) (channel : ℕ) where
   abbrev text : List Event → List ℕ
   text history = frames_text setup history channel
 
-  -- the frame of the tick that `count` ticks stand before in a history, and those of ticks from one on
+  -- the frame of the tick that follows `count` ticks of a history, and the frames of `count` ticks from one on
   abbrev frame : List Event → ℕ → List ℕ
   frame history count = raw_frame setup (before_tick history count) channel
 
@@ -114,7 +114,7 @@ module _ (setup : Setup) (channel : ℕ) where
   text_goes_on past (Tick ∷ later) = past_tick past later (text_goes_on (past ++ Tick ∷ []) later)
   text_goes_on past (Stop tag ∷ later) = past_other past (Stop tag) later refl refl (text_goes_on (past ++ Stop tag ∷ []) later)
 
-  -- the frames of ticks from one on stand behind those of the events before
+  -- the frames of ticks from one on follow those of the events before
   shown_within : (history : List Event) (first count : ℕ) → first + count ≤ ticks history → IsPrefix (text (before_tick history first) ++ shown history first count) (text history)
   shown_within history first count few =
       let split = split_at history first (omega (arith, few)) in
@@ -132,7 +132,7 @@ module _ (setup : Setup) (channel : ℕ) where
         append_assoc (text past) (shown history first count) (shown history (first + count) rest) ∙ sym (all ∙ ap (λ (bytes : List ℕ). text past ++ bytes) apart),
       )
 
--- the bytes of a film stand behind the frames of the ticks before it
+-- the bytes of a film follow the frames of the ticks before it
 pub film_on_air : (setup : Setup) (history : List Event) (span : Span) → span.first + span.frames ≤ ticks history
     → IsPrefix (frames_text setup (before_tick history span.first) span.channel ++ (filmed setup history span).bytes) (frames_text setup history span.channel)
 unfolding filmed
@@ -150,7 +150,7 @@ all_taken state (OutFault failed) shown olds news well written = absurd (true≢
 -- in a run of the program that ended without a fault the outputs took all frames of its history
 pub run_taken : {C D O L : Type 0} (device : DeviceStates C D O L) (tells : L → SinkState) (line : List (List ℕ)) (moments : AtSite C D O × AtSite C D O)
     (run : HasServedClients device tells line serve.Ended moments)
-    → AllTakeFrames device.out (record { setup = setup_of (program_of run.setup); history = run.served.serves.history }) run.served.given.outs.items run.served.finished.outs.items
+    → AllTakeFrames device.out (record { setup = setup_of (program_of run.setup); given = []; history = run.served.serves.history }) run.served.given.outs.items run.served.finished.outs.items
 run_taken device tells line moments run =
     let serves = run.served.serves in
     let well = no_faults device tells (program_of run.setup) (run.served.given, run.served.finished) serves in

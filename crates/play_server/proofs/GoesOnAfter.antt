@@ -1,5 +1,5 @@
 -- The pass after a link was served.
-use Rattle.std.proofs.Common.{◌≡◌, ℕ, false, List, [], refl, sym, ap, ◌∙◌}
+use Rattle.std.proofs.Common.{◌≡◌, ℕ, false, List, [], ◌++◌, refl, sym, ap, ◌∙◌}
 use Rattle.std.specs.Prelude.{Some}
 use Rattle.play_types.specs.History.{stop_at}
 use Rattle.play_types.specs.declared.event.Event.{Event}
@@ -20,7 +20,7 @@ pub record GoesOn (end : link.LinkEnd) (before after : PassView) : Type 0 where
 pub looks_ends : (IsTold : List Event → Type 0) (before after : PassView) → Looks before IsTold after → after.ends ≡ before.ends
 looks_ends IsTold before after looks = ap (λ (p : PassView). p.ends) looks.after
 
--- a look after a link found no stop
+-- a check of the stage after a link found no stop
 looked_on : (end : link.LinkEnd) (before after : PassView) → is_stopped end ≡ false → LooksOn before after → GoesOn end before after
 looked_on end before after other looks = record { pass = pass_looked _ before after looks; ends = looks_ends _ before after looks; other = other }
 
@@ -30,19 +30,19 @@ goes_on ends.Killed before after looks = looked_on ends.Killed before after refl
 goes_on ends.LinkFault before after looks = looked_on ends.LinkFault before after refl looks
 goes_on (ends.Ended at) before after none = absurd none
 
-pub looked_stop : (at : ℕ) (before after : PassView) → FindsEnd at before after → stop_at after.seen ≡ Some at
-looked_stop at before after looks = ap (λ (p : PassView). stop_at p.seen) looks.after ∙ sym looks.told
+pub looked_stop : (given : List Event) (at : ℕ) (before after : PassView) → FindsEnd given at before after → stop_at (given ++ after.seen) ≡ Some at
+looked_stop given at before after looks = ap (λ (p : PassView). stop_at (given ++ p.seen)) looks.after ∙ sym looks.told
 
 -- a stop was found while a link was served, or after it
-pub record StopSeen (at : ℕ) (end : link.LinkEnd) (before after : PassView) : Type 0 where
+pub record StopSeen (given : List Event) (at : ℕ) (end : link.LinkEnd) (before after : PassView) : Type 0 where
   pub pass : PassOn [] before after
   pub ends : after.ends ≡ before.ends
-  pub stop : stop_at after.seen ≡ Some at
+  pub stop : stop_at (given ++ after.seen) ≡ Some at
 
--- a look after a link found a stop
-pub looked_ended : (at : ℕ) (end : link.LinkEnd) (before after : PassView) → FindsEnd at before after → StopSeen at end before after
-looked_ended at end before after looks = record {
+-- a check of the stage after a link found a stop
+pub looked_ended : (given : List Event) (at : ℕ) (end : link.LinkEnd) (before after : PassView) → FindsEnd given at before after → StopSeen given at end before after
+looked_ended given at end before after looks = record {
   pass = pass_looked _ before after looks;
   ends = looks_ends _ before after looks;
-  stop = looked_stop at before after looks;
+  stop = looked_stop given at before after looks;
 }

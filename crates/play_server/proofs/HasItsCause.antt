@@ -1,4 +1,4 @@
--- What the exit status of the program tells.
+-- What the exit status of the program means.
 use Rattle.std.proofs.Common.{◌≡◌, ◌≢◌, ◌⊎◌, ℕ, ◌≤◌, List, [], refl, sym, ap, ◌∙◌, subst, arith, inl, inr}
 use Rattle.std.specs.Prelude.{true, Option, Some, None, Result, Ok, Err, option_map, string_bytes}
 use Rattle.std.proofs.lemmas.Option.{none-some}
@@ -34,18 +34,18 @@ FirstFaultDecides = (path : List ℕ) (result : Result ServerSetup RunFault) (be
     before.files ≡ Some files → SetsUp path result before after → TellsFirst result (fault_of_files path files)
 
 module _ {C D O : Type 0} where
-  -- a call of `say` takes no fault back
+  -- a call of `say` does not lower the count of faults
   said_more : (step : WriteStep) (line : List ℕ) (before after : SiteState C D O) → Says step line before after → before.faults ≤ after.faults
   said_more (step.Took count) line before after says = omega (arith, ap (λ (s : SiteState C D O). s.faults) says.1)
   said_more step.Failed line before after says = omega (arith, ap (λ (s : SiteState C D O). s.faults) says)
 
-  -- what is said at the end takes no fault back
+  -- what is printed at the end does not lower the count of faults
   end_more : (result : Result (Unit {0}) RunFault) (before after : SiteState C D O) → SaysEnd result before after → before.faults ≤ after.faults
   end_more (Ok done) before after says = omega (arith, ap (λ (s : SiteState C D O). s.faults) says)
   end_more (Err fault) before after says = said_more says.step says.line before after says.said
 
 module _ {C D O L : Type 0} (device : DeviceStates C D O L) (tells : L → SinkState) (line : List (List ℕ)) where
-  -- status 1 comes only if the words are refused
+  -- status 1 comes only if the arguments are refused
   only_usage : (result : Result (Unit {0}) RunFault) (moments : AtSite C D O × AtSite C D O) → Came device tells line result moments → status_in result ≡ 1
       → fault_of playd_app line ≢ []
   only_usage (Ok done) moments came is = absurd (omega (arith, is))
@@ -63,7 +63,7 @@ module _ {C D O L : Type 0} (device : DeviceStates C D O L) (tells : L → SinkS
   only_usage (Err Device) moments came is = absurd (omega (arith, is))
   only_usage (Err OutOfMemory) moments came is = absurd (omega (arith, is))
 
-  -- words that are refused give status 1, or 5
+  -- arguments that are refused give status 1, or 5
   refused_words : (result : Result (Unit {0}) RunFault) (moments : AtSite C D O × AtSite C D O) → Came device tells line result moments → fault_of playd_app line ≢ []
       → (status_in result ≡ 1) ⊎ (status_in result ≡ 5)
   refused_words (Ok done) moments came refused = absurd (refused came.0.accepted.accepted)
@@ -167,7 +167,7 @@ module _ {C D O L : Type 0} (device : DeviceStates C D O L) (tells : L → SinkS
   at_most (Err Device) = omega arith
   at_most (Err OutOfMemory) = omega arith
 
-  -- what setting up gave tells the first fault
+  -- the result of the setup has the first fault
   first_of_setting_up : FirstFaultDecides → (named : ServerWords) (setup : Result ServerSetup RunFault) (first : Option RunFault) (moments : AtSite C D O × AtSite C D O)
       → HasFirstFault line first moments.0.folder → Accepts line named → SetsUp (string_bytes named.config) setup moments.0.folder moments.1.folder → TellsFirst setup first
   first_of_setting_up decides named setup first moments has accepted sets =
@@ -203,7 +203,7 @@ module _ {C D O L : Type 0} (device : DeviceStates C D O L) (tells : L → SinkS
   abbrev Meets : RunFault → ℕ → FolderState → FolderState → Type 0
   Meets fault status before after = (status ≡ status_of fault) ⊎ ((status ≡ 5) ⊎ ((status ≡ 4) × Rose before.faults after.faults))
 
-  -- the fault that was told is the first one
+  -- the reported fault is the first one
   same_fault : (told fault : RunFault) (before after : FolderState) → Some fault ≡ Some told → Meets fault (status_of told) before after
   same_fault told fault before after both =
       let same : told ≡ fault = cc in

@@ -20,6 +20,7 @@ use Rattle.history_model.specs.scripts.History.{channel_size}
 use Rattle.band_render.specs.Rendered.{sizes}
 use Rattle.play_scene.specs.Frames.{FrameView, zero_frame}
 use Rattle.history_model.specs.text.History.{history_text}
+use Rattle.history_log.specs.Log.{KeepsLog}
 use Rattle.play_journal.specs.Journal.{IsJournal, JournalView}
 use Rattle.stage_lock.specs.Own.{has_final, is_final, is_own, made_by}
 use Rattle.stage_lock.specs.Views.{PassView, SharedView}
@@ -40,12 +41,14 @@ use Rattle.play_server.specs.Site.{DeviceStates}
 use Rattle.play_server.specs.Doors.{DoorRun, EachDoor, HasServed, is_door_fault}
 use Rattle.play_server.specs.Links.{EachFrom}
 use Rattle.play_server.specs.Run.{EndsWithStop, HasRun, IsMadeBy, IsProgram, IsStoppedBy, Program, Serves, ends_so, is_cut, is_found, is_tick_fault, setting_of, setup_of}
-use Rattle.play_server.specs.inner.Threads.{Moment, RanBeside, ticker_pass, ticker_states, worker_passes}
-use Rattle.play_server.specs.inner.Workers.{HasWorkedAt, door_states}
+use Rattle.play_server.specs.Log.{IsLogged}
+use Rattle.play_server.specs.inner.Threads.{HasNewPasses, HoldsDevices, RanBeside, log_pass, passes_back, ticker_pass, ticker_states, worker_passes}
+use Rattle.play_server.specs.inner.Workers.{HasWorkedAt, door_states, doors_of, ends_of, passes_of}
 use Rattle.play_server.specs.declared.connection_workers.ConnectionWorker.{ConnectionWorker}
+use Rattle.play_server.specs.declared.run_threads.RunThreads.{RunThreads}
 use Rattle.play_server.specs.declared.served.ServeEnd.{ServeEnd}
-use Rattle.play_server.proofs.WorkerPasses.{HasNewPasses}
-use Rattle.play_server.proofs.HasWorkedAt.{EachPlace, doors_of, each_place, ends_of, passes_of}
+use Rattle.play_server.proofs.HasWorkedAt.{EachPlace, each_place}
+use Rattle.play_server.proofs.IsLogged.{logged_whole}
 use Rattle.play_server.proofs.Reverse.{all_zip_reverse, any_reversed}
 use Rattle.play_server.proofs.EndsWithStop.{ends_with_stop, has_final_last, same_server, seen_stop, ticks_end, written_later}
 use Rattle.play_server.proofs.IsExplainedLink.{IsNewPass, stop_stays}
@@ -79,36 +82,41 @@ at_index_of (x ∷ xs) (y ∷ ys) zero event p h = cc (p.1, h)
 at_index_of (x ∷ xs) (y ∷ ys) (suc k) event p h = at_index_of xs ys k event (p.0, cc (p.1)) h
 
 -- what is known when all threads have ended, the stage was closed and the text was written
-pub record Closed {C D O L : Type 0} (states : DeviceStates C D O L) (tells : L → SinkState) (program : Program) (server : Server) (run : TickEnd × Sent × Devices C D O × Devices C D O) : Type 0 where
+pub record Closed {C D O L : Type 0} (states : DeviceStates C D O L) (tells : L → SinkState) (program : Program) (server : Server) (run : TickEnd × (Sent × Sent) × Devices C D O × Devices C D O) : Type 0 where
   pub after : List PassView
+  pub keeper : PassView
   pub first : PassView
   pub others : List PassView
-  pub passes : after ≡ first ∷ others
+  pub passes : after ≡ keeper ∷ first ∷ others
   pub ended : List WorkEnd
   pub journal : JournalView
   pub on : IsProgram program
   pub config : server.config.now ≡ program.config
   pub names : server.media.now ≡ media_names program.media
   pub channels : server.stage.now.sizes.channels ≡ length program.config.channels
+  pub begun : server.stage.now.sizes.given ≡ []
   pub setup : Setup
   pub setup_is : setup ≡ setup_of program
   pub of : first.stage ≡ server.stage.now
   pub number : first.number ≡ 0
   pub made : first.made ≡ tick_positions first.seen
-  pub outs : AreWritten states.out run.0 (record { setup = setup; history = first.seen }) run.2.outs.items run.3.outs.items
+  pub outs : AreWritten states.out run.0 (record { setup = setup; given = []; history = first.seen }) run.2.outs.items run.3.outs.items
   pub met : TickEnd
   pub meets : Meets first.stage.sizes.channels run.0 met
   pub clock : states.clock run.3.clock ≡ clock_at_end met (ticks first.seen) (states.clock run.2.clock)
-  pub tick_end : EndsPass met (ticker_pass server.stage.now) first
+  pub tick_end : EndsPass [] met (ticker_pass server.stage.now) first
   pub worked : EachPlace (door_states states.door tells) server (worker_passes server.stage.now (length run.2.doors.items)) run.2.doors.items others ended run.3.doors.items
   pub closes : Closes after journal.events
   pub is_journal : IsJournal journal
   pub limit : journal.limit ≡ program.config.journal_limit
-  pub text : Sends run.1 (history_text server.media.now journal.events) (states.out run.2.history) (states.out run.3.history)
+  pub text : Sends run.1.0 (history_text server.media.now journal.events) (states.out run.2.history) (states.out run.3.history)
+  pub keeper_new : PassView
+  pub keeper_is : keeper_new ≡ log_pass server.stage.now (length run.2.doors.items)
+  pub keeps : KeepsLog [] server.media.now run.1.1 (record { pass = keeper_new; sink = states.out run.2.log }) (record { pass = keeper; sink = states.out run.3.log })
 
 module _ {C D O L : Type 0} (states : DeviceStates C D O L) (tells : L → SinkState) (program : Program) (server : Server)
-    (ticker : TickEnd) (written : Sent) (given finished : Devices C D O)
-    (c : Closed states tells program server (ticker, written, given, finished)) where
+    (ticker : TickEnd) (written logged : Sent) (given finished : Devices C D O)
+    (c : Closed states tells program server (ticker, (written, logged), given, finished)) where
   abbrev history : List Event
   history = c.journal.events
 
@@ -118,14 +126,27 @@ module _ {C D O L : Type 0} (states : DeviceStates C D O L) (tells : L → SinkS
   abbrev others : List PassView
   others = c.others
 
-  first_at : get_elem? c.after 0 ≡ some first
-  first_at = ap (λ (ps : List PassView). get_elem? ps 0) c.passes
+  keeper_at : get_elem? c.after 0 ≡ some c.keeper
+  keeper_at = ap (λ (ps : List PassView). get_elem? ps 0) c.passes
 
-  other_at : (j : ℕ) (pass : PassView) → get_elem? others j ≡ some pass → get_elem? c.after (suc j) ≡ some pass
-  other_at j pass at = ap (λ (ps : List PassView). get_elem? ps (suc j)) c.passes ∙ at
+  first_at : get_elem? c.after 1 ≡ some first
+  first_at = ap (λ (ps : List PassView). get_elem? ps 1) c.passes
+
+  other_at : (j : ℕ) (pass : PassView) → get_elem? others j ≡ some pass → get_elem? c.after (suc (suc j)) ≡ some pass
+  other_at j pass at = ap (λ (ps : List PassView). get_elem? ps (suc (suc j))) c.passes ∙ at
+
+  keeper_seen : IsPrefix c.keeper.seen history
+  keeper_seen = (c.closes.each 0 c.keeper keeper_at).seen
+
+  -- the pass of the log made no event, and no stop
+  keeper_made : c.keeper.made ≡ []
+  keeper_made = c.keeps.idle.0 ∙ ap (λ (p : PassView). p.made) c.keeper_is
+
+  keeper_ends : c.keeper.ends ≡ false
+  keeper_ends = c.keeps.idle.1 ∙ ap (λ (p : PassView). p.ends) c.keeper_is
 
   first_is : IsOf history (length c.after) first
-  first_is = c.closes.each 0 first first_at
+  first_is = c.closes.each 1 first first_at
 
   made_ticks : made_by 0 history ≡ tick_positions first.seen
   made_ticks = sym (ap (λ (n : ℕ). made_by n history) c.number) ∙ sym first_is.made ∙ c.made
@@ -140,7 +161,7 @@ module _ {C D O L : Type 0} (states : DeviceStates C D O L) (tells : L → SinkS
   served =
       doors_served (door_states states.door tells) server history (length c.after) 1 (worker_passes server.stage.now (length given.doors.items)) given.doors.items others c.ended finished.doors.items
       (new_workers server.stage.now 1 (length given.doors.items)) c.worked
-      (λ j pass at. c.closes.each (suc j) pass (other_at j pass at))
+      (λ j pass at. c.closes.each (suc (suc j)) pass (other_at j pass at))
 
   a_stop : (at : ℕ) × (stop_at history ≡ Some at)
   a_stop =
@@ -150,7 +171,7 @@ module _ {C D O L : Type 0} (states : DeviceStates C D O L) (tells : L → SinkS
   abbrev stopped : EndsWithStop history
   stopped = ends_with_stop history a_stop.0 c.is_journal.history a_stop.1
 
-  -- an event that is not the server's own stop stands in what one pass made
+  -- an event that is not the server's own stop was made by one of the passes
   made_pass : (k : ℕ) (event : Event) → get_elem? history k ≡ some event → (j : ℕ) (pass : PassView) → get_elem? c.after j ≡ some pass
       → (place : ℕ) → get_elem? pass.made place ≡ some k → is_own pass.number event ≡ true
   made_pass k event at j pass is place made =
@@ -191,11 +212,15 @@ module _ {C D O L : Type 0} (states : DeviceStates C D O L) (tells : L → SinkS
     where
       by_pass : (j : ℕ) (pass : PassView) → get_elem? c.after j ≡ some pass → (place : ℕ) → get_elem? pass.made place ≡ some k → IsMadeBy served.runs event
       by_pass zero pass is place made =
+          let pass_is : c.keeper ≡ pass = some-injective c.keeper pass (sym keeper_at ∙ is) in
+          let nothing : get_elem? [] place ≡ some k = sym (ap (λ (ks : List ℕ). get_elem? ks place) keeper_made) ∙ ap (λ (p : PassView). get_elem? p.made place) pass_is ∙ made in
+          absurd (some-ne-none k (sym nothing))
+      by_pass (suc zero) pass is place made =
           let pass_is : first ≡ pass = some-injective first pass (sym first_at ∙ is) in
           made_by_tick event (tick_of_first k event at place (ap (λ (p : PassView). get_elem? p.made place) pass_is ∙ made))
-      by_pass (suc j) pass is place made =
-          let there : get_elem? others j ≡ some pass = sym (ap (λ (ps : List PassView). get_elem? ps (suc j)) c.passes) ∙ is in
-          made_by_link event (served.own j pass there k event at (made_pass k event at (suc j) pass is place made))
+      by_pass (suc (suc j)) pass is place made =
+          let there : get_elem? others j ≡ some pass = sym (ap (λ (ps : List PassView). get_elem? ps (suc (suc j))) c.passes) ∙ is in
+          made_by_link event (served.own j pass there k event at (made_pass k event at (suc (suc j)) pass is place made))
 
       go : (b : Bool) → is_final event ≡ b → IsMadeBy served.runs event
       go true is = made_final event is
@@ -214,17 +239,20 @@ module _ {C D O L : Type 0} (states : DeviceStates C D O L) (tells : L → SinkS
 
       not_first : (t : TickEnd) → c.met ≡ t → is_found t ≡ true → first.ends ≡ false
       not_first ClockClosed same found = absurd cc
-      not_first (Ended at) same found = (subst (λ (t : TickEnd). EndsPass t (new_pass server.stage.now 0) first) same c.tick_end).1
+      not_first (Ended at) same found = (subst (λ (t : TickEnd). EndsPass [] t (new_pass server.stage.now 0) first) same c.tick_end).1
       not_first TicksOver same found = absurd cc
       not_first ClockFault same found = absurd cc
       not_first (OutFault channel) same found = absurd cc
 
       by_pass : (t : TickEnd) → c.met ≡ t → is_found t ≡ true → (j : ℕ) (pass : PassView) → get_elem? c.after j ≡ some pass → pass.ends ≡ true → list_any is_faulty served.runs ≡ true
       by_pass t same found zero pass is ends =
+          let pass_is : c.keeper ≡ pass = some-injective c.keeper pass (sym keeper_at ∙ is) in
+          absurd (true≢false (sym ends ∙ ap (λ (p : PassView). p.ends) (sym pass_is) ∙ keeper_ends))
+      by_pass t same found (suc zero) pass is ends =
           let pass_is : first ≡ pass = some-injective first pass (sym first_at ∙ is) in
           absurd (true≢false (sym ends ∙ ap (λ (p : PassView). p.ends) (sym pass_is) ∙ not_first t same found))
-      by_pass t same found (suc j) pass is ends =
-          let there : get_elem? others j ≡ some pass = sym (ap (λ (ps : List PassView). get_elem? ps (suc j)) c.passes) ∙ is in
+      by_pass t same found (suc (suc j)) pass is ends =
+          let there : get_elem? others j ≡ some pass = sym (ap (λ (ps : List PassView). get_elem? ps (suc (suc j))) c.passes) ∙ is in
           served.ends j pass there ends
 
       go : (t : TickEnd) → c.met ≡ t → (is_found c.met ≡ false) ⊎ (list_any is_faulty served.runs ≡ true)
@@ -237,15 +265,16 @@ module _ {C D O L : Type 0} (states : DeviceStates C D O L) (tells : L → SinkS
           by_case false found = inl (ap is_found same ∙ found)
 
   setting_is : (worker : ℕ) → setting_in server worker tells ≡ setting_of program tells worker
-  setting_is worker = λ i. record { config = c.config i; names = c.names i; worker = worker; tells = tells }
+  setting_is worker = λ i. record { config = c.config i; names = c.names i; worker = worker; tells = tells; given = c.begun i }
 
-  pub has_run : HasRun states tells program (ends_so (is_tick_fault ticker || (list_any is_door_fault c.ended || is_cut written))) (given, finished)
+  pub has_run : HasRun states tells program (ends_so (is_tick_fault ticker || (list_any is_door_fault c.ended || (is_cut written || is_cut logged)))) (given, finished)
   has_run = record {
     history = history;
     ticker = ticker;
     met = c.met;
     runs = served.runs;
     written = written;
+    logged = logged;
     on = c.on;
     whole = c.is_journal.history;
     within = subst (λ (n : ℕ). held history ≤ n) c.limit c.is_journal.commands;
@@ -258,16 +287,18 @@ module _ {C D O L : Type 0} (states : DeviceStates C D O L) (tells : L → SinkS
         1 served.runs given.doors.items finished.doors.items
         (λ worker run before after h. subst (λ (s : Setting L). HasServed s history run (states.door before) (states.door after)) (setting_is worker) h)
         served.each;
-    outs = subst (λ (s : Setup). AreWritten states.out ticker (record { setup = s; history = history }) given.outs.items finished.outs.items) c.setup_is
+    outs = subst (λ (s : Setup). AreWritten states.out ticker (record { setup = s; given = []; history = history }) given.outs.items finished.outs.items) c.setup_is
         (written_later states.out c.setup first.seen history on ticker given.outs.items finished.outs.items c.outs);
     meets = subst (λ (n : ℕ). Meets n ticker c.met) (ap (λ (s : SharedView). s.sizes.channels) c.of ∙ c.channels) c.meets;
     clock = c.clock ∙ ap (λ (n : ℕ). clock_at_end c.met n (states.clock given.clock)) (sym same_ticks);
     pulses = ticks_end c.met (new_pass server.stage.now 0) first history c.tick_end first_is.seen same_ticks;
     text = subst (λ names. Sends written (history_text names history) (states.out given.history) (states.out finished.history)) c.names c.text;
-    ending = ap (λ (b : Bool). ends_so (is_tick_fault ticker || (b || is_cut written))) (sym served.faults);
+    log = subst (λ names. IsLogged logged names history (states.out given.log) (states.out finished.log)) c.names
+        (logged_whole server.media.now logged (record { pass = c.keeper_new; sink = states.out given.log }) (record { pass = c.keeper; sink = states.out finished.log }) history (ap (λ (p : PassView). p.seen) c.keeper_is) keeper_seen c.is_journal.history c.keeps);
+    ending = ap (λ (b : Bool). ends_so (is_tick_fault ticker || (b || (is_cut written || is_cut logged)))) (sym served.faults);
   }
 
--- a run that ended so
+-- a run that ended as `ends_so` gives
 pub serves : {C D O L : Type 0} (states : DeviceStates C D O L) (tells : L → SinkState) (program : Program) (failed : Bool) (devices : Devices C D O × Devices C D O)
     → HasRun states tells program (ends_so failed) devices → Serves states tells program (ends_so failed) devices
 serves states tells program true devices run = run
@@ -282,21 +313,14 @@ pub blank : (frames : List FrameView) (channels : List ChannelView) → frames �
 blank frames channels same = record { channels = channels; blank = same }
 
 -- what is known of the stage that was closed and of the text that was written
-pub record Ending {C D O L : Type 0} (states : DeviceStates C D O L) (program : Program) (server : Server) (new : Moment C D O) (end : TickEnd × Sent × ServeEnd × Devices C D O × Devices C D O) : Type 0 where
-  pub after : List PassView
-  pub passes : after ≡ new.ticker.pass ∷ passes_of (reverse new.connection_workers)
+pub record Ending {C D O L : Type 0} (states : DeviceStates C D O L) (program : Program) (server : Server) (new : RunThreads C D O) (end : TickEnd × (Sent × Sent) × ServeEnd × Devices C D O × Devices C D O) : Type 0 where
   pub journal : JournalView
-  pub closes : Closes after journal.events
+  pub closes : Closes (passes_back new) journal.events
   pub is_journal : IsJournal journal
   pub limit : journal.limit ≡ program.config.journal_limit
-  pub text : Sends end.1 (history_text server.media.now journal.events) (states.out end.3.history) (states.out end.4.history)
-  pub end_is : end.2 ≡ ends_so (is_tick_fault end.0 || (list_any (λ (worker : ConnectionWorker D). is_door_fault worker.end) new.connection_workers || is_cut end.1))
-
--- the devices of a run at a moment are these
-pub record HoldsDevices {C D O : Type 0} (moment : Moment C D O) (devices : Devices C D O) : Type 0 where
-  pub clock : moment.ticker.clock ≡ devices.clock
-  pub doors : doors_of (reverse moment.connection_workers) ≡ devices.doors.items
-  pub outs : moment.ticker.outs.items ≡ devices.outs.items
+  pub text : Sends end.1.0 (history_text server.media.now journal.events) (states.out end.3.history) (states.out end.4.history)
+  pub end_is : end.2 ≡ ends_so (is_tick_fault end.0
+      || (list_any (λ (worker : ConnectionWorker D). is_door_fault worker.end) new.others.connection_workers.items || (is_cut end.1.0 || is_cut end.1.1)))
 
 -- what a run is played on is what its threads share
 pub record IsPlayedOn (program : Program) (server : Server) (setup : Setup) : Type 0 where
@@ -304,65 +328,83 @@ pub record IsPlayedOn (program : Program) (server : Server) (setup : Setup) : Ty
   pub config : server.config.now ≡ program.config
   pub names : server.media.now ≡ media_names program.media
   pub channels : server.stage.now.sizes.channels ≡ length program.config.channels
+  pub begun : server.stage.now.sizes.given ≡ []
   pub setup_is : setup ≡ setup_of program
 
 module _ {C D O L : Type 0} (states : DeviceStates C D O L) (tells : L → SinkState) (program : Program) (server : Server) (setup : Setup)
-    (ticker : TickEnd) (given finished : Devices C D O) (old new : Moment C D O) (holds : HoldsDevices old given) (held : HoldsDevices new finished)
+    (ends : TickEnd × Sent) (given finished : Devices C D O) (old new : RunThreads C D O) (holds : HoldsDevices old given) (held : HoldsDevices new finished)
     (passes : HasNewPasses server.stage.now (length given.doors.items) old)
-    (ran : RanBeside (ticker_states states.clock states.out) (door_states states.door tells) setup server (ticker, old, new)) where
+    (ran : RanBeside (ticker_states states.clock states.out) (door_states states.door tells) setup server (ends.0, ends.1, old, new)) where
   -- the work at each door, from the door that was given
   pub worked_at : EachPlace (door_states states.door tells) server (worker_passes server.stage.now (length given.doors.items)) given.doors.items
-      (passes_of (reverse new.connection_workers)) (ends_of (reverse new.connection_workers)) finished.doors.items
+      (passes_of (reverse new.others.connection_workers.items)) (ends_of (reverse new.others.connection_workers.items)) finished.doors.items
   worked_at =
-      let all = all_zip_reverse (HasWorkedAt (door_states states.door tells) server) old.connection_workers new.connection_workers ran.worked in
-      let each = each_place (door_states states.door tells) server (reverse old.connection_workers) (reverse new.connection_workers) all in
+      let all = all_zip_reverse (HasWorkedAt (door_states states.door tells) server) old.others.connection_workers.items new.others.connection_workers.items ran.worked in
+      let each = each_place (door_states states.door tells) server (reverse old.others.connection_workers.items) (reverse new.others.connection_workers.items) all in
       subst (λ (ds : List D). EachPlace (door_states states.door tells) server (worker_passes server.stage.now (length given.doors.items)) given.doors.items
-      (passes_of (reverse new.connection_workers)) (ends_of (reverse new.connection_workers)) ds) held.doors
+      (passes_of (reverse new.others.connection_workers.items)) (ends_of (reverse new.others.connection_workers.items)) ds) held.doors
       (subst (λ (ds : List D). EachPlace (door_states states.door tells) server (worker_passes server.stage.now (length given.doors.items)) ds
-      (passes_of (reverse new.connection_workers)) (ends_of (reverse new.connection_workers)) (doors_of (reverse new.connection_workers))) holds.doors
-      (subst (λ (ps : List PassView). EachPlace (door_states states.door tells) server ps (doors_of (reverse old.connection_workers))
-      (passes_of (reverse new.connection_workers)) (ends_of (reverse new.connection_workers)) (doors_of (reverse new.connection_workers))) passes.connection_workers each))
+      (passes_of (reverse new.others.connection_workers.items)) (ends_of (reverse new.others.connection_workers.items)) (doors_of (reverse new.others.connection_workers.items))) holds.doors
+      (subst (λ (ps : List PassView). EachPlace (door_states states.door tells) server ps (doors_of (reverse old.others.connection_workers.items))
+      (passes_of (reverse new.others.connection_workers.items)) (ends_of (reverse new.others.connection_workers.items)) (doors_of (reverse new.others.connection_workers.items))) passes.connection_workers each))
 
-  outs_at : AreWritten states.out ticker (record { setup = setup; history = new.ticker.pass.seen }) given.outs.items finished.outs.items
-  outs_at =
-      let Took : List O → List O → Type 0 = λ olds news. AreWritten states.out ticker (record { setup = setup; history = new.ticker.pass.seen }) olds news in
-      subst (λ (os : List O). Took given.outs.items os) held.outs (subst (λ (os : List O). Took os new.ticker.outs.items) holds.outs ran.ticked.outs)
+  outs_at : server.stage.now.sizes.given ≡ [] → AreWritten states.out ends.0 (record { setup = setup; given = []; history = new.ticker.pass.seen }) given.outs.items finished.outs.items
+  outs_at begun =
+      let Took : List Event → List O → List O → Type 0 = λ past olds news. AreWritten states.out ends.0 (record { setup = setup; given = past; history = new.ticker.pass.seen }) olds news in
+      subst (λ (past : List Event). Took past given.outs.items finished.outs.items) begun
+      (subst (λ (os : List O). Took server.stage.now.sizes.given given.outs.items os) held.outs
+      (subst (λ (os : List O). Took server.stage.now.sizes.given os new.ticker.outs.items) holds.outs ran.ticked.outs))
+
+  keeps_at : server.stage.now.sizes.given ≡ []
+      → KeepsLog [] server.media.now ends.1 (record { pass = old.others.log.pass; sink = states.out given.log }) (record { pass = new.others.log.pass; sink = states.out finished.log })
+  keeps_at begun =
+      let Kept : List Event → O → O → Type 0 = λ past before after.
+      KeepsLog past server.media.now ends.1 (record { pass = old.others.log.pass; sink = states.out before }) (record { pass = new.others.log.pass; sink = states.out after }) in
+      subst (λ (past : List Event). Kept past given.log finished.log) begun
+      (subst (λ (log : O). Kept server.stage.now.sizes.given given.log log) held.log
+      (subst (λ (log : O). Kept server.stage.now.sizes.given log new.others.log.log) holds.log ran.logged.keeps))
 
   pub finish : (written : Sent) (end : ServeEnd) → IsPlayedOn program server setup
-      → Ending states program server new (ticker, written, end, given, finished)
+      → Ending states program server new (ends.0, (written, ends.1), end, given, finished)
       → Serves states tells program end (given, finished)
   finish written end on ending =
-      let closed : Closed states tells program server (ticker, written, given, finished) = record {
-        after = ending.after;
+      let closed : Closed states tells program server (ends.0, (written, ends.1), given, finished) = record {
+        after = passes_back new;
+        keeper = new.others.log.pass;
         first = new.ticker.pass;
-        others = passes_of (reverse new.connection_workers);
-        passes = ending.passes;
-        ended = ends_of (reverse new.connection_workers);
+        others = passes_of (reverse new.others.connection_workers.items);
+        passes = refl;
+        ended = ends_of (reverse new.others.connection_workers.items);
         journal = ending.journal;
         on = on.on;
         config = on.config;
         names = on.names;
         channels = on.channels;
+        begun = on.begun;
         setup = setup;
         setup_is = on.setup_is;
         of = ran.ticked.of;
         number = ran.ticked.number;
         made = ran.ticked.made;
-        outs = outs_at;
+        outs = outs_at on.begun;
         met = ran.ticked.ended.met;
         meets = ran.ticked.ended.meets;
         clock = ap states.clock (sym held.clock) ∙ ran.ticked.ended.clock ∙ ap (λ (c : C). clock_at_end ran.ticked.ended.met (ticks new.ticker.pass.seen) (states.clock c)) holds.clock;
-        tick_end = subst (λ (pass : PassView). EndsPass ran.ticked.ended.met pass new.ticker.pass) passes.ticker ran.ticked.ended.pass;
+        tick_end = subst (λ (past : List Event). EndsPass past ran.ticked.ended.met (ticker_pass server.stage.now) new.ticker.pass) on.begun
+            (subst (λ (pass : PassView). EndsPass server.stage.now.sizes.given ran.ticked.ended.met pass new.ticker.pass) passes.ticker ran.ticked.ended.pass);
         worked = worked_at;
         closes = ending.closes;
         is_journal = ending.is_journal;
         limit = ending.limit;
         text = ending.text;
+        keeper_new = old.others.log.pass;
+        keeper_is = passes.log;
+        keeps = keeps_at on.begun;
       } in
-      let failed : Bool = is_tick_fault ticker || (list_any is_door_fault (ends_of (reverse new.connection_workers)) || is_cut written) in
+      let failed : Bool = is_tick_fault ends.0 || (list_any is_door_fault (ends_of (reverse new.others.connection_workers.items)) || (is_cut written || is_cut ends.1)) in
       let end_is : end ≡ ends_so failed =
       ending.end_is
-      ∙ ap (λ (b : Bool). ends_so (is_tick_fault ticker || (b || is_cut written)))
-      (sym (any_reversed is_door_fault (λ (worker : ConnectionWorker D). worker.end) new.connection_workers)) in
+      ∙ ap (λ (b : Bool). ends_so (is_tick_fault ends.0 || (b || (is_cut written || is_cut ends.1))))
+      (sym (any_reversed is_door_fault (λ (worker : ConnectionWorker D). worker.end) new.others.connection_workers.items)) in
       subst (λ (e : ServeEnd). Serves states tells program e (given, finished)) (sym end_is)
-      (serves states tells program failed (given, finished) (has_run states tells program server ticker written given finished closed))
+      (serves states tells program failed (given, finished) (has_run states tells program server ends.0 written ends.1 given finished closed))

@@ -17,7 +17,7 @@ use Rattle.play_server.proofs.ADeviceFails.{no_faults}
 use Rattle.play_server.proofs.IsReplayable.{run_replayable, taken_by_new}
 
 -- what was not cut was wholly written
-whole : (written : Sent) → is_cut written ≡ false → written ≡ sent.All
+pub whole : (written : Sent) → is_cut written ≡ false → written ≡ sent.All
 whole sent.All uncut = refl
 whole sent.Failed uncut = absurd (true≢false uncut)
 

@@ -40,7 +40,7 @@ in_order_from_none : (service : Service) (seen : List Event) (followed : List Fo
 in_order_from_none service seen [] history order = (history, refl)
 in_order_from_none service seen (one ∷ more) history order = ((one.found, refl), order.1)
 
--- this is so, unless as many links were served as there are numbers
+-- this holds, unless as many links were served as there are session numbers
 abbrev pub UnlessOver : WorkEnd → Type 0 → Type 0
 UnlessOver Closed Fact = Fact
 UnlessOver (Ended at) Fact = Fact
@@ -75,7 +75,7 @@ module _ {L : Type 0} where
   events_from setting number [] = []
   events_from setting number (x ∷ xs) = link_events setting number x ++ events_from setting (suc number) xs
 
-  -- what is known of a link, if its pass has seen so much since
+  -- what is known of a link whose pass has since seen `seen`
   pub record IsLink (setting : Setting L) (seen : List Event) (number : ℕ) (x : Link L) : Type 0 where
     pub new : IsNewSink x.link_run.came
     pub steps : IsPrefix (steps_in (covered x.talk)) (steps_of (service_of setting number) (covered x.talk) (bytes_in x.talk.rounds))
@@ -141,10 +141,10 @@ module _ {L : Type 0} where
 
   -- how the work ended, if the first session had this number
   abbrev pub EndsFrom : ℕ → List Event → List (Link L) → WorkEnd → Type 0
-  EndsFrom number seen links Closed = Unit {0}
-  EndsFrom number seen links (Ended at) = stop_at seen ≡ Some at
-  EndsFrom number seen links DoorFault = Unit {0}
-  EndsFrom number seen links SessionsOver = number + length links ≡ MAX_SESSIONS + 1
+  EndsFrom number all links Closed = Unit {0}
+  EndsFrom number all links (Ended at) = stop_at all ≡ Some at
+  EndsFrom number all links DoorFault = Unit {0}
+  EndsFrom number all links SessionsOver = number + length links ≡ MAX_SESSIONS + 1
 
   -- the work at a door, from the session of this number on
   pub record Worked (setting : Setting L) (number : ℕ) (end : WorkEnd) (before after : AtDoor L) : Type 0 where
@@ -159,7 +159,7 @@ module _ {L : Type 0} where
     pub mark : after.door.mark ≡ before.door.mark
     pub asked : UnlessOver end (WasAsked (run_of links end) before.door after.door)
     pub few : number + length links ≤ MAX_SESSIONS + 1
-    pub ending : EndsFrom number after.pass.seen links end
+    pub ending : EndsFrom number (setting.given ++ after.pass.seen) links end
 
   -- the links that were given back, in two parts
   given_then : (lines : List L) (links : List (LinkRun L)) (end : WorkEnd) (told : Option (ListenerTold L)) (one : LinkRun L) → lines ≡ one.line ∷ []
@@ -231,7 +231,7 @@ module _ {L : Type 0} where
         mark = worked.mark ∙ door.mark;
         asked = unless_over end (WasAsked (run_of (x ∷ worked.links) end) before.door after.door) (inl (omega arith));
         few = omega (arith, worked.few);
-        ending = ends_more number after.pass.seen x worked.links end worked.ending;
+        ending = ends_more number (setting.given ++ after.pass.seen) x worked.links end worked.ending;
       }
 
   asked_later : (run : DoorRun L) (before between after : ListenerState L) → before.idle ≤ between.idle → WasAsked run between after → WasAsked run before after
@@ -265,14 +265,14 @@ module _ {L : Type 0} where
       }
 
   stop_seen : (setting : Setting L) (number at : ℕ) (x : Link L) (seen : List Event) (after : PassView) (end : link.LinkEnd) → EndsBy (service_of setting number) x.talk end
-      → (before : PassView) → x.talk.pass.seen ≡ before.seen → StopsAfter at end before after → StopSeen at end before after
-  stop_seen setting number at x seen after ends.Over ending before is looks = looked_ended at ends.Over before after looks
-  stop_seen setting number at x seen after ends.Killed ending before is looks = looked_ended at ends.Killed before after looks
-  stop_seen setting number at x seen after ends.LinkFault ending before is looks = looked_ended at ends.LinkFault before after looks
+      → (before : PassView) → x.talk.pass.seen ≡ before.seen → StopsAfter setting.given at end before after → StopSeen setting.given at end before after
+  stop_seen setting number at x seen after ends.Over ending before is looks = looked_ended setting.given at ends.Over before after looks
+  stop_seen setting number at x seen after ends.Killed ending before is looks = looked_ended setting.given at ends.Killed before after looks
+  stop_seen setting number at x seen after ends.LinkFault ending before is looks = looked_ended setting.given at ends.LinkFault before after looks
   stop_seen setting number at x seen after (ends.Ended position) ending before is same = record {
     pass = pass_same before after same.1;
     ends = ap (λ (p : PassView). p.ends) same.1;
-    stop = ap (λ (p : PassView). stop_at p.seen) same.1 ∙ ap stop_at (sym is) ∙ ending.stopped ∙ ap Some same.0;
+    stop = ap (λ (p : PassView). stop_at (setting.given ++ p.seen)) same.1 ∙ ap (λ (es : List Event). stop_at (setting.given ++ es)) (sym is) ∙ ending.stopped ∙ ap Some same.0;
   }
 
   -- the work ended, if the next session would have had this number
@@ -304,7 +304,7 @@ module _ {L : Type 0} where
     mark = ap (λ (d : ListenerState L). d.mark) door;
     asked = inr (inr (inr (subst (Rose before.door.idle) (sym (ap (λ (d : ListenerState L). d.idle) door)) (omega arith))));
     few = omega (arith, few);
-    ending = looked_stop at before.pass after.pass looks;
+    ending = looked_stop setting.given at before.pass after.pass looks;
   }
   work_ended setting number (Ended at) before after few (inr (below, (link_run, (is_served, stops)))) =
       let served : ServedLink setting number link_run before after = served_link setting number link_run before after is_served in
@@ -312,7 +312,7 @@ module _ {L : Type 0} where
       let events = link_events setting number x in
       let by_run : EndsBy (service_of setting number) x.talk link_run.end =
       subst (λ (v : LinkRun L). EndsBy (service_of setting number) x.talk v.end) served.link_run_is served.is.ending in
-      let seen : StopSeen at link_run.end link_run.pass after.pass =
+      let seen : StopSeen setting.given at link_run.end link_run.pass after.pass =
       stop_seen setting number at x link_run.pass.seen after.pass link_run.end by_run link_run.pass (ap (λ (p : PassView). p.seen) served.pass_is) stops in
       let pass : PassOn events before.pass after.pass = pass_quiet events before.pass link_run.pass after.pass served.pass seen.pass in
       let line_is : link_run.line ∷ [] ≡ x.link_run.line ∷ [] = ap (λ (v : LinkRun L). v.line ∷ []) (sym served.link_run_is) in
@@ -335,8 +335,8 @@ module _ {L : Type 0} where
   work_ended setting number DoorFault before after few fault = record {
     links = [];
     pass = ⊎_elim
-        (λ (made : (at : ℕ) × Adds before.pass (Stop (tag_of 0 0)) (IsStopped at) after.pass). pass_stopped _ before.pass after.pass made.1)
-        (λ (found : (at : ℕ) × Looks before.pass (λ history. stop_at history ≡ Some at) after.pass). pass_looked _ before.pass after.pass found.1)
+        (λ (made : (at : ℕ) × Adds before.pass (Stop (tag_of 0 0)) (IsStopped setting.given at) after.pass). pass_stopped _ before.pass after.pass made.1)
+        (λ (found : (at : ℕ) × Looks before.pass (λ history. stop_at (setting.given ++ history) ≡ Some at) after.pass). pass_looked _ before.pass after.pass found.1)
         fault.stops;
     ends = λ none. absurd cc;
     each = tt;

@@ -1,25 +1,15 @@
 -- What the connection workers did, in the order of their doors.
-use Rattle.std.proofs.Common.{◌≡◌, List, [], ◌∷◌, map}
+use Rattle.std.proofs.Common.{◌≡◌, List, [], ◌∷◌}
 use Rattle.std.specs.List.{AllZip}
 use Rattle.stage_lock.specs.Views.{PassView}
 use Rattle.conn_worker.specs.Server.{setting_in}
 use Rattle.conn_worker.specs.Work.{HasWorked}
 use Rattle.conn_worker.specs.declared.server.Server.{Server}
 use Rattle.conn_worker.specs.declared.work_end.WorkEnd.{WorkEnd}
-use Rattle.play_server.specs.inner.Workers.{DoorStates, HasWorkedAt}
+use Rattle.play_server.specs.inner.Workers.{DoorStates, HasWorkedAt, doors_of, ends_of, passes_of}
 use Rattle.play_server.specs.declared.connection_workers.ConnectionWorker.{ConnectionWorker}
 
--- the passes, the doors and the ends of connection workers
-abbrev pub passes_of : {D : Type 0} → List (ConnectionWorker D) → List PassView
-passes_of {D} connection_workers = map (λ (worker : ConnectionWorker D). worker.pass) connection_workers
-
-abbrev pub doors_of : {D : Type 0} → List (ConnectionWorker D) → List D
-doors_of {D} connection_workers = map (λ (worker : ConnectionWorker D). worker.door) connection_workers
-
-abbrev pub ends_of : {D : Type 0} → List (ConnectionWorker D) → List WorkEnd
-ends_of {D} connection_workers = map (λ (worker : ConnectionWorker D). worker.end) connection_workers
-
--- the work at a door, from the pass and the door before it to those after it. It ended so
+-- the work at a door, from the pass and the door before it to those after it, and its end
 pub record WorkedAt {D L : Type 0} (states : DoorStates D L) (server : Server) (before : PassView) (old : D) (after : PassView) (end : WorkEnd) (new : D) : Type 0 where
   pub of : after.stage ≡ before.stage
   pub worked : HasWorked (setting_in server before.number states.line) end

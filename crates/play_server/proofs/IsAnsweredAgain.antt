@@ -65,7 +65,7 @@ module _ (program : Program) (digests : Bool) (tag : Tag) where
   playout = playout_of program digests
 
   abbrev service : Service
-  service = record { config = program.config; names = media_names program.media; tag = tag }
+  service = record { config = program.config; names = media_names program.media; tag = tag; given = [] }
 
   abbrev turn : List Event → Bool → Turn
   turn before no_memory = record { playout = followed.playout_of service; events = before; tag = tag; no_memory = no_memory }

@@ -1,5 +1,5 @@
 -- The links of a door, by the history of the run.
-use Rattle.std.proofs.Common.{◌≡◌, ℕ, suc, ◌+◌, ◌<◌, ◌≤◌, false, List, [], ◌∷◌, ◌++◌, length, refl, sym, ap, subst, ◌∙◌, arith, append-nil, inl}
+use Rattle.std.proofs.Common.{◌≡◌, ℕ, suc, ◌+◌, ◌<◌, ◌≤◌, false, List, [], ◌∷◌, ◌++◌, length, refl, sym, ap, subst, ◌∙◌, arith, append-nil, append_assoc, inl}
 use Rattle.std.specs.Prelude.{Option, None, Some, filter, option_map}
 use Rattle.std.proofs.lemmas.List.Elements.{filter-append}
 use mathlib.Core.List.{IsPrefix}
@@ -25,7 +25,7 @@ use Rattle.play_server.specs.Doors.{EndsByHistory, HasServed, WasAsked, is_door_
 use Rattle.play_server.proofs.Tags.{picks_all, picks_none, steps_tagged, tagged_own}
 use Rattle.play_server.proofs.HasWorked.{EndsFrom, IsLink, Link, UnlessOver, Worked, events_from, link_events, run_of, link_runs_in, worked_of}
 
--- a stop stands where it stood
+-- if `ys` has its stop at the position of the stop of `xs`, this stays so with one more event before both
 stop_shifts : (event : Event) (xs ys : List Event) (at : ℕ) → is_stop event ≡ false → ((k : ℕ) → stop_at xs ≡ Some k → stop_at ys ≡ Some k)
     → stop_at (event ∷ xs) ≡ Some at → stop_at (event ∷ ys) ≡ Some at
 stop_shifts event xs ys at other rest is = go (stop_at xs) refl (sym (stop_at-other event xs other) ∙ is)
@@ -43,6 +43,10 @@ stop_stays xs ys at grows is = subst (λ (l : List Event). stop_at l ≡ Some at
     stays (Batch tag cmds ∷ xs) more at is = stop_shifts (Batch tag cmds) xs (xs ++ more) at refl (λ k. stays xs more k) is
     stays (Tick ∷ xs) more at is = stop_shifts Tick xs (xs ++ more) at refl (λ k. stays xs more k) is
     stays (Stop tag ∷ xs) more at is = stop_at-stop tag (xs ++ more) ∙ sym (stop_at-stop tag xs) ∙ is
+
+-- a prefix stays one after given events
+prefix_after : (given xs ys : List Event) → IsPrefix xs ys → IsPrefix (given ++ xs) (given ++ ys)
+prefix_after given xs ys grows = (grows.0, append_assoc given xs grows.0 ∙ ap (λ (es : List Event). given ++ es) grows.1)
 
 -- a pass that has seen and made nothing
 pub record IsNewPass (number : ℕ) (pass : PassView) : Type 0 where
@@ -100,12 +104,12 @@ module _ {L : Type 0} where
         explain setting seen history (suc number) xs grows more each.1,
       )
 
-  asked_of : (end : WorkEnd) (links : List (Link L)) (seen : List Event) (before after : ListenerState L)
-      → UnlessOver end (WasAsked (run_of links end) before after) → EndsFrom 1 seen links end → WasAsked (run_of links end) before after
-  asked_of Closed links seen before after asked ending = asked
-  asked_of (Ended at) links seen before after asked ending = asked
-  asked_of DoorFault links seen before after asked ending = asked
-  asked_of SessionsOver links seen before after asked ending = inl (many links ending)
+  asked_of : (end : WorkEnd) (links : List (Link L)) (all : List Event) (before after : ListenerState L)
+      → UnlessOver end (WasAsked (run_of links end) before after) → EndsFrom 1 all links end → WasAsked (run_of links end) before after
+  asked_of Closed links all before after asked ending = asked
+  asked_of (Ended at) links all before after asked ending = asked
+  asked_of DoorFault links all before after asked ending = asked
+  asked_of SessionsOver links all before after asked ending = inl (many links ending)
     where
       many : (xs : List (Link L)) → 1 + length xs ≡ MAX_SESSIONS + 1 → 0 < length (link_runs_in xs)
       many [] all = absurd (omega (arith, all))
@@ -115,12 +119,12 @@ module _ {L : Type 0} where
   length_link_runs [] = refl
   length_link_runs (x ∷ xs) = ap suc (length_link_runs xs)
 
-  ends_by : (end : WorkEnd) (links : List (Link L)) (seen history : List Event) → IsPrefix seen history → EndsFrom 1 seen links end
-      → EndsByHistory history (link_runs_in links) end
-  ends_by Closed links seen history grows ending = tt
-  ends_by (Ended at) links seen history grows ending = stop_stays seen history at grows ending
-  ends_by DoorFault links seen history grows ending = tt
-  ends_by SessionsOver links seen history grows ending = omega (arith, length_link_runs links, ending)
+  ends_by : (given : List Event) (end : WorkEnd) (links : List (Link L)) (seen history : List Event) → IsPrefix seen history → EndsFrom 1 (given ++ seen) links end
+      → EndsByHistory given history (link_runs_in links) end
+  ends_by given Closed links seen history grows ending = tt
+  ends_by given (Ended at) links seen history grows ending = stop_stays (given ++ seen) (given ++ history) at (prefix_after given seen history grows) ending
+  ends_by given DoorFault links seen history grows ending = tt
+  ends_by given SessionsOver links seen history grows ending = omega (arith, length_link_runs links, ending)
 
   -- the work at a door, by a history that has all that the worker's pass has seen and made
   pub record ServedBy (setting : Setting L) (history : List Event) (end : WorkEnd) (before after : AtDoor L) : Type 0 where
@@ -157,9 +161,9 @@ module _ {L : Type 0} where
           away = worked.away;
           faults = worked.faults;
           mark = worked.mark;
-          asked = asked_of end worked.links after.pass.seen before.door after.door worked.asked worked.ending;
+          asked = asked_of end worked.links (setting.given ++ after.pass.seen) before.door after.door worked.asked worked.ending;
           few = omega (arith, length_link_runs worked.links, worked.few);
-          ending = ends_by end worked.links after.pass.seen history of.seen worked.ending;
+          ending = ends_by setting.given end worked.links after.pass.seen history of.seen worked.ending;
         };
         own = whole;
         number = number;

@@ -1,4 +1,4 @@
--- A replay writes before the reply to a COMMIT what the client was told since BEGIN.
+-- Before the reply to a COMMIT a replay writes the replies that the client had since BEGIN.
 use Rattle.std.proofs.Common.{◌≡◌, ℕ, Bool, List, [], ◌∷◌, ◌++◌, length, refl, sym, ap, subst, ◌∙◌, append-nil}
 use Rattle.std.specs.Prelude.{Some, flat_map}
 use Rattle.std.proofs.lemmas.List.{map-append}
@@ -36,7 +36,7 @@ module _ (program : Program) (digests : Bool) (tag : Tag) where
   playout = playout_of program digests
 
   abbrev service : Service
-  service = record { config = program.config; names = media_names program.media; tag = tag }
+  service = record { config = program.config; names = media_names program.media; tag = tag; given = [] }
 
   told : (steps : List Followed) → flat_map (λ (one : Followed). local playout tag one.step) steps ≡ flat_map (local playout tag) (steps_in steps)
   told [] = refl

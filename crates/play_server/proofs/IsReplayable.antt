@@ -77,7 +77,7 @@ module _ (P : Event → Type 0) where
         All-cons P event events (event_of event events (All-head (IsMadeBy runs) event events made) each)
         (each_event events (All-tail (IsMadeBy runs) event events made) (λ tag of. rest_of tag event events (each tag of)))
 
--- the events of steps that words ask for can be written
+-- if steps can be written, so can their events
 written_steps : (playout : Playout) (service : Service) (followed : List Followed) → IsConnection service.tag → All (IsWrittenStep playout) (steps_in followed)
     → All (IsWritten playout) (flat_map (events_of service) followed)
 written_steps playout service [] named each = All-nil (IsWritten playout)

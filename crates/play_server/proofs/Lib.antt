@@ -6,6 +6,7 @@ mod EndsWithFault
 mod EndsWithStop
 mod Filmed
 mod GoesOnAfter
+mod HasBegun
 mod HasItsCause
 mod HasRun
 mod HasServed
@@ -15,10 +16,12 @@ mod HasWorkedAt
 mod HistoryOutput
 mod IsAnsweredAgain
 mod IsExplainedLink
+mod IsLogged
 mod IsOpenedAgain
 mod IsReplayable
 mod IsShownAgain
 mod ListenerState
+mod LoggedAgain
 pub mod OnLiterals
 mod PassView
 mod Reverse

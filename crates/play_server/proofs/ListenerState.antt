@@ -4,7 +4,7 @@ use Rattle.std.specs.Prelude.{Option, Some, None, option_map}
 use Rattle.play_outside.specs.ListenerState.{ListenerState, ListenerTold, after_came, after_give_back, after_none_came}
 
 module _ {L : Type 0} where
-  -- what is told after links were given back
+  -- what is recorded after links were given back
   abbrev pub more_returned : List L → ListenerTold L → ListenerTold L
   more_returned lines told = record told { returned = told.returned ++ lines }
 

@@ -1,4 +1,4 @@
--- What is unfolded to compute what words that are written out name.
+-- The definitions that are unfolded to compute the values of literal arguments.
 use Rattle.std.specs.Prelude.{⊤}
 use Rattle.clap.proofs.OnLiterals.{clap_on_literals}
 

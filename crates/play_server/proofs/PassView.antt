@@ -48,7 +48,7 @@ pub pass_quiet : (events : List Event) (before between after : PassView) → Pas
 pass_quiet events before between after one other =
     subst (λ (es : List Event). PassOn es before after) (append-nil events) (pass_then events [] before between after one other)
 
--- a look makes no event
+-- a check of the stage makes no event
 pub pass_looked : (IsTold : List Event → Type 0) (before after : PassView) → Looks before IsTold after → PassOn [] before after
 pass_looked IsTold before after looks =
     let h = looks.history in

@@ -6,7 +6,7 @@ use Rattle.std.proofs.lemmas.List.Folds.{list_any-append}
 use mathlib.Core.List.{reverse-cons}
 use Rattle.play_server.proofs.AllZip.{all_zip_append}
 
--- one element more was taken from the end of a list, and stands in another one at the end
+-- one more element was moved from the end of a list to the end of another
 pub taken_more : {X Y : Type 0} (f : X → Y) (whole before after : List Y) (taken : List X) (x : X) (y : Y)
     → whole ≡ before ++ map f (reverse taken) → before ≡ after ++ y ∷ [] → y ≡ f x → whole ≡ after ++ map f (reverse (taken ++ x ∷ []))
 taken_more {X} {Y} f whole before after taken x y so_far last is =
@@ -73,6 +73,17 @@ pub first_left : {X : Type 0} (x : X) (zs xs ys : List X) → x ∷ zs ≡ xs ++
 first_left x zs [] ys same many = absurd (omega (arith, ap length same, many))
 first_left {X} x zs (y ∷ []) ys same many = (ap (λ (z : X). z ∷ []) (sym (heads x y zs ys same)), sym (tails x y zs ys same))
 first_left x zs (y ∷ y' ∷ xs) ys same many = absurd (omega (arith, ap length same, length-append xs ys, many))
+
+-- lists with a last element each that are one list have one last element
+pub same_last : {X : Type 0} (xs ys : List X) (x y : X) → xs ++ x ∷ [] ≡ ys ++ y ∷ [] → (xs ≡ ys) × (x ≡ y)
+same_last [] [] x y same = (refl, heads x y [] [] same)
+same_last [] (z ∷ ys) x y same = absurd (omega (arith, ap length same, length-append ys (y ∷ [])))
+same_last (z ∷ xs) [] x y same = absurd (omega (arith, ap length same, length-append xs (x ∷ [])))
+same_last {X} (z ∷ xs) (z' ∷ ys) x y same =
+    let rest = same_last xs ys x y (tails z z' (xs ++ x ∷ []) (ys ++ y ∷ []) same) in (
+      ap (λ (a : X). a ∷ xs) (heads z z' (xs ++ x ∷ []) (ys ++ y ∷ []) same) ∙ ap (λ (l : List X). z' ∷ l) rest.0,
+      rest.1,
+    )
 
 -- a list of one element has no other
 pub only_one : {X : Type 0} (xs : List X) (x y : X) → x ∷ [] ≡ xs ++ y ∷ [] → (xs ≡ []) × (y ≡ x)

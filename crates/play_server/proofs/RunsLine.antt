@@ -1,4 +1,4 @@
--- What came of a call by its result, before anything was said.
+-- What came of a call, by its result, before a line was printed.
 use Rattle.std.proofs.Common.{◌≡◌, ◌≢◌, ◌⊎◌, ℕ, List, [], refl, sym, ap, subst, inl, inr}
 use Rattle.std.specs.Prelude.{true, Result, Ok, Err, option_map, string_bytes}
 use Rattle.clap.specs.Words.{fault_of}
@@ -23,14 +23,14 @@ use Rattle.play_server.specs.declared.words.ServerWordsFault.TheVariants as word
 use Rattle.play_server.proofs.ADeviceFails.{rises}
 
 module _ {C D O L : Type 0} (device : DeviceStates C D O L) (tells : L → SinkState) (line : List (List ℕ)) where
-  -- a server was set up as the words say
+  -- a server was set up as the arguments ask
   pub record IsSetUp (moments : AtSite C D O × AtSite C D O) : Type 0 where
     pub named : ServerWords
     pub accepted : Accepts line named
     pub setup : ServerSetup
     pub set_up : SetsUp (string_bytes named.config) (Ok setup) moments.0.folder moments.1.folder
 
-  -- what came of a call, by its result, before anything was said
+  -- what came of a call, by its result, before a line was printed
   abbrev pub Came : Result (Unit {0}) RunFault → AtSite C D O × AtSite C D O → Type 0
   Came (Ok done) moments = (run : HasServedClients device tells line serve.Ended moments) × (run.served.step ≡ finish.Done) × (run.site ≡ moments.1.site)
   Came (Err Usage) moments = fault_of playd_app line ≢ []
@@ -53,7 +53,7 @@ module _ {C D O L : Type 0} (device : DeviceStates C D O L) (tells : L → SinkS
       ⊎ ((moments.1.site ≡ after_call_without_memory moments.0.site)
       ⊎ ((run : HasServedClients device tells line serve.OutOfMemory moments) × (run.site ≡ moments.1.site)))
 
-  -- what came of setting up that met a fault
+  -- what came of a setup that met a fault
   came_of_fault : (named : ServerWords) (fault : RunFault) (moments : AtSite C D O × AtSite C D O) → Accepts line named
       → SetsUp (string_bytes named.config) (Err fault) moments.0.folder moments.1.folder → moments.1.site ≡ moments.0.site → Came (Err fault) moments
   came_of_fault named Usage moments accepted sets same = absurd sets

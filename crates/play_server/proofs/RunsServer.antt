@@ -37,7 +37,7 @@ served_on {C} {D} {O} device tells program end told_end step path told_path give
       (called ∙ ap (λ (p : Option (List ℕ)). after_call (ready_call program.config p true) before) same_path) done;
 }
 
--- the words were accepted, a server was set up, and it ran
+-- the arguments were accepted, a server was set up, and it ran
 pub ran_line : {C D O L : Type 0} (device : DeviceStates C D O L) (tells : L → SinkState) (line : List (List ℕ)) (named : ServerWords) (setup : ServerSetup)
     (path : List ℕ) (result : Result (Unit {0}) RunFault) (before lent left after : FolderState) (site between last : SiteState C D O) →
     Accepts line named → path ≡ string_bytes named.config → lent ≡ before → SetsUp path (Ok setup) lent left → after ≡ left → between ≡ site →
@@ -56,7 +56,7 @@ ran_line device tells line named setup path result before lent left after site b
   };
 }
 
--- the words were accepted, and setting up met a fault
+-- the arguments were accepted, and the setup met a fault
 pub refused_line : {C D O L : Type 0} (device : DeviceStates C D O L) (tells : L → SinkState) (line : List (List ℕ)) (named : ServerWords) (fault : RunFault)
     (path : List ℕ) (result : Result (Unit {0}) RunFault) (before lent left after : FolderState) (site last : SiteState C D O) →
     Accepts line named → path ≡ string_bytes named.config → lent ≡ before → SetsUp path (Err fault) lent left → after ≡ left → last ≡ site → result ≡ Err fault →
@@ -74,7 +74,7 @@ refused_line device tells line named fault path result before lent left after si
   };
 }
 
--- the fault that was met has a line that takes memory, if the one that it is told as has one
+-- if the line of the reported fault needs memory, so does the line of the fault that was met
 takes_line : (met told : RunFault) → IsToldAs met told → TakesMemory told → TakesMemory met
 takes_line met told told_is takes =
     elim told_is [
@@ -83,7 +83,7 @@ takes_line met told told_is takes =
     ]
 
 module _ {C D O L : Type 0} (device : DeviceStates C D O L) (tells : L → SinkState) where
-  -- a run on devices meets no fault whose line takes memory
+  -- a run on devices meets no fault whose line needs memory
   no_line_of_run : (asked : Asked) (met : RunFault) (moments : SiteState C D O × SiteState C D O) → TakesMemory met → RunsOn device tells asked (Err met) moments → ⊥
   no_line_of_run asked Usage moments takes runs = takes
   no_line_of_run asked ConfigText moments takes runs = takes
@@ -121,7 +121,7 @@ module _ {C D O L : Type 0} (device : DeviceStates C D O L) (tells : L → SinkS
       let same : met ≡ OutOfMemory = let both = runs.0 in cc in
       absurd (subst TakesMemory same takes)
 
-  -- the fault that was met may be told as it is, and if its line takes memory also as that memory ran out
+  -- the fault that was met may be reported as it is, and as OutOfMemory if its line needs memory
   told_line : (line : List (List ℕ)) (met told : RunFault) (moments : AtSite C D O × AtSite C D O) → IsToldAs met told
       → RunsLine device tells line (Err met) moments → RunsLine device tells line (Err told) moments
   told_line line met told moments told_is ran =
@@ -132,7 +132,7 @@ module _ {C D O L : Type 0} (device : DeviceStates C D O L) (tells : L → SinkS
             (record { read = ran.read; reads = ran.reads; runs = lost_in_words ran.read met moments late.0 ran.runs })
       ]
 
-  -- a fault was met and told
+  -- a fault was met and reported
   pub ended_with : (line : List (List ℕ)) (met : RunFault) (status : ℕ) (first between last : AtSite C D O)
       → RunsLine device tells line (Err met) (first, between) → EndsWithFault met status between.site last.site → last.folder ≡ between.folder
       → RunsServer device tells line status (first, last)
@@ -145,7 +145,7 @@ module _ {C D O L : Type 0} (device : DeviceStates C D O L) (tells : L → SinkS
     status_is = ends.status_is;
   }
 
-  -- the run ended without a fault, and nothing was said
+  -- the run ended without a fault, and nothing was printed
   pub ended_without_fault : (line : List (List ℕ)) (first last : AtSite C D O) → RunsLine device tells line (Ok tt) (first, last) → RunsServer device tells line 0 (first, last)
   ended_without_fault line first last ran = record {
     result = Ok tt;

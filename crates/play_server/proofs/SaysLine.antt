@@ -1,4 +1,4 @@
--- From the moment before a line was said to the moment after it: what came of a call stays.
+-- What came of a call is unchanged by the line that is printed after it.
 use Rattle.std.proofs.Common.{◌≡◌, ℕ, ◌≤◌, List, sym, subst, arith, inl, inr}
 use Rattle.std.specs.Prelude.{Ok, Err, string_bytes}
 use Rattle.play_outside.specs.Faults.{Rose}

@@ -12,12 +12,14 @@ use Rattle.stage_lock.specs.Closing.{AreAll}
 use Rattle.conn_worker.specs.declared.server.Server.{Server}
 use Rattle.conn_worker.specs.declared.work_end.WorkEnd.{WorkEnd}
 use Rattle.history_model.specs.pictures.Media.{Setup}
+use Rattle.play_outside.specs.declared.sink.Sent.{Sent}
 use Rattle.play_ticker.specs.declared.ending.TickEnd.{TickEnd}
-use Rattle.play_server.specs.inner.Threads.{Moment, RanBeside, TickerStates, ticker_pass, worker_passes}
-use Rattle.play_server.specs.inner.Workers.{DoorStates, HasWorkedAt, IsRunning}
+use Rattle.play_server.specs.inner.Threads.{HasNewPasses, RanBeside, TickerStates, log_pass, passes_back, ticker_pass, worker_passes}
+use Rattle.play_server.specs.inner.Workers.{DoorStates, HasWorkedAt, IsRunning, doors_of, ends_of, passes_of}
 use Rattle.play_server.specs.declared.connection_workers.ConnectionWorker.{ConnectionWorker}
-use Rattle.play_server.proofs.HasWorkedAt.{EachPlace, doors_of, each_place, ends_of, passes_of}
-use Rattle.play_server.proofs.Reverse.{all_zip_many, all_zip_reverse, first_left}
+use Rattle.play_server.specs.declared.run_threads.RunThreads.{RunThreads}
+use Rattle.play_server.proofs.HasWorkedAt.{EachPlace, each_place}
+use Rattle.play_server.proofs.Reverse.{all_zip_many, all_zip_reverse, first_left, same_last}
 
 pub many_from : (stage : SharedView) (number count : ℕ) → length (map (new_pass stage) (range_with_len number count)) ≡ count
 many_from stage number zero = refl
@@ -71,58 +73,101 @@ workers_of stage number (suc count) zero pass at = ap (λ (p : PassView). p.stag
 workers_of stage number (suc count) (suc j) pass at = workers_of stage (number + 1) count j pass at
 
 -- all passes of the stage are there when the threads have ended
-pub all_there : {D L : Type 0} (states : DoorStates D L) (server : Server) (stage : SharedView) (first : PassView) (others : List PassView) (olds : List D) (ended : List WorkEnd) (news : List D)
-    → first.stage ≡ stage → EachPlace states server (worker_passes stage (length olds)) olds others ended news → stage.sizes.passes ≡ length olds + 1
-    → AreAll stage (first ∷ others)
-all_there states server stage first others olds ended news of each many = record {
+pub all_there : {D L : Type 0} (states : DoorStates D L) (server : Server) (stage : SharedView) (log first : PassView) (others : List PassView) (olds : List D) (ended : List WorkEnd) (news : List D)
+    → log.stage ≡ stage → first.stage ≡ stage → EachPlace states server (worker_passes stage (length olds)) olds others ended news → stage.sizes.passes ≡ length olds + 2
+    → AreAll stage (log ∷ first ∷ others)
+all_there states server stage log first others olds ended news log_of of each many = record {
   each = each_of;
   many = omega (arith, (same_many states server (worker_passes stage (length olds)) olds others ended news each).passes, many_from stage 1 (length olds), many);
 }
   where
-    each_of : (k : ℕ) (pass : PassView) → get_elem? (first ∷ others) k ≡ some pass → pass.stage ≡ stage
-    each_of zero pass at = ap (λ (p : PassView). p.stage) (sym (some-injective first pass at)) ∙ of
-    each_of (suc k) pass at =
+    each_of : (k : ℕ) (pass : PassView) → get_elem? (log ∷ first ∷ others) k ≡ some pass → pass.stage ≡ stage
+    each_of zero pass at = ap (λ (p : PassView). p.stage) (sym (some-injective log pass at)) ∙ log_of
+    each_of (suc zero) pass at = ap (λ (p : PassView). p.stage) (sym (some-injective first pass at)) ∙ of
+    each_of (suc (suc k)) pass at =
         still_of states server stage (worker_passes stage (length olds)) olds others ended news each (workers_of stage 1 (length olds)) k pass at
 
--- the passes of a new stage, the ticker's first
-pub new_passes_parts : (stage : SharedView) (count : ℕ) → stage.sizes.passes ≡ count + 1 → new_passes stage ≡ ticker_pass stage ∷ worker_passes stage count
+-- the last pass of those from a number on
+last_from : (stage : SharedView) (number count : ℕ)
+    → map (new_pass stage) (range_with_len number (suc count)) ≡ map (new_pass stage) (range_with_len number count) ++ new_pass stage (number + count) ∷ []
+last_from stage number zero =
+    let same : number ≡ number + 0 = omega arith in
+    ap (λ (n : ℕ). new_pass stage n ∷ []) same
+last_from stage number (suc count) =
+    let same : (number + 1) + count ≡ number + suc count = omega arith in
+    ap (λ (ps : List PassView). new_pass stage number ∷ ps)
+    (last_from stage (number + 1) count ∙ ap (λ (n : ℕ). map (new_pass stage) (range_with_len (number + 1) count) ++ new_pass stage n ∷ []) same)
+
+-- the passes of a new stage, the ticker's first and the log's last
+pub new_passes_parts : (stage : SharedView) (count : ℕ) → stage.sizes.passes ≡ count + 2
+    → new_passes stage ≡ (ticker_pass stage ∷ worker_passes stage count) ++ log_pass stage count ∷ []
 new_passes_parts stage count many =
-    let next : stage.sizes.passes ≡ suc count = omega (arith, many) in
+    let next : stage.sizes.passes ≡ suc (suc count) = omega (arith, many) in
+    let same : 1 + count ≡ count + 1 = omega arith in
     ap (λ (n : ℕ). map (new_pass stage) (range_with_len 0 n)) next
+    ∙ ap (λ (ps : List PassView). ticker_pass stage ∷ ps)
+    (last_from stage 1 count ∙ ap (λ (n : ℕ). worker_passes stage count ++ new_pass stage n ∷ []) same)
 
 pub parts_many : (stage : SharedView) (count : ℕ) → length (ticker_pass stage ∷ worker_passes stage count) ≡ count + 1
 parts_many stage count = omega (arith, many_from stage 1 count)
 
--- the passes of a run before its threads begin
-pub record HasNewPasses {C D O : Type 0} (stage : SharedView) (count : ℕ) (moment : Moment C D O) : Type 0 where
-  pub ticker : moment.ticker.pass ≡ ticker_pass stage
-  pub connection_workers : passes_of (reverse moment.connection_workers) ≡ worker_passes stage count
+-- as many passes are new as the stage has
+pub new_many : (stage : SharedView) → length (new_passes stage) ≡ stage.sizes.passes
+new_many stage = many_from stage 0 stage.sizes.passes
+
+-- the log's pass is the last one
+pub log_given : (stage : SharedView) (count : ℕ) (passes left : List PassView) (log : PassView)
+    → passes ≡ new_passes stage → stage.sizes.passes ≡ count + 2 → passes ≡ left ++ log ∷ []
+    → (left ≡ ticker_pass stage ∷ worker_passes stage count) × (log ≡ log_pass stage count)
+log_given stage count passes left log new many given =
+    same_last left (ticker_pass stage ∷ worker_passes stage count) log (log_pass stage count) (sym given ∙ new ∙ new_passes_parts stage count many)
 
 workers_many : {D : Type 0} (connection_workers : List (ConnectionWorker D)) → length (passes_of (reverse connection_workers)) ≡ length connection_workers
 workers_many connection_workers = length-map (reverse connection_workers) _ ∙ length-reverse connection_workers
 
--- if each connection worker was given a pass of a new stage, the ticker's pass is left
+-- if each connection worker was given a pass of those before the log's, the ticker's pass is left
 pub passes_given : {D : Type 0} (stage : SharedView) (count : ℕ) (passes left : List PassView) (connection_workers : List (ConnectionWorker D))
-    → passes ≡ new_passes stage → stage.sizes.passes ≡ count + 1 → length connection_workers ≡ count → passes ≡ left ++ passes_of (reverse connection_workers)
+    → passes ≡ ticker_pass stage ∷ worker_passes stage count → length connection_workers ≡ count → passes ≡ left ++ passes_of (reverse connection_workers)
     → (left ≡ ticker_pass stage ∷ []) × (passes_of (reverse connection_workers) ≡ worker_passes stage count)
-passes_given stage count passes left connection_workers new many count_is given =
+passes_given stage count passes left connection_workers first count_is given =
     first_left (ticker_pass stage) (worker_passes stage count) left (passes_of (reverse connection_workers))
-    (sym (new_passes_parts stage count many) ∙ sym new ∙ given)
+    (sym first ∙ given)
     (workers_many connection_workers ∙ count_is ∙ sym (many_from stage 1 count))
 
-module _ {C D O L : Type 0} (ticker_states : TickerStates C O) (states : DoorStates D L) (setup : Setup) (server : Server) (tick_end : TickEnd) (old new : Moment C D O)
-    (ran : RanBeside ticker_states states setup server (tick_end, old, new)) where
-  pub same_workers : length new.connection_workers ≡ length old.connection_workers
-  same_workers = all_zip_many (HasWorkedAt states server) old.connection_workers new.connection_workers ran.worked
+-- each pass but the log's has seen no stop
+pub running_parts : (stage : SharedView) (count : ℕ) → All (IsRunning stage) (ticker_pass stage ∷ worker_passes stage count)
+running_parts stage count = running_from stage 0 (suc count)
+
+module _ {C D O L : Type 0} (ticker_states : TickerStates C O) (states : DoorStates D L) (setup : Setup) (server : Server) (ends : TickEnd × Sent) (old new : RunThreads C D O)
+    (ran : RanBeside ticker_states states setup server (ends.0, ends.1, old, new)) where
+  pub same_workers : length new.others.connection_workers.items ≡ length old.others.connection_workers.items
+  same_workers = all_zip_many (HasWorkedAt states server) old.others.connection_workers.items new.others.connection_workers.items ran.worked
 
   -- all passes of the stage are there when the threads have ended
-  pub all_passes : HasNewPasses server.stage.now (length old.connection_workers) old → server.stage.now.sizes.passes ≡ length old.connection_workers + 1
-      → AreAll server.stage.now (new.ticker.pass ∷ passes_of (reverse new.connection_workers))
-  all_passes passes many =
-      let doors : length (doors_of (reverse old.connection_workers)) ≡ length old.connection_workers = length-map (reverse old.connection_workers) _ ∙ length-reverse old.connection_workers in
-      let each = each_place states server (reverse old.connection_workers) (reverse new.connection_workers) (all_zip_reverse (HasWorkedAt states server) old.connection_workers new.connection_workers ran.worked) in
-      all_there states server server.stage.now new.ticker.pass (passes_of (reverse new.connection_workers)) (doors_of (reverse old.connection_workers)) (ends_of (reverse new.connection_workers)) (doors_of (reverse new.connection_workers))
+  pub all_passes : (count : ℕ) → length old.others.connection_workers.items ≡ count → HasNewPasses server.stage.now count old → server.stage.now.sizes.passes ≡ count + 2
+      → AreAll server.stage.now (passes_back new)
+  all_passes count count_is passes many =
+      let doors : length (doors_of (reverse old.others.connection_workers.items)) ≡ count =
+      length-map (reverse old.others.connection_workers.items) _ ∙ length-reverse old.others.connection_workers.items ∙ count_is in
+      let each = each_place states server (reverse old.others.connection_workers.items) (reverse new.others.connection_workers.items)
+      (all_zip_reverse (HasWorkedAt states server) old.others.connection_workers.items new.others.connection_workers.items ran.worked) in
+      all_there states server server.stage.now new.others.log.pass new.ticker.pass (passes_of (reverse new.others.connection_workers.items)) (doors_of (reverse old.others.connection_workers.items))
+      (ends_of (reverse new.others.connection_workers.items)) (doors_of (reverse new.others.connection_workers.items))
+      (ran.logged.of ∙ ap (λ (p : PassView). p.stage) passes.log)
       ran.ticked.of
-      (subst (λ (ps : List PassView). EachPlace states server ps (doors_of (reverse old.connection_workers)) (passes_of (reverse new.connection_workers)) (ends_of (reverse new.connection_workers)) (doors_of (reverse new.connection_workers)))
+      (subst (λ (ps : List PassView). EachPlace states server ps (doors_of (reverse old.others.connection_workers.items)) (passes_of (reverse new.others.connection_workers.items))
+      (ends_of (reverse new.others.connection_workers.items)) (doors_of (reverse new.others.connection_workers.items)))
       (passes.connection_workers ∙ ap (worker_passes server.stage.now) (sym doors)) each)
-      (many ∙ ap (λ (n : ℕ). n + 1) (sym doors))
+      (many ∙ ap (λ (n : ℕ). n + 2) (sym doors))
+
+-- the passes of the threads were put back into a list without passes
+pub put_back : {C D O : Type 0} (threads : RunThreads C D O) (none one two all : List PassView) (log first : PassView)
+    → none ≡ [] → log ≡ threads.others.log.pass → first ≡ threads.ticker.pass
+    → one ≡ none ++ log ∷ [] → two ≡ one ++ first ∷ [] → all ≡ two ++ passes_of (reverse threads.others.connection_workers.items)
+    → all ≡ passes_back threads
+put_back threads none one two all log first is_none is_log is_first is_one is_two is_all =
+    let back = passes_of (reverse threads.others.connection_workers.items) in
+    let parts : two ≡ log ∷ first ∷ [] =
+    is_two ∙ ap (λ (ps : List PassView). ps ++ first ∷ []) (is_one ∙ ap (λ (ps : List PassView). ps ++ log ∷ []) is_none) in
+    is_all ∙ ap (λ (ps : List PassView). ps ++ back) parts
+    ∙ ap (λ (p : PassView). p ∷ first ∷ back) is_log ∙ ap (λ (p : PassView). threads.others.log.pass ∷ p ∷ back) is_first

@@ -21,8 +21,8 @@ abbrev pub TextByRuns : Type 0
 TextByRuns = (media : List MediaNameView) (event : Event) (times : ℕ) (later : List Event) → IsRun event times → FollowRun event later
     → history_text media (replicate times event ++ later) ≡ history_text media (replicate times event) ++ history_text media later
 
--- these runs are left of some events, and the text of what stands before them was added to a text that is gathered. Of it this
--- waits to be written, from the first of two moments to the second
+-- these runs are left of some events, and the text of the events before them was added to a gathered text, of which `waiting` is
+-- still to be written. The output went from the first of two moments to the second
 pub record IsAddedTo (media : List MediaNameView) (events : List Event) (waiting : List ℕ) (moments : SinkState × SinkState) (runs : List Run) : Type 0 where
   pub added : List ℕ
   pub whole : history_text media events ≡ added ++ history_text media (flat_map events_of runs)
@@ -45,7 +45,7 @@ begins_without (Batch tag cmds) times rest other one = subst (λ (n : ℕ). Begi
 begins_without Tick times rest other some = absurd (true≢false other)
 begins_without (Stop tag) times rest other one = subst (λ (n : ℕ). BeginWithoutTick (replicate n (Stop tag) ++ rest)) (sym one) tt
 
--- runs that stand after a run of ticks begin with no tick
+-- runs that follow a run of ticks begin with no tick
 follow_ticks : (times : ℕ) (runs : List Run) → AllByRecursion (λ (run : Run). HasItsTimes run.event run.times) runs
     → AreApart (record { event = Tick; times = times } ∷ runs) → BeginWithoutTick (flat_map events_of runs)
 follow_ticks times [] all apart = tt

@@ -1,4 +1,4 @@
--- What the doors of a run were given back, by the one history of the run.
+-- The links that the doors of a run were given back, by the one history of the run.
 use Rattle.std.specs.Prelude.{◌≡◌, ◌⊎◌, ℕ, suc, ◌<◌, ◌≤◌, ◌||◌, Bool, true, false, Some, List, [], ◌∷◌, ◌++◌, length, map, option_map}
 use Rattle.play_types.specs.History.{stop_at}
 use Rattle.play_types.specs.declared.event.Event.{Event}
@@ -13,21 +13,21 @@ use Rattle.conn_worker.specs.declared.work_end.WorkEnd.{WorkEnd}
 use Rattle.conn_worker.specs.declared.work_end.WorkEnd.TheVariants.{Closed, Ended, DoorFault, SessionsOver}
 use Rattle.play_server.specs.Links.{EachFrom, IsExplainedLink}
 
--- whether the serving of a link was ended by a stop of another call
+-- whether the serving of a link ended because of a stop that another call made
 abbrev pub is_stopped : link.LinkEnd → Bool
 is_stopped ends.Over = false
 is_stopped ends.Killed = false
 is_stopped ends.LinkFault = false
 is_stopped (ends.Ended at) = true
 
--- whether the work at a door ended since the door answered Closed
+-- whether the work at a door ended because the door answered Closed
 abbrev pub is_closed : WorkEnd → Bool
 is_closed Closed = true
 is_closed (Ended at) = false
 is_closed DoorFault = false
 is_closed SessionsOver = false
 
--- whether it ended since the door failed
+-- whether the work at a door ended because the door failed
 abbrev pub is_door_fault : WorkEnd → Bool
 is_door_fault Closed = false
 is_door_fault (Ended at) = false
@@ -48,33 +48,33 @@ module _ (L : Type 0) where
     pub end : WorkEnd
 
 module _ {L : Type 0} where
-  -- of these links none was ended by a stop of another call, but for the last one
+  -- none of these links but the last ended because of a stop that another call made
   abbrev pub OnlyLastIsStopped : List (LinkRun L) → Type 0
   OnlyLastIsStopped [] = Unit {0}
   OnlyLastIsStopped (link_run ∷ []) = Unit {0}
   OnlyLastIsStopped (link_run ∷ next ∷ link_runs) = (is_stopped link_run.end ≡ false) × OnlyLastIsStopped (next ∷ link_runs)
 
-  -- what a door tells after it was given these links back, and had answered Closed or not
+  -- what a door has recorded after the work at it: the links that it was given back, and whether it answered Closed
   abbrev pub given_back : DoorRun L → ListenerTold L → ListenerTold L
   given_back run told = record {
     returned = told.returned ++ map (λ (link_run : LinkRun L). link_run.line) run.links;
     closed = told.closed || is_closed run.end;
   }
 
-  -- a door was asked: a link came, it answered Closed, it had none yet, or it failed
+  -- a door was asked: a link came, it answered Closed, it failed, or it had no link yet
   abbrev pub WasAsked : DoorRun L → ListenerState L → ListenerState L → Type 0
   WasAsked run before after =
       (0 < length run.links) ⊎ ((is_closed run.end ≡ true) ⊎ ((is_door_fault run.end ≡ true) ⊎ Rose before.idle after.idle))
 
-  -- how the work at a door ended, by the history of the run
-  abbrev pub EndsByHistory : List Event → List (LinkRun L) → WorkEnd → Type 0
-  EndsByHistory history links Closed = Unit {0}
-  EndsByHistory history links (Ended at) = stop_at history ≡ Some at
-  EndsByHistory history links DoorFault = Unit {0}
-  EndsByHistory history links SessionsOver = length links ≡ MAX_SESSIONS
+  -- what holds of the events before the run and the history of the run, by the end of the work at a door
+  abbrev pub EndsByHistory : List Event → List Event → List (LinkRun L) → WorkEnd → Type 0
+  EndsByHistory given history links Closed = Unit {0}
+  EndsByHistory given history links (Ended at) = stop_at (given ++ history) ≡ Some at
+  EndsByHistory given history links DoorFault = Unit {0}
+  EndsByHistory given history links SessionsOver = length links ≡ MAX_SESSIONS
 
   -- the work at a door, from the door before it to the door after it. Each link that came was served as the session of its place,
-  -- from 1 on, and was given back. There are no more links than numbers of sessions
+  -- from 1 on, and was given back. There are at most MAX_SESSIONS links
   pub record HasServed (setting : Setting L) (history : List Event) (run : DoorRun L) (before after : ListenerState L) : Type 0 where
     pub links : EachFrom (IsExplainedLink setting history) 1 run.links
     pub last : OnlyLastIsStopped run.links
@@ -84,15 +84,15 @@ module _ {L : Type 0} where
     pub mark : after.mark ≡ before.mark
     pub asked : WasAsked run before after
     pub few : length run.links ≤ MAX_SESSIONS
-    pub ending : EndsByHistory history run.links run.end
+    pub ending : EndsByHistory setting.given history run.links run.end
 
-  -- the tag is that of a link that one of these doors was given back. The first door is that of the worker of this number
+  -- the tag is that of a link that one of these doors was given back. The first door is that of the worker with this number
   abbrev pub IsTagOfLink : ℕ → List (DoorRun L) → Tag → Type 0
   IsTagOfLink worker [] tag = ⊥
   IsTagOfLink worker (run ∷ runs) tag =
       ((tag.worker ≡ worker) × (0 < tag.session) × (tag.session ≤ length run.links)) ⊎ IsTagOfLink (suc worker) runs tag
 
-  -- this holds of each door before and after the work at it. The first is that of the worker of this number
+  -- `Holds` is true of each door before and after the work at it. The first door is that of the worker with this number
   abbrev pub EachDoor : {D : Type 0} → (ℕ → DoorRun L → D → D → Type 0) → ℕ → List (DoorRun L) → List D → List D → Type 0
   EachDoor Holds worker [] [] [] = Unit {0}
   EachDoor Holds worker (run ∷ runs) (old ∷ olds) (new ∷ news) = Holds worker run old new × EachDoor Holds (suc worker) runs olds news

@@ -4,6 +4,7 @@ pub mod Site
 pub mod MemSite
 pub mod Links
 pub mod Doors
+pub mod Log
 pub mod Run
 pub mod Replay
 pub mod Program

@@ -27,26 +27,26 @@ tagged tag history = filter (has_tag tag) history
 
 -- a connection is explained by a history
 pub record IsExplainedBy (service : Service) (history : List Event) (end : LinkEnd) (came left : SinkState) : Type 0 where
-  -- its looks at the link with the steps that were followed after each, how the link failed, if it did, and the pass after them
+  -- its reads of the link with the steps that were executed after each, how the link failed, if it did, and the pass after them
   pub talk : Talk
-  -- the steps that were followed are the first ones of the bytes that were read, in order
+  -- the executed steps are the first steps of the bytes that were read, in order
   pub steps : IsPrefix (steps_in (covered talk)) (steps_of service (covered talk) (bytes_in talk.rounds))
-  -- and each has the token of its line, which the reply to it has
+  -- each step has the token of its line, which its reply has too
   pub tokens : IsPrefix (tokens_in (covered talk)) (tokens (bytes_in talk.rounds))
-  -- each step found a part of the history, which goes on with the step's event, if it has one
+  -- each step found a prefix of the history, which continues with the step's event, if it has one
   pub order : AreInOrder service [] (covered talk) history
-  -- the events of the history that are of this connection are just those of the steps, in order
+  -- the events of this connection in the history are exactly those of the steps, in order
   pub events : tagged service.tag history ≡ flat_map (events_of service) (covered talk)
-  -- before each look all steps of the bytes read until then were followed, and none of them was an end
+  -- before each read all steps of the bytes read until then were executed, and none of them was an end
   pub looks : (k : ℕ) → k < length talk.rounds → IsCaughtUp service (take k talk.rounds)
-  -- the link was called just so: after each look the replies to its steps were written, in order, before the next look; a failure comes
-  -- after that
+  -- the calls of the link: after each read the replies to its steps were written, in order, before the next read; a failure comes
+  -- last
   pub link : IsAfterFailure service talk.failure (after_rounds service talk.rounds came) left
-  -- what the end tells, if the pass had seen a part of the history
+  -- what holds of the talk, by the end. Its pass has seen a prefix of the history
   pub ending : EndsBy service talk end
   pub seen : IsPrefix talk.pass.seen history
 
--- this holds of each element and its number, the first of which is given
+-- `Holds` is true of each element with its number, and the first element has this number
 abbrev pub EachFrom : {X : Type 0} → (ℕ → X → Type 0) → ℕ → List X → Type 0
 EachFrom Holds number [] = Unit {0}
 EachFrom Holds number (x ∷ xs) = Holds number x × EachFrom Holds (suc number) xs

@@ -17,11 +17,11 @@ abbrev pub has_devices_for : {C D O : Type 0} → ConfigView → Option (Devices
 has_devices_for config None = false
 has_devices_for config (Some devices) = (vec_len devices.doors == config.connections) && (vec_len devices.outs == length config.channels)
 
--- whether a call of `ready` with this configuration gives devices: it is not planned to fail, and they are there
+-- whether a call of `ready` with this configuration gives devices: it is not planned to fail, and there are devices for it
 abbrev pub is_ready : {C D O : Type 0} → ConfigView → Bool → Option (Devices C D O) → Bool
 is_ready config fails devices = not fails && has_devices_for config devices
 
--- what a call of `finish` answers, by whether it is planned to fail
+-- the result of a call of `finish`, by whether it is planned to fail
 abbrev pub finish_step : Bool → FinishStep
 finish_step false = Done
 finish_step true = Failed

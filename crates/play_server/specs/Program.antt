@@ -1,4 +1,4 @@
--- The whole program: the words, the configuration and the clips, the devices, the run, and what is said of a fault.
+-- The whole program: the arguments, the configuration and the clips, the devices, the run, and the line that is printed for a fault.
 use Rattle.std.specs.Prelude.{◌≡◌, ◌⊎◌, ℕ, true, false, Option, List, [], ◌∷◌, ◌++◌, Result, Ok, Err, option_map, string_bytes}
 use Rattle.play_outside.specs.FolderState.{FolderState}
 use Rattle.play_outside.specs.SinkState.{SinkState}
@@ -22,30 +22,30 @@ use Rattle.play_server.specs.declared.words.ServerWords.{ServerWords}
 use Rattle.play_server.specs.declared.words.ServerWordsFault.{ServerWordsFault}
 use Rattle.play_server.specs.declared.words.ServerWordsFault.TheVariants as words
 
--- the exit status
+-- the exit status: 0, or that of the fault
 abbrev pub status_in : Result (Unit {0}) RunFault → ℕ
 status_in (Ok done) = 0
 status_in (Err fault) = status_of fault
 
--- what is played on a configuration and clips
+-- the configuration and the clips of a setup
 abbrev pub program_of : ServerSetup → Program
 program_of setup = record { config = setup.config; media = setup.media }
 
--- what is asked for: a run on this configuration and these clips, with this file of the history, if there is one
+-- a requested run: its configuration and clips, and the path of the history's file, if there is one
 pub record Asked : Type 0 where
   pub program : Program
   pub path : Option (List ℕ)
 
--- a run on what was set up
+-- the requested run on a setup
 abbrev pub asked_of : ServerSetup → Option (List ℕ) → Asked
 asked_of setup path = record { program = program_of setup; path = path }
 
--- a run on what was set up, or why nothing was
+-- the requested run on a setup, or the fault of the setup
 abbrev pub asked_in : Result ServerSetup RunFault → Option (List ℕ) → Result Asked RunFault
 asked_in (Ok setup) path = Ok (asked_of setup path)
 asked_in (Err fault) path = Err fault
 
--- the line of the fault takes memory: it has a name, or a number that is not the length of all clip files
+-- the line of the fault needs memory: it has a key, a name, or a number other than the length of all clip files
 abbrev pub TakesMemory : RunFault → Type 0
 TakesMemory Usage = ⊥
 TakesMemory ConfigText = ⊥
@@ -61,23 +61,23 @@ TakesMemory (MediaTotal total) = ⊥
 TakesMemory Device = ⊥
 TakesMemory OutOfMemory = ⊥
 
--- the fault that is told is the one that was met; or it is that memory ran out, for the line of the one that was met
+-- the reported fault is the one that was met, or OutOfMemory if memory ran out for the line of the one that was met
 abbrev pub IsToldAs : RunFault → RunFault → Type 0
 IsToldAs met told = (told ≡ met) ⊎ (TakesMemory met × (told ≡ OutOfMemory))
 
--- the fault of a run whose words name nothing
+-- the fault of a run whose arguments could not be parsed
 abbrev pub fault_of_words : ServerWordsFault → RunFault
 fault_of_words words.Usage = Usage
 fault_of_words words.OutOfMemory = OutOfMemory
 
 module _ (C D O : Type 0) where
-  -- a site at one moment: its folder, and what it tells of its own calls
+  -- a site at one moment: its folder, and what it has recorded of its own calls
   pub record AtSite : Type 0 where
     pub folder : FolderState
     pub site : SiteState C D O
 
 module _ {C D O : Type 0} where
-  -- the line of a fault was said, or the site failed as it was to say it
+  -- the line of a fault was printed, or the site failed to print it
   pub record SaysLine (fault : RunFault) (before after : SiteState C D O) : Type 0 where
     -- the line without its line feed
     pub line : List ℕ
@@ -85,13 +85,13 @@ module _ {C D O : Type 0} where
     pub step : WriteStep
     pub said : Says step line before after
 
-  -- what is said at the end
+  -- what is printed at the end: nothing, or the line of the fault
   abbrev pub SaysEnd : Result (Unit {0}) RunFault → SiteState C D O → SiteState C D O → Type 0
   SaysEnd (Ok done) before after = after ≡ before
   SaysEnd (Err fault) before after = SaysLine fault before after
 
 module _ {C D O L : Type 0} where
-  -- devices were taken for such a run, served, and finished
+  -- the site gave devices for the requested run, which ended with `end`, and took them back
   pub record ServesOn (device : DeviceStates C D O L) (tells : L → SinkState) (asked : Asked) (end : ServeEnd) (moments : SiteState C D O × SiteState C D O) : Type 0 where
     pub given : Devices C D O
     pub finished : Devices C D O
@@ -101,9 +101,9 @@ module _ {C D O L : Type 0} where
     pub step : FinishStep
     pub finishes : Finishes step finished (after_call (ready_call asked.program.config asked.path true) moments.0) moments.1
 
-  -- what a run on a configuration and clips came to: no device failed, and the history has its name; or a device failed in the run,
-  -- or the history did not get its name after one in which none failed, or the site gave no devices; or memory ran out, before the
-  -- run or for the devices
+  -- the result of a requested run. Ok: no device failed, and the history has its name. Device: a device failed in the run, or none
+  -- failed but the history did not get its name, or the site failed to give devices. OutOfMemory: memory ran out before the run, or
+  -- for the devices
   abbrev pub RunsOn : DeviceStates C D O L → (L → SinkState) → Asked → Result (Unit {0}) RunFault → SiteState C D O × SiteState C D O → Type 0
   RunsOn device tells asked (Ok done) moments = (served : ServesOn device tells asked serve.Ended moments) × (served.step ≡ finish.Done)
   RunsOn device tells asked (Err Device) moments =
@@ -125,23 +125,23 @@ module _ {C D O L : Type 0} where
   RunsOn device tells asked (Err (MediaTwice name)) moments = ⊥
   RunsOn device tells asked (Err (MediaTotal total)) moments = ⊥
 
-  -- after setting up: the run; or the fault of the configuration or the clips, as it is told, and no call of the site
+  -- the result after setup: that of the run; or the fault of the configuration or the clips, as it is reported, and no call of the site
   abbrev pub RunsSetUp : DeviceStates C D O L → (L → SinkState) → Result Asked RunFault → Result (Unit {0}) RunFault → SiteState C D O × SiteState C D O → Type 0
   RunsSetUp device tells (Ok asked) result moments = RunsOn device tells asked result moments
   RunsSetUp device tells (Err fault) result moments = (told : RunFault) × IsToldAs fault told × (result ≡ Err told) × (moments.1 ≡ moments.0)
 
-  -- with words that were accepted the configuration and the clips are read, and then the server runs
+  -- with accepted arguments: the configuration and the clips are read, and then the server runs
   pub record RunsAccepted (device : DeviceStates C D O L) (tells : L → SinkState) (named : ServerWords) (result : Result (Unit {0}) RunFault) (moments : AtSite C D O × AtSite C D O) : Type 0 where
     pub setup : Result ServerSetup RunFault
     pub sets_up : SetsUp (string_bytes named.config) setup moments.0.folder moments.1.folder
     pub runs : RunsSetUp device tells (asked_in setup (option_map string_bytes named.journal)) result (moments.0.site, moments.1.site)
 
-  -- after the words were read: they are refused, or memory ran out, and nothing else was called; or they name a run
+  -- the result after parsing: that of the run that the arguments ask for; or their fault, and nothing else was called
   abbrev pub RunsWords : DeviceStates C D O L → (L → SinkState) → Result ServerWords ServerWordsFault → Result (Unit {0}) RunFault → AtSite C D O × AtSite C D O → Type 0
   RunsWords device tells (Ok named) result moments = RunsAccepted device tells named result moments
   RunsWords device tells (Err fault) result moments = (result ≡ Err (fault_of_words fault)) × (moments.1 ≡ moments.0)
 
-  -- the words are read, and then the server runs as they say. The first word of the line is the program's name
+  -- the arguments are parsed, and then the server runs as they ask. The first word of the line is the program's name
   pub record RunsLine (device : DeviceStates C D O L) (tells : L → SinkState) (line : List (List ℕ)) (result : Result (Unit {0}) RunFault) (moments : AtSite C D O × AtSite C D O) : Type 0 where
     pub read : Result ServerWords ServerWordsFault
     pub reads : ReadsWords line read
@@ -149,7 +149,7 @@ module _ {C D O L : Type 0} where
 
   -- the whole program, from the site before it to the site after it
   pub record RunsServer (device : DeviceStates C D O L) (tells : L → SinkState) (line : List (List ℕ)) (status : ℕ) (moments : AtSite C D O × AtSite C D O) : Type 0 where
-    -- what the run came to, and the site after it
+    -- the result of the run, and the site after it
     pub result : Result (Unit {0}) RunFault
     pub between : AtSite C D O
     pub runs : RunsLine device tells line result (moments.0, between)

@@ -1,4 +1,4 @@
--- How what a run wrote is played again as a script.
+-- How the text of a run is played again as a script.
 use Rattle.std.specs.Prelude.{◌≡◌, ℕ, ◌+◌, ◌*◌, Bool, Some, List, [], ◌∷◌, ◌++◌, drop, flat_map, take}
 use mathlib.Core.List.{IsPrefix}
 use Rattle.play_types.specs.History.{ticks}
@@ -22,7 +22,7 @@ abbrev pub playout_of : Program → Bool → Playout
 playout_of program digests =
     record { config = program.config; names = media_names program.media; clips = clips_of program.media; digests = digests }
 
--- what is written for an event before the reply to it: of a batch the replies to its lines before COMMIT
+-- what is written for an event before the reply to it: for a batch, the replies to its lines before COMMIT
 abbrev pub opening_output : Playout → Event → List ℕ
 opening_output playout (Do tag cmd) = []
 opening_output playout (Batch tag cmds) =
@@ -30,8 +30,8 @@ opening_output playout (Batch tag cmds) =
 opening_output playout Tick = []
 opening_output playout (Stop tag) = []
 
--- a step of a connection made this event of a history. A replay writes for the event the reply that the step had, after what it
--- writes for the events before
+-- a step of a connection made this event of a history. For the event a replay writes the reply that the step had, after the output
+-- for the earlier events
 pub record IsAnsweredAgain (playout : Playout) (service : Service) (history : List Event) (one : Followed) (event : Event) : Type 0 where
   pub later : List Event
   pub whole : history ≡ one.found ++ event ∷ later
@@ -40,29 +40,29 @@ pub record IsAnsweredAgain (playout : Playout) (service : Service) (history : Li
       ++ (opening_output playout event ++ reply_output playout service.tag (reply_of service one))
       ++ events_output playout (one.found ++ event ∷ []) later
 
--- a step of a connection made this event after these other steps. A replay writes before the reply to it what the last of these were
--- answered with 202 without the stage
+-- a step of a connection made this event after the steps `before`. Before the reply to the event a replay writes the replies that the
+-- last of those steps had without the stage
 pub record IsOpenedAgain (playout : Playout) (service : Service) (before : List Followed) (event : Event) : Type 0 where
   pub earlier : List Followed
   pub since : List Followed
   pub whole : before ≡ earlier ++ since
   pub output : opening_output playout event ≡ flat_map (λ (one : Followed). local_output playout service.tag one.step) since
 
--- what is written for a channel at the tick of this number, by the bytes of its frame: those of its picture, and then those of its sound
+-- what is written for a channel at the tick with this number, from the bytes of its frame: first those of its picture, then of its sound
 abbrev pub frame_output : Playout → ℕ → ℕ → List ℕ → List ℕ
 frame_output playout tick channel bytes =
     let picture = 4 * (size (setup_of playout) channel).width * (size (setup_of playout) channel).height in
     channel_output playout tick channel (take picture bytes) (drop picture bytes)
 
--- what is written for the tick after these events, by the bytes of the frames
+-- what is written for the tick after these events, from the bytes of the frames
 abbrev pub raw_output : Playout → List Event → List ℕ
 raw_output playout events =
     flat_map
     (λ channel. frame_output playout (ticks events + 1) channel (raw_frame (setup_of playout) events channel))
     (channel_numbers (setup_of playout))
 
--- a history has a tick between these events. A replay writes for the tick the frames that the outputs took at it, after what it
--- writes for the events before
+-- a history has a tick between these events. For the tick a replay writes the frames that the outputs took at it, after the output
+-- for the earlier events
 pub record IsShownAgain (playout : Playout) (history before later : List Event) : Type 0 where
   pub output : history_output playout history
       ≡ history_output playout before ++ raw_output playout before ++ events_output playout (before ++ Tick ∷ []) later

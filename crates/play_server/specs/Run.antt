@@ -1,4 +1,4 @@
--- A run: one history, of which all replies, frames and the text that is written are.
+-- A run: one history, from which all replies, all frames, the written text and the log follow.
 use Rattle.std.specs.Prelude.{◌≡◌, ◌⊎◌, ℕ, ◌≤◌, ◌||◌, Bool, true, false, Some, List, [], ◌∷◌, ◌++◌, All, length, map}
 use Rattle.std.specs.List.{list_any}
 use Rattle.play_types.specs.Config.{ConfigView, IsConfig}
@@ -24,6 +24,7 @@ use Rattle.play_ticker.specs.Ends.{Meets, clock_at_end}
 use Rattle.play_ticker.specs.Outputs.{AreWritten}
 use Rattle.play_ticker.specs.declared.ending.TickEnd.{TickEnd}
 use Rattle.play_ticker.specs.declared.ending.TickEnd.TheVariants.{ClockClosed, Ended, TicksOver, ClockFault, OutFault}
+use Rattle.play_server.specs.Log.{IsLogged}
 use Rattle.play_server.specs.Site.{DeviceStates}
 use Rattle.play_server.specs.Doors.{DoorRun, EachDoor, HasServed, IsTagOfLink, is_door_fault}
 use Rattle.play_server.specs.declared.served.ServeEnd.{ServeEnd}
@@ -34,7 +35,7 @@ pub record Program : Type 0 where
   pub config : ConfigView
   pub media : List Entry
 
--- a run can be played on it: the configuration is in its ranges, and so is each name of a clip, which is a text
+-- a run can be played on it: the configuration is in its ranges, and each clip name is in its ranges and is text
 pub record IsProgram (program : Program) : Type 0 where
   pub config : IsConfig program.config
   pub names : All IsMediaName (media_names program.media)
@@ -44,10 +45,10 @@ pub record IsProgram (program : Program) : Type 0 where
 abbrev pub setup_of : Program → Setup
 setup_of program = record { channels = map channel_size program.config.channels; clips = clips_of program.media }
 
--- what the links of the worker of this number are served with
+-- what the links of the worker with this number are served with: no events came before the run
 abbrev pub setting_of : {L : Type 0} → Program → (L → SinkState) → ℕ → Setting L
 setting_of program tells worker =
-    record { config = program.config; names = media_names program.media; worker = worker; tells = tells }
+    record { config = program.config; names = media_names program.media; worker = worker; tells = tells; given = [] }
 
 -- an event is a tick, the server's own stop, or of a link that a door was given back
 abbrev pub IsMadeBy : {L : Type 0} → List (DoorRun L) → Event → Type 0
@@ -62,7 +63,7 @@ pub record EndsWithStop (history : List Event) : Type 0 where
   pub tag : Tag
   pub whole : history ≡ events ++ Stop tag ∷ []
 
--- whether the pulses ended since the clock or an output failed
+-- whether the ticks ended because the clock or an output failed
 abbrev pub is_tick_fault : TickEnd → Bool
 is_tick_fault ClockClosed = false
 is_tick_fault (Ended at) = false
@@ -70,12 +71,12 @@ is_tick_fault TicksOver = false
 is_tick_fault ClockFault = true
 is_tick_fault (OutFault channel) = true
 
--- whether the text of the history was not wholly written
+-- whether the text of the history, or the log, was not wholly written
 abbrev pub is_cut : Sent → Bool
 is_cut sent.All = false
 is_cut sent.Failed = true
 
--- what the side that makes ticks has met, by the history of the run
+-- what holds of the history of the run, by the end that the side that makes ticks has met
 abbrev pub TicksEndBy : List Event → TickEnd → Type 0
 TicksEndBy history ClockClosed = Unit {0}
 TicksEndBy history (Ended at) = stop_at history ≡ Some at
@@ -83,7 +84,7 @@ TicksEndBy history TicksOver = ticks history ≡ MAX_TICKS
 TicksEndBy history ClockFault = Unit {0}
 TicksEndBy history (OutFault channel) = Unit {0}
 
--- whether the pulses ended since a stop was found
+-- whether the ticks ended because a stop was found
 abbrev pub is_found : TickEnd → Bool
 is_found ClockClosed = false
 is_found (Ended at) = true
@@ -91,17 +92,17 @@ is_found TicksOver = false
 is_found ClockFault = false
 is_found (OutFault channel) = false
 
--- who made the stop: a connection, or the server itself, if no tick found a stop or a door failed
+-- who made the stop: a connection, or the server itself; then no tick found a stop, or a door failed
 abbrev pub IsStoppedBy : {L : Type 0} → TickEnd → List (DoorRun L) → Tag → Type 0
 IsStoppedBy {L} ticker runs tag =
     (tag ≡ server → (is_found ticker ≡ false) ⊎ (list_any (λ (run : DoorRun L). is_door_fault run.end) runs ≡ true))
 
 -- whether a device failed
-abbrev pub has_device_fault : {L : Type 0} → TickEnd → List (DoorRun L) → Sent → Bool
-has_device_fault {L} ticker runs written =
-    is_tick_fault ticker || (list_any (λ (run : DoorRun L). is_door_fault run.end) runs || is_cut written)
+abbrev pub has_device_fault : {L : Type 0} → TickEnd → List (DoorRun L) → Sent → Sent → Bool
+has_device_fault {L} ticker runs written logged =
+    is_tick_fault ticker || (list_any (λ (run : DoorRun L). is_door_fault run.end) runs || (is_cut written || is_cut logged))
 
--- a run ends so if a device failed, or none
+-- how a run ends: with DeviceFault if a device failed, and with Ended if none did
 abbrev pub ends_so : Bool → ServeEnd
 ends_so true = serve.DeviceFault
 ends_so false = serve.Ended
@@ -109,13 +110,15 @@ ends_so false = serve.Ended
 module _ {C D O L : Type 0} where
   -- a run, from the devices that it was given to those that it gives back
   pub record HasRun (words : DeviceStates C D O L) (tells : L → SinkState) (program : Program) (end : ServeEnd) (devices : Devices C D O × Devices C D O) : Type 0 where
-    -- the history, how the ticks ended and what the side that makes them has met, the work at each door, and whether the text was written
+    -- the history, how the ticks ended and what the side that makes them has met, the work at each door, and whether the text and the
+    -- log were written
     pub history : List Event
     pub ticker : TickEnd
     pub met : TickEnd
     pub runs : List (DoorRun L)
     pub written : Sent
-    -- a run can be played on the configuration and the clips that it had
+    pub logged : Sent
+    -- a run can be played on its configuration and clips
     pub on : IsProgram program
     -- no batch of the history is empty, and it has one stop, as its last event; the journal may hold its commands
     pub whole : IsHistory history
@@ -128,7 +131,7 @@ module _ {C D O L : Type 0} where
     pub doors : EachDoor (λ worker run before after. HasServed (setting_of program tells worker) history run (words.door before) (words.door after))
         1 runs devices.0.doors.items devices.1.doors.items
     -- each output took the frames of its channel at all ticks of the history, or up to the tick at which one of them failed
-    pub outs : AreWritten words.out ticker (record { setup = setup_of program; history = history }) devices.0.outs.items devices.1.outs.items
+    pub outs : AreWritten words.out ticker (record { setup = setup_of program; given = []; history = history }) devices.0.outs.items devices.1.outs.items
     -- the ticks ended with what was met, unless an output failed
     pub meets : Meets (length program.config.channels) ticker met
     -- a pulse was taken for each tick, and one more if a tick was refused
@@ -136,9 +139,11 @@ module _ {C D O L : Type 0} where
     pub pulses : TicksEndBy history met
     -- the text of the history was written, or a prefix of it
     pub text : Sends written (history_text (media_names program.media) history) (words.out devices.0.history) (words.out devices.1.history)
-    pub ending : end ≡ ends_so (has_device_fault ticker runs written)
+    -- the log has the whole history, or a prefix of it
+    pub log : IsLogged logged (media_names program.media) history (words.out devices.0.log) (words.out devices.1.log)
+    pub ending : end ≡ ends_so (has_device_fault ticker runs written logged)
 
-  -- what serving did: it took no device for a run, out of memory, or there was a run
+  -- what serving did: there was a run; or memory ran out, and the devices are unchanged
   abbrev pub Serves : DeviceStates C D O L → (L → SinkState) → Program → ServeEnd → Devices C D O × Devices C D O → Type 0
   Serves words tells program serve.Ended devices = HasRun words tells program serve.Ended devices
   Serves words tells program serve.DeviceFault devices = HasRun words tells program serve.DeviceFault devices

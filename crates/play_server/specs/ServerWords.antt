@@ -10,7 +10,7 @@ use Rattle.play_server.specs.declared.words.ServerWords.{ServerWords}
 use Rattle.play_server.specs.declared.words.ServerWordsFault.{ServerWordsFault}
 use Rattle.play_server.specs.declared.words.ServerWordsFault.TheVariants.{Usage, OutOfMemory}
 
--- `--config FILE` has to be there
+-- `--config FILE` is required
 abbrev pub config_rule : Rule
 config_rule = record (new_rule (codes "config")) { long = Some (codes "config"); action = Some Set; required = true }
 
@@ -35,26 +35,26 @@ bare_app = on_top (λ settings. record settings { disable_help_flag = true; disa
 abbrev pub playd_app : App
 playd_app = with_rule (with_rule (with_rule bare_app config_rule) workers_rule) journal_rule
 
--- the number of workers that was given, which is 1 to 64, and 1 if none was given
+-- the number of workers, from 1 to 64; 1 if none was given
 abbrev pub workers_in : List Row → ℕ
 workers_in rows = option_map_or (λ text. max 1 (min (byte_or_zero text) 64)) (first_of (codes "workers") rows) 1
 
--- what the values of the arguments name
+-- the words have the values of the arguments
 pub record Names (rows : List Row) (words : ServerWords) : Type 0 where
   pub config : first_of (codes "config") rows ≡ Some (string_bytes words.config)
   pub workers : words.workers ≡ workers_in rows
   pub journal : first_of (codes "journal") rows ≡ option_map string_bytes words.journal
 
--- the words are accepted, and these are what they name
+-- the command line is accepted, and the words have its values
 pub record Accepts (line : List (List ℕ)) (words : ServerWords) : Type 0 where
   pub accepted : fault_of playd_app line ≡ []
   pub names : Names (matches_of playd_app line) words
 
--- the words are refused, or memory ran out
+-- the command line is refused, or memory ran out
 abbrev pub Refuses : List (List ℕ) → ServerWordsFault → Type 0
 Refuses line Usage = fault_of playd_app line ≢ []
 Refuses line OutOfMemory = Unit {0}
 
--- what reading the words gives, the first of which is the program's name
+-- the result of parsing a command line, whose first word is the program's name
 abbrev pub ReadsWords : List (List ℕ) → Result ServerWords ServerWordsFault → Type 0
 ReadsWords line result = MatchResult result (Accepts line) (Refuses line)

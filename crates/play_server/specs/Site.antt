@@ -15,13 +15,13 @@ use Rattle.play_server.specs.declared.site.FinishStep.{FinishStep}
 use Rattle.play_server.specs.declared.site.FinishStep.TheVariants as finish
 use Rattle.play_server.specs.declared.site.ReadyCall.{ReadyCall}
 
--- how clocks, doors and outputs are read: what each of them tells
+-- the functions that give the state of a clock, a door and an output
 pub record DeviceStates (C D O L : Type 0) : Type 0 where
   pub clock : C → ClockState
   pub door : D → ListenerState L
   pub out : O → SinkState
 
--- how the clock, the doors and the outputs of a run are read
+-- the functions that give the states of the clock, the doors and the outputs of a run
 abbrev pub device_states : {C D O L : Type 0} → (C → ClockState) → (D → ListenerState L) → (O → SinkState) → DeviceStates C D O L
 device_states clock door out = record { clock = clock; door = door; out = out }
 
@@ -38,7 +38,7 @@ abbrev pub AreNumbered : {X : Type 0} → (X → ℕ) → List X → Type 0
 AreNumbered {X} mark xs = (at : ℕ) (other : X) → at < length xs → mark (slice_index_or xs at other) ≡ at + 1
 
 -- the clock, the doors and the outputs are fresh and without faults, and marked: the doors and the outputs by their places
--- from 1 on, and the output for the history by 0
+-- from 1 on, and the outputs for the history and for the log by 0
 pub record AreNew {C D O L : Type 0} (words : DeviceStates C D O L) (devices : Devices C D O) : Type 0 where
   pub clock : IsNewClock (words.clock devices.clock)
   pub doors : All (λ door. IsNewDoor (words.door door)) devices.doors.items
@@ -47,6 +47,8 @@ pub record AreNew {C D O L : Type 0} (words : DeviceStates C D O L) (devices : D
   pub out_marks : AreNumbered (λ out. (words.out out).mark) devices.outs.items
   pub history : IsNewSink (words.out devices.history)
   pub history_mark : (words.out devices.history).mark ≡ 0
+  pub log : IsNewSink (words.out devices.log)
+  pub log_mark : (words.out devices.log).mark ≡ 0
 
 -- the devices are new, with a door for each connection of the configuration and an output for each channel
 pub record AreReady {C D O L : Type 0} (words : DeviceStates C D O L) (config : ConfigView) (devices : Devices C D O) : Type 0 where
@@ -58,17 +60,17 @@ pub record AreReady {C D O L : Type 0} (words : DeviceStates C D O L) (config : 
 abbrev pub ready_call : ConfigView → Option (List ℕ) → Bool → ReadyCall
 ready_call config history ok = record { config = config; history = history; ok = ok }
 
--- `ready` gave no devices: it failed, or memory ran out. Either is told, and nothing else changed
+-- `ready` gave no devices: it failed, or memory ran out. Either is recorded, and nothing else changed
 abbrev pub IsNotReady : {C D O : Type 0} → FileFault → ReadyCall → SiteState C D O → SiteState C D O → Type 0
 IsNotReady fault.Failed call before after = after ≡ after_site_fault (after_call call before)
 IsNotReady fault.OutOfMemory call before after = after ≡ after_call_without_memory before
 
--- the devices were taken back; and if the history did not get its name, that is a fault of the site
+-- the devices were taken back; if the history did not get its name, the count of faults rose
 abbrev pub Finishes : {C D O : Type 0} → FinishStep → Devices C D O → SiteState C D O → SiteState C D O → Type 0
 Finishes finish.Done devices before after = after ≡ after_finish devices before
 Finishes finish.Failed devices before after = after ≡ after_site_fault (after_finish devices before)
 
--- the whole line was said, or the site failed and said nothing of it
+-- the whole line was printed, or the site failed and recorded nothing of it
 abbrev pub Says : {C D O : Type 0} → WriteStep → List ℕ → SiteState C D O → SiteState C D O → Type 0
 Says (Took count) line before after = (count ≡ length line) × (after ≡ after_line line before)
 Says Failed line before after = after ≡ after_site_fault before

@@ -1,11 +1,11 @@
--- What a site tells of its calls.
+-- What a site records of its calls.
 use Rattle.std.specs.Prelude.{ℕ, Option, Some, List, [], ◌∷◌, ◌++◌, option_map}
 use Rattle.play_outside.specs.Faults.{one_more}
 use Rattle.play_outside.specs.declared.devices.Devices.{Devices}
 use Rattle.play_server.specs.declared.site.ReadyCall.{ReadyCall}
 
--- the calls of `ready` that did not run out of memory, in order, and how many did; the devices that were finished last, and
--- how often devices were finished; and the bytes of the lines that were said, each with a line feed at its end
+-- the calls of `ready` that did not run out of memory, in order, and how many did; the devices that the last `finish` took back, and
+-- the number of calls of `finish`; and the bytes of the lines that were printed, each with a line feed at its end
 pub record SiteTold (C D O : Type 0) : Type 0 where
   pub calls : List ReadyCall
   pub calls_without_memory : ℕ
@@ -13,24 +13,24 @@ pub record SiteTold (C D O : Type 0) : Type 0 where
   pub finishes : ℕ
   pub said : List ℕ
 
--- what was told, if the site tells it, and how often `ready`, `finish` or `say` has failed
+-- what was recorded, if the site records it, and how often `ready`, `finish` or `say` has failed
 pub record SiteState (C D O : Type 0) : Type 0 where
   pub told : Option (SiteTold C D O)
   pub faults : ℕ
 
--- what is told after one more call of `ready`
+-- the record after one more call of `ready`
 abbrev pub one_call : {C D O : Type 0} → ReadyCall → SiteTold C D O → SiteTold C D O
 one_call call told = record told { calls = told.calls ++ call ∷ [] }
 
--- what is told after a call of `ready` ran out of memory
+-- the record after a call of `ready` ran out of memory
 abbrev pub one_call_without_memory : {C D O : Type 0} → SiteTold C D O → SiteTold C D O
 one_call_without_memory told = record told { calls_without_memory = one_more told.calls_without_memory }
 
--- what is told after devices were finished
+-- the record after a call of `finish`
 abbrev pub one_finish : {C D O : Type 0} → Devices C D O → SiteTold C D O → SiteTold C D O
 one_finish devices told = record told { finished = Some devices; finishes = one_more told.finishes }
 
--- what is told after a line was said
+-- the record after a line was printed
 abbrev pub one_line : {C D O : Type 0} → List ℕ → SiteTold C D O → SiteTold C D O
 one_line line told = record told { said = told.said ++ line ++ 10 ∷ [] }
 
@@ -46,10 +46,10 @@ after_call_without_memory state = record state { told = option_map one_call_with
 abbrev pub after_site_fault : {C D O : Type 0} → SiteState C D O → SiteState C D O
 after_site_fault state = record state { faults = one_more state.faults }
 
--- the site after devices were finished
+-- the site after a call of `finish`
 abbrev pub after_finish : {C D O : Type 0} → Devices C D O → SiteState C D O → SiteState C D O
 after_finish devices state = record state { told = option_map (one_finish devices) state.told }
 
--- the site after a line was said
+-- the site after a line was printed
 abbrev pub after_line : {C D O : Type 0} → List ℕ → SiteState C D O → SiteState C D O
 after_line line state = record state { told = option_map (one_line line) state.told }

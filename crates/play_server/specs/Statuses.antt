@@ -1,4 +1,4 @@
--- What the exit status of the program tells.
+-- What the exit status of the program means.
 use Rattle.std.specs.Prelude.{◌≡◌, ◌≢◌, ◌⊎◌, ◌≤◌, ℕ, Option, true, None, Some, IfSome, List, [], ◌∷◌, Ok, Err, codes, option_map, string_bytes}
 use Rattle.clap.specs.Words.{fault_of, first_of, matches_of}
 use Rattle.play_types.specs.History.{ticks}
@@ -24,20 +24,20 @@ use Rattle.play_server.specs.declared.served.ServeEnd.TheVariants as serve
 use Rattle.play_server.specs.declared.site.FinishStep.TheVariants as finish
 use Rattle.play_server.specs.declared.words.ServerWords.{ServerWords}
 
--- the count of one of these rose
+-- the count of one element rose
 abbrev pub AnyRose : {X : Type 0} → (X → ℕ) → List X → List X → Type 0
 AnyRose count [] news = ⊥
 AnyRose count (old ∷ olds) [] = ⊥
 AnyRose count (old ∷ olds) (new ∷ news) = Rose (count old) (count new) ⊎ AnyRose count olds news
 
--- the count of each of these is as it was
+-- the count of each element is unchanged
 abbrev pub AllStay : {X : Type 0} → (X → ℕ) → List X → List X → Type 0
 AllStay count [] [] = Unit {0}
 AllStay count [] (new ∷ news) = ⊥
 AllStay count (old ∷ olds) [] = ⊥
 AllStay count (old ∷ olds) (new ∷ news) = (count new ≡ count old) × AllStay count olds news
 
--- the words are accepted, and the folder tells its files. The first fault of what the words name there is this one, or there is none
+-- the arguments are accepted, the files of the folder are known, and `first` is their first fault, or there is none
 pub record HasFirstFault (line : List (List ℕ)) (first : Option RunFault) (folder : FolderState) : Type 0 where
   pub path : List ℕ
   pub files : Files
@@ -47,7 +47,7 @@ pub record HasFirstFault (line : List (List ℕ)) (first : Option RunFault) (fol
   pub first_is : fault_of_files path files ≡ first
 
 module _ {C D O : Type 0} where
-  -- the words were accepted, and setting up as they say met this fault
+  -- the arguments were accepted, and the setup met this fault
   pub record IsRefused (line : List (List ℕ)) (fault : RunFault) (moments : AtSite C D O × AtSite C D O) : Type 0 where
     pub named : ServerWords
     pub accepted : Accepts line named
@@ -62,22 +62,24 @@ module _ {C D O : Type 0} where
   RefusesClips line moments = ((name : List ℕ) × IsRefused line (fault.MediaTwice name) moments) ⊎ ((total : ℕ) × IsRefused line (fault.MediaTotal total) moments)
 
 module _ {C D O L : Type 0} where
-  -- the count of faults of the clock, of a door, of an output or of the output for the history rose
+  -- the count of faults of the clock, of a door, of an output, or of the output for the history or for the log rose
   abbrev pub ADeviceFails : DeviceStates C D O L → Devices C D O → Devices C D O → Type 0
   ADeviceFails device given finished =
       Rose (device.clock given.clock).faults (device.clock finished.clock).faults
       ⊎ (AnyRose (λ door. (device.door door).faults) given.doors.items finished.doors.items
       ⊎ (AnyRose (λ out. (device.out out).faults) given.outs.items finished.outs.items
-      ⊎ Rose (device.out given.history).faults (device.out finished.history).faults))
+      ⊎ (Rose (device.out given.history).faults (device.out finished.history).faults
+      ⊎ Rose (device.out given.log).faults (device.out finished.log).faults)))
 
-  -- the counts of faults of all devices are as they were
+  -- the counts of faults of all devices are unchanged
   pub record NoDeviceFails (device : DeviceStates C D O L) (given finished : Devices C D O) : Type 0 where
     pub clock : (device.clock finished.clock).faults ≡ (device.clock given.clock).faults
     pub doors : AllStay (λ door. (device.door door).faults) given.doors.items finished.doors.items
     pub outs : AllStay (λ out. (device.out out).faults) given.outs.items finished.outs.items
     pub history : (device.out finished.history).faults ≡ (device.out given.history).faults
+    pub log : (device.out finished.log).faults ≡ (device.out given.log).faults
 
-  -- what stopped a run in which no device failed: a client, the clock that was closed, or the last tick that there may be
+  -- what stopped a run in which no device failed: a client, a closed clock, or the maximum number of ticks
   abbrev pub IsStopped : {device : DeviceStates C D O L} {tells : L → SinkState} {program : Program} {end : ServeEnd} {devices : Devices C D O × Devices C D O}
       → HasRun device tells program end devices → Type 0
   IsStopped {device} {devices = devices} run =
@@ -85,8 +87,8 @@ module _ {C D O L : Type 0} where
       ⊎ (((run.ticker ≡ ticker.ClockClosed) × IfSome (device.clock devices.1.clock).told (λ told. told.closed ≡ true))
       ⊎ (ticks run.history ≡ MAX_TICKS))
 
-  -- the words were accepted, a server was set up as they say, and there was a run on the devices that the site gave for it, which
-  -- ended so
+  -- the arguments were accepted, a server was set up as they ask, and there was a run on the devices that the site gave for it, which
+  -- ended with `end`
   pub record HasServedClients (device : DeviceStates C D O L) (tells : L → SinkState) (line : List (List ℕ)) (end : ServeEnd) (moments : AtSite C D O × AtSite C D O) : Type 0 where
     pub named : ServerWords
     pub accepted : Accepts line named
@@ -103,7 +105,7 @@ module _ {C D O L : Type 0} where
       ⊎ (Rose moments.0.site.faults moments.1.site.faults
       ⊎ ((run : HasServedClients device tells line serve.DeviceFault moments) × ADeviceFails device run.served.given run.served.finished))
 
-  -- a run ended without a fault of anything, and the history has its name
+  -- a run ended without any fault, and the history has its name
   pub record EndsWell (device : DeviceStates C D O L) (tells : L → SinkState) (line : List (List ℕ)) (moments : AtSite C D O × AtSite C D O) : Type 0 where
     pub run : HasServedClients device tells line serve.Ended moments
     pub stopped : IsStopped run.served.serves
@@ -112,8 +114,8 @@ module _ {C D O L : Type 0} where
     pub folder : moments.1.folder ≡ moments.0.folder
     pub site : moments.1.site.faults ≡ moments.0.site.faults
 
-  -- memory ran out, and no call was made on a device: the site was not asked for any; or it was asked once and gave none; or it was
-  -- given back what it gave. Then a line was said
+  -- memory ran out, and no call was made on a device: the site was not asked for devices; or it was asked once and gave none; or it
+  -- got back the devices as it had given them. Then the line of the fault was printed, or the site failed to print it
   abbrev pub EndsUncalled : DeviceStates C D O L → (L → SinkState) → List (List ℕ) → AtSite C D O × AtSite C D O → Type 0
   EndsUncalled device tells line moments =
       SaysLine fault.OutOfMemory moments.0.site moments.1.site
@@ -124,21 +126,21 @@ module _ {C D O L : Type 0} where
   -- the exit status of a call of the program has its cause
   pub record HasItsCause (words : DeviceStates C D O L) (tells : L → SinkState) (line : List (List ℕ)) (status : ℕ) (moments : AtSite C D O × AtSite C D O) : Type 0 where
     pub most : status ≤ 5
-    -- 1 comes only if `clap` refuses the words, and then the status is 1, or 5 if memory ran out
+    -- 1 comes only if `clap` refuses the arguments, and then the status is 1, or 5 if memory ran out
     pub usage : status ≡ 1 → fault_of playd_app line ≢ []
     pub refused : fault_of playd_app line ≢ [] → (status ≡ 1) ⊎ (status ≡ 5)
     -- 2 comes only if the configuration is refused, and 3 only if the clips are
     pub config : status ≡ 2 → RefusesConfig line moments
     pub clips : status ≡ 3 → RefusesClips line moments
-    -- 4 comes only if a count of faults rose: of the folder, of the site, which has that of a history without its name, or of a
+    -- 4 comes only if a count of faults rose: of the folder, of the site, which counts a history that did not get its name, or of a
     -- device in the run
     pub device : status ≡ 4 → SomethingFails words tells line moments
     -- 5 comes only if memory ran out, and no call was made on a device
     pub memory : status ≡ 5 → EndsUncalled words tells line moments
     -- 0 comes only after a run in which nothing failed, and whose history has its name
     pub success : status ≡ 0 → EndsWell words tells line moments
-    -- if the words are accepted and the folder tells its files, in which there is no fault, the status is 0, or 5, or a count rose
+    -- if the arguments are accepted and the known files of the folder have no fault, the status is 0, or 5, or 4 and a count rose
     pub valid : HasFirstFault line None moments.0.folder → (status ≡ 0) ⊎ ((status ≡ 5) ⊎ ((status ≡ 4) × SomethingFails words tells line moments))
-    -- and if there is one, the first decides, unless a read of the folder failed or memory ran out
+    -- if the files have a fault, the first one decides, unless a read of the folder failed or memory ran out
     pub invalid : (found : RunFault) → HasFirstFault line (Some found) moments.0.folder
         → (status ≡ status_of found) ⊎ ((status ≡ 5) ⊎ ((status ≡ 4) × Rose moments.0.folder.faults moments.1.folder.faults))

@@ -1,4 +1,4 @@
--- Devices that are kept, in words that have one proof at most.
+-- New devices, stated so that there is at most one proof.
 use Rattle.std.specs.Prelude.{◌≡◌, false, IfSome, All, length}
 use Rattle.std.proofs.Props.{props}
 use Rattle.play_outside.specs.ListenerState.{ListenerState}
@@ -8,7 +8,7 @@ use Rattle.play_outside.specs.Fresh.{IsNewSink}
 use Rattle.play_outside.specs.declared.devices.Devices.{Devices}
 use Rattle.play_server.specs.Site.{DeviceStates, IsNewClock, AreNumbered}
 
--- a door was given back nothing, has no link out, has not answered Closed, and has not failed
+-- a door was given no link back, has not answered Closed, has no link out, and has not failed
 abbrev pub IsUnusedDoor : {L : Type 0} → ListenerState L → Type 0
 IsUnusedDoor state =
     IfSome state.told (λ told. (length told.returned ≡ 0) × (told.closed ≡ false)) × (state.away ≡ 0) × (state.faults ≡ 0)
@@ -22,6 +22,8 @@ pub record AreUnused {C D O L : Type 0} (words : DeviceStates C D O L) (devices 
   pub out_marks : AreNumbered (λ out. (words.out out).mark) devices.outs.items
   pub history : IsNewSink (words.out devices.history)
   pub history_mark : (words.out devices.history).mark ≡ 0
+  pub log : IsNewSink (words.out devices.log)
+  pub log_mark : (words.out devices.log).mark ≡ 0
 
 clock-prop : (state : ClockState) → IsProp (IsNewClock state)
 clock-prop state = hlevel props

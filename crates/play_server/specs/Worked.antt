@@ -1,14 +1,14 @@
--- Words for the worked command lines.
+-- Abbreviations for the worked command lines.
 use Rattle.std.specs.Prelude.{ℕ, Option, List, ◌∷◌, map, codes}
 use Prim.Native.String.{String}
 use Rattle.clap.specs.Words.{Kinds, fault_of, first_of, matches_of}
 use Rattle.play_server.specs.ServerWords.{playd_app, workers_in}
 
--- the words after the program's own
+-- the command line: the program's name, and then the words
 abbrev pub line : List String → List (List ℕ)
 line words = codes "playd" ∷ map codes words
 
--- why the words are refused; nothing if they are accepted
+-- the kinds of error of a command line; none if it is accepted
 abbrev pub faults : List String → Kinds
 faults words = fault_of playd_app (line words)
 

@@ -13,7 +13,7 @@ use stage_lock::Pass;
 use std::sync::Wait;
 use std::thread::{Threads, join_mut};
 
-/// A connection worker: its pass, the session and the door that it serves links with, and how its work ended.
+/// A connection worker: its pass, its session, the door whose links it serves, and how its work ended.
 #[derive(Drop)]
 pub(crate) struct ConnectionWorker<D> {
     pub(crate) pass: Pass,
@@ -33,7 +33,7 @@ impl<D: Listener> ConnectionWorker<D> {
     }
 }
 
-/// Moves each door with the last passes and the sessions into a connection worker, the last door first. There is room for them.
+/// Moves each door, with the last pass and session, into a connection worker, the last door first. There must be room for all workers.
 pub(crate) fn engage<D: Listener>(
     connection_workers: &mut Vec<ConnectionWorker<D>>,
     passes: &mut Vec<Pass>,
@@ -65,7 +65,7 @@ pub(crate) fn engage<D: Listener>(
     }
 }
 
-/// Moves the passes and the doors of the connection workers back, the last worker first. There is room for them.
+/// Moves the passes and doors of the connection workers back, the last worker first. Both lists must have room for them.
 pub(crate) fn release<D: Listener>(
     mut connection_workers: Vec<ConnectionWorker<D>>,
     passes: &mut Vec<Pass>,
@@ -83,7 +83,7 @@ pub(crate) fn release<D: Listener>(
     }
 }
 
-/// Serves the links of all doors, each beside the others.
+/// Serves the links of all doors concurrently.
 #[cycle(connection_workers)]
 #[tactic(auto, using(crate::proofs::AllZip::all_zip_halves))]
 pub(crate) fn work_all<R: Threads + Wait + Sync, D: Listener>(
@@ -105,7 +105,7 @@ pub(crate) fn work_all<R: Threads + Wait + Sync, D: Listener>(
     }
 }
 
-/// Serves the links of the doors of two parts, each beside the others.
+/// Serves the links of two groups of doors concurrently.
 #[cycle(connection_workers)]
 fn work_both<R: Threads + Wait + Sync, D: Listener>(
     rt: &R,

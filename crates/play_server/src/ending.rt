@@ -11,12 +11,12 @@ use itoa::Buffer;
 use server_setup::RunFault;
 use std::alloc::Global;
 
-/// How many bytes the line has that tells the length of all clip files, at most.
+/// The maximum length in bytes of the line `E media total n`, without its line feed.
 const TOTAL_BYTES: usize = 34;
 
-/// Tells a fault: says its line, and returns its exit status.
+/// Prints the line of `fault`, and returns its exit status.
 ///
-/// If memory runs out for a line, that is the fault, whose line takes none.
+/// If memory runs out for the line, it prints `E memory` instead, and returns 5.
 pub(crate) fn end_with<E: Site>(alloc: Global, fault: &RunFault, site: &mut E) -> u8
     ensures ends { EndsWithFault fault.now result (E.state site.old) (E.state site.new) }
     ensures folder { E.folder site.new ≡ E.folder site.old }
@@ -33,7 +33,7 @@ pub(crate) fn end_with<E: Site>(alloc: Global, fault: &RunFault, site: &mut E) -
     }
 }
 
-/// Tells that memory ran out. It takes no memory.
+/// Prints the line of the fault that memory ran out, and returns its exit status.
 fn end_without_memory<E: Site>(site: &mut E) -> u8
     ensures said { SaysLine OutOfMemory (E.state site.old) (E.state site.new) }
     ensures status { result ≡ 5 }
@@ -44,8 +44,7 @@ fn end_without_memory<E: Site>(site: &mut E) -> u8
     say(line, &fault, site)
 }
 
-/// Says a line, which is that of the fault, and returns the exit status of the fault. If the line cannot be said, the status
-/// is the same.
+/// Prints `line`, which is the line of `fault`, and returns the exit status of `fault`, even if the line cannot be printed.
 fn say<E: Site>(line: &str, fault: &RunFault, site: &mut E) -> u8
     requires { line.now ++ 10 ∷ [] ≡ fault_line fault.now }
     ensures said { SaysLine fault.now (E.state site.old) (E.state site.new) }
@@ -56,7 +55,7 @@ fn say<E: Site>(line: &str, fault: &RunFault, site: &mut E) -> u8
     fault.status()
 }
 
-/// Returns the line, without its line feed, of clip files that have `total` bytes together.
+/// Returns the line, without its line feed, for clip files of `total` bytes in all.
 fn total_line(total: u64) -> ArrayString<TOTAL_BYTES>
     ensures { result.bytes ++ 10 ∷ [] ≡ fault_line (MediaTotal total) }
 {

@@ -1,5 +1,5 @@
-//! Worked command lines. Each function does nothing, and its contract says which words are refused and what accepted ones
-//! name.
+//! Worked command lines. Each function does nothing; its contract states which command lines are refused and what the accepted
+//! ones set.
 #![tactic(auto, unfolding(crate::proofs::OnLiterals::words_on_literals))]
 
 ghost use Rattle.std.specs.Prelude.{◌≡◌, ◌∷◌, [], Some, None, codes};
@@ -7,7 +7,7 @@ ghost use Rattle.play_server.specs.Worked.{config, faults, journal, workers};
 
 use clap::error::ErrorKind;
 
-/// Words that are accepted.
+/// Command lines that are accepted.
 pub fn accepted()
     ensures shortest { faults ("--config" ∷ "a.toml" ∷ []) ≡ [] }
     ensures path { config ("--config" ∷ "a.toml" ∷ []) ≡ Some (codes "a.toml") }
@@ -20,7 +20,7 @@ pub fn accepted()
     ensures plus { workers ("--config=a" ∷ "--workers=+4" ∷ []) ≡ 4 }
 {}
 
-/// Words that are refused, each for its own cause.
+/// Command lines that are refused, each with its kind of error.
 pub fn refused()
     ensures nothing { faults [] ≡ ErrorKind.MissingRequiredArgument ∷ [] }
     ensures no_config { faults ("--workers" ∷ "4" ∷ []) ≡ ErrorKind.MissingRequiredArgument ∷ [] }

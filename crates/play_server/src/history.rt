@@ -10,8 +10,8 @@ use play_types::MediaNames;
 /// How many bytes of the text are gathered before they are written.
 const GATHERED: usize = 65_536;
 
-/// Writes the text of the history of a journal, in which clips are named as in `media`. It takes no memory, and a text of
-/// at most 65,536 bytes is one write.
+/// Writes the text of the history of `journal`, in which clips are named as in `media`. A text of at most 65,536 bytes is
+/// one write.
 ///
 /// The result is `Failed` only if `to` failed, and then a prefix of the text was written.
 pub(crate) fn write_history<K: Sink>(journal: &Journal, media: &MediaNames, to: &mut K) -> Sent

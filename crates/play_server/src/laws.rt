@@ -13,7 +13,7 @@ ghost use Rattle.history_model.specs.recordings.Film.{Span, before_tick, film, f
 ghost use Rattle.history_model.specs.scripts.History.{PlayedLine, script_events};
 ghost use Rattle.history_model.specs.scripts.Memory.{HasMemory, lines_played};
 ghost use Rattle.history_model.specs.scripts.Output.{script_output};
-ghost use Rattle.history_model.specs.text.History.{history_text};
+ghost use Rattle.history_model.specs.text.History.{history_text, joined_events, log_text};
 ghost use Rattle.history_replay.specs.Replay.{IsReplayable, NamesShortClips, script_of};
 ghost use Rattle.history_replay.specs.ReplayOutput.{history_output};
 ghost use Rattle.conn_worker.specs.Explained.{covered};
@@ -34,10 +34,10 @@ use play_outside::{Clock, Listener, Sink};
 
 /// The history of each run can be played again from its text.
 ///
-/// There are as many doors as the configuration has connections, and the name of each clip that the history names is short enough to
-/// be printed in a line. The text is what the output for the history has taken, if it was new and did not fail. Each run of the text
-/// as a script on the same configuration and clips, of which no reply says that memory ran out, has the history of the first run,
-/// and writes its answers and its frames.
+/// This holds if there are as many doors as the configuration has connections, and the name of each clip that the history names is
+/// short enough to be printed in a line. The text is what the output for the history has taken, if it was new and did not fail. If the
+/// text is played as a script on the configuration and clips of the run, and no reply reports that memory ran out, the script has the
+/// history of the run, and writes its replies and its frames.
 pub fn runs_are_played_again<C: Clock, D: Listener, O: Sink>()
     ensures replayable { (program : Program) (end : ServeEnd) (devices : Devices C D O × Devices C D O) (digests : Bool)
         (run : HasRun (device_states C.state D.state O.state) D.Line.state program end devices) →
@@ -63,9 +63,9 @@ pub fn runs_are_played_again<C: Clock, D: Listener, O: Sink>()
 
 /// The replies of a run are written again if its text is played.
 ///
-/// What is written for a history has, for each step of a link that made an event, the reply that the step had, after what is
-/// written for the events before. If the event is a batch this is the reply to COMMIT; before it stand those that the client
-/// had to BEGIN and to the commands of the batch.
+/// For each step of a link that made an event, a replay writes the reply that the step had, after the output for the earlier events.
+/// If the event is a batch, this is the reply to COMMIT; before it come the replies that the client had to BEGIN and to the commands
+/// of the batch.
 pub fn answers_are_written_again<D: Listener>()
     ensures answers { (program : Program) (worker session : ℕ) (history : List Event) (link_run : LinkRun D.Line) (digests : Bool)
         (link : IsExplainedLink (setting_of program D.Line.state worker) history session link_run) → 1 ≤ worker →
@@ -81,18 +81,18 @@ pub fn answers_are_written_again<D: Listener>()
 
 /// The frames of a run are written again if its text is played.
 ///
-/// What is written for a history has, for each tick, the frames of all channels after what is written for the events before. Their
-/// bytes are those that the outputs take at this tick.
+/// For each tick, a replay writes the frames of all channels, after the output for the earlier events. Their bytes are those that
+/// the outputs take at this tick.
 pub fn frames_are_written_again()
     ensures { (program : Program) (digests : Bool) (history before later : List Event) → history ≡ before ++ Tick ∷ later →
         IsShownAgain (playout_of program digests) history before later }
 {}
 
-/// So it is with each run of the program that ends with status 0.
+/// The history of each run of the program that ends with status 0 can be played again from its text.
 ///
-/// The site gave a door for each connection, and a new output for the history. If this output tells its bytes, it holds the text
-/// of the history. Each run of the text as a script on the same configuration and clips, of which no reply says that memory ran out,
-/// has the history of the run, and writes its answers and its frames.
+/// This holds if the name of each clip that the history names is short enough to be printed in a line. If the bytes that the output for
+/// the history has taken are known, they are the text of the history. If the text is played as a script on the configuration and clips
+/// of the run, and no reply reports that memory ran out, the script has the history of the run, and writes its replies and its frames.
 pub fn programs_are_played_again<C: Clock, D: Listener, O: Sink>()
     ensures text { (line : List (List ℕ)) (moments : AtSite C D O × AtSite C D O)
         (run : HasServedClients (device_states C.state D.state O.state) D.Line.state line serve.Ended moments) →
@@ -112,12 +112,47 @@ pub fn programs_are_played_again<C: Clock, D: Listener, O: Sink>()
         script_output (playout_of (program_of run.setup) digests) played ≡ history_output (playout_of (program_of run.setup) digests) run.served.serves.history }
 {}
 
-/// A recording that is made of the text of a run is the film of what was on air.
+/// The log of each run can be played again if no write of it failed.
 ///
-/// The run is one of the program that ends with status 0. Its text is what the output for the history tells. Each run of the text as
-/// a script on the same configuration and clips, of which no reply says that memory ran out, has for each name the film of the
-/// history of the first run. In that run each output took the frames of its channel at all ticks, and the bytes of recorded ticks
-/// stand in them right behind the frames of the ticks before.
+/// The logged pieces are a prefix of the history of the run, and all of it if no write of the log failed. Then, if there are as many
+/// doors as the configuration has connections, the name of each clip that the history names is short enough to be printed in a line,
+/// the log is played as a script on the configuration and clips of the run, and no reply reports that memory ran out, the script has
+/// the history of the run, and writes its replies and its frames.
+///
+/// In a run of the program that ends with status 0, no write of the log failed. If the bytes that the output for the log has taken
+/// are known, they are the log.
+pub fn logs_are_played_again<C: Clock, D: Listener, O: Sink>()
+    ensures part { (program : Program) (end : ServeEnd) (devices : Devices C D O × Devices C D O)
+        (run : HasRun (device_states C.state D.state O.state) D.Line.state program end devices) →
+        IsPrefix (joined_events run.log.pieces) run.history }
+    ensures whole { (program : Program) (end : ServeEnd) (devices : Devices C D O × Devices C D O)
+        (run : HasRun (device_states C.state D.state O.state) D.Line.state program end devices) →
+        run.logged ≡ sent.All → joined_events run.log.pieces ≡ run.history }
+    ensures again { (program : Program) (end : ServeEnd) (devices : Devices C D O × Devices C D O) (digests : Bool)
+        (run : HasRun (device_states C.state D.state O.state) D.Line.state program end devices) → run.logged ≡ sent.All →
+        length devices.0.doors.items ≡ program.config.connections → All (NamesShortClips (media_names program.media)) run.history →
+        (played : List PlayedLine) → lines_played played ≡ script_of (log_text (media_names program.media) run.log.pieces) →
+        HasMemory (playout_of program digests) played →
+        script_events (playout_of program digests) played ≡ run.history }
+    ensures output { (program : Program) (end : ServeEnd) (devices : Devices C D O × Devices C D O) (digests : Bool)
+        (run : HasRun (device_states C.state D.state O.state) D.Line.state program end devices) → run.logged ≡ sent.All →
+        length devices.0.doors.items ≡ program.config.connections → All (NamesShortClips (media_names program.media)) run.history →
+        (played : List PlayedLine) → lines_played played ≡ script_of (log_text (media_names program.media) run.log.pieces) →
+        HasMemory (playout_of program digests) played →
+        script_output (playout_of program digests) played ≡ history_output (playout_of program digests) run.history }
+    ensures text { (line : List (List ℕ)) (moments : AtSite C D O × AtSite C D O)
+        (run : HasServedClients (device_states C.state D.state O.state) D.Line.state line serve.Ended moments) →
+        (run.served.serves.logged ≡ sent.All) × ((text : List ℕ) → (O.state run.served.finished.log).taken ≡ Some text →
+        text ≡ log_text (media_names run.setup.media) run.served.serves.log.pieces) }
+{}
+
+/// A recording that is made from the text of a run is the film of what was on air.
+///
+/// The run is one of the program that ends with status 0, and the name of each clip that its history names is short enough to be
+/// printed in a line. Its text is what the output for the history has taken. If the text is played as a script on the configuration and
+/// clips of the run, and no reply reports that memory ran out, the script has for each name the film of the history of the run. In
+/// the run each output took the frames of its channel at all ticks, and the bytes of the recorded ticks follow directly after the
+/// frames of the ticks before them.
 pub fn recordings_are_made_again<C: Clock, D: Listener, O: Sink>()
     ensures film { (line : List (List ℕ)) (moments : AtSite C D O × AtSite C D O) (digests : Bool)
         (run : HasServedClients (device_states C.state D.state O.state) D.Line.state line serve.Ended moments) →
@@ -129,7 +164,7 @@ pub fn recordings_are_made_again<C: Clock, D: Listener, O: Sink>()
         ≡ film (setup_of (program_of run.setup)) run.served.serves.history name }
     ensures taken { (line : List (List ℕ)) (moments : AtSite C D O × AtSite C D O)
         (run : HasServedClients (device_states C.state D.state O.state) D.Line.state line serve.Ended moments) →
-        AllTakeFrames O.state (record { setup = setup_of (program_of run.setup); history = run.served.serves.history })
+        AllTakeFrames O.state (record { setup = setup_of (program_of run.setup); given = []; history = run.served.serves.history })
         run.served.given.outs.items run.served.finished.outs.items }
     ensures on_air { (setup : Setup) (history : List Event) (span : Span) → span.first + span.frames ≤ ticks history →
         IsPrefix (frames_text setup (before_tick history span.first) span.channel ++ (filmed setup history span).bytes)

@@ -1,4 +1,4 @@
-//! The program: the words, the folder, the devices and the exit status.
+//! The program: the arguments, the folder, the devices and the exit status.
 ghost use Rattle.std.specs.Prelude.{◌≡◌, ◌≤◌, ◌∷◌, Err, codes, map, option_map, string_bytes};
 ghost use Rattle.play_server.specs.Program.{RunsLine, RunsOn, RunsServer, asked_of, fault_of_words};
 ghost use Rattle.play_server.specs.Site.{device_states};
@@ -14,25 +14,25 @@ use std::alloc::Global;
 use std::sync::Wait;
 use std::thread::Threads;
 
-/// Serves clients: reads the words, the configuration and the clips, takes the devices of a run from the site, and serves until the
-/// stage was stopped.
+/// Serves clients: parses the arguments, reads the configuration and the clips, takes the devices of a run from `site`, and serves
+/// until the stage is stopped.
 ///
-/// The words are those of [`ServerWords::read`](crate::ServerWords::read). They are tested first, then the configuration is read and
-/// tested, then the clips are read, then the site is asked for devices, once, and then the run begins. The first cause that is met
-/// gives the exit status, which is returned.
+/// `words` are the arguments of [`ServerWords::read`](crate::ServerWords::read). They are checked first, then the configuration is
+/// read and checked, then the clips are read, then the site is asked for devices, once, and then the run begins. The first fault
+/// decides the exit status, which is returned.
 ///
-/// | Status | Cause | The line that the site says |
+/// | Status | Cause | The line that the site prints |
 /// |---|---|---|
 /// | 0 | a client, the clock or the limit of ticks ended the run, and no device failed | |
-/// | 1 | the words are no command line | `E usage` |
+/// | 1 | the arguments are not a valid command line | `E usage` |
 /// | 2 | the configuration is not TOML, or a key of it is refused | `E config text`, `E config key KEY` |
 /// | 3 | two clip files have one name, or the clip files are too large | `E media twice NAME`, `E media total n` |
 /// | 4 | a read of the folder, the site, or a device of the run failed, or the history did not get its name | `E device` |
 /// | 5 | memory ran out before a call was made on a device | `E memory` |
 ///
-/// The devices are finished whatever the end of the run was; a history that does not get its name changes the status of a run
-/// that ended with 0 alone. If memory runs out for a line that has a name, the status is 5
-/// and the line is `E memory`, which takes no memory. A line that could not be said changes no status.
+/// The site takes the devices back however the run ended; a history that does not get its name changes the status only of a run
+/// that would end with 0. If memory runs out for a line with a key or a name, the status is 5 and the line is `E memory`. A line that
+/// cannot be printed changes no status.
 pub fn serve_main<R: Threads + Wait + Sync, E: Site>(
     rt: &R,
     alloc: Global,
@@ -57,7 +57,7 @@ pub fn serve_main<R: Threads + Wait + Sync, E: Site>(
     }
 }
 
-/// Serves as the words say.
+/// Parses the arguments, sets up, and serves.
 fn serve_words<R: Threads + Wait + Sync, E: Site>(
     rt: &R,
     alloc: Global,
@@ -75,7 +75,7 @@ fn serve_words<R: Threads + Wait + Sync, E: Site>(
     serve_setup(rt, alloc, &words, &setup, site)
 }
 
-/// Serves with a configuration and clips.
+/// Takes devices for a configuration and clips from the site, serves, and gives them back.
 fn serve_setup<R: Threads + Wait + Sync, E: Site>(
     rt: &R,
     alloc: Global,

@@ -1,8 +1,8 @@
-//! What a run leaves.
+//! The result of a run.
 
 use play_outside::Devices;
 
-/// What came of serving: the devices, and how it ended.
+/// The result of serving: the devices, and how the run ended.
 #[derive(Drop)]
 pub struct Served<C, D, O> {
     /// The devices, each at its place.
@@ -14,9 +14,9 @@ pub struct Served<C, D, O> {
 /// How serving ended.
 #[derive(Clone, Copy, Debug, PartialEq, Eq)]
 pub enum ServeEnd {
-    /// A client stopped the server, the clock was closed, or the history has as many ticks as it may have. No device failed.
+    /// A client stopped the server, the clock was closed, or the history has the maximum number of ticks. No device failed.
     Ended,
-    /// The clock, a door, an output or the output for the history failed.
+    /// The clock, a door, an output, or the output for the history or for the log failed.
     DeviceFault,
     /// Memory ran out before the run. No call was made on a device.
     OutOfMemory,

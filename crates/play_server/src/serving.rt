@@ -1,41 +1,38 @@
 //! A run of the server.
 ghost use Rattle.std.specs.Prelude.{◌≡◌, ◌<◌, ◌≤◌, ◌||◌, All, length, vec_len};
-ghost use Rattle.std.specs.List.{AllZip, list_any};
-ghost use Rattle.std.specs.Thread.{IsSync};
+ghost use Rattle.std.specs.List.{list_any};
 ghost use Rattle.play_outside.specs.declared.listener.TheConstants.{MOST_AWAY};
-ghost use Rattle.conn_worker.specs.Server.{HasStageOfConfig};
-ghost use Rattle.play_ticker.specs.Frames.{setup_for};
 ghost use Rattle.play_server.specs.Doors.{is_door_fault};
 ghost use Rattle.play_server.specs.Run.{Serves, ends_so, is_cut, is_tick_fault};
 ghost use Rattle.play_server.specs.Site.{device_states};
-ghost use Rattle.play_server.specs.inner.Threads.{HasTicked, IsNewTicker, IsRunMemory, RanBeside, ticker_states};
-ghost use Rattle.play_server.specs.inner.Workers.{HasWorkedAt, MayWork, door_states};
+ghost use Rattle.play_server.specs.inner.Threads.{IsRunMemory};
 
-use crate::connection_workers::{ConnectionWorker, engage, release, work_all};
+use crate::connection_workers::ConnectionWorker;
 use crate::history::write_history;
 use crate::run_memory::RunMemory;
 use crate::served::{ServeEnd, Served};
-use crate::ticker_thread::TickerThread;
+use crate::shared_run::ClosedRun;
 use clip_format::MediaTable;
 use conn_worker::{Server, WorkEnd};
-use play_outside::{Clock, Devices, Listener, MOST_AWAY, Sent, Sink};
-use play_ticker::{PipeEnds, TickEnd};
+use play_outside::{Clock, Devices, Listener, MOST_AWAY, Rest, Sent};
+use play_ticker::{TickEnd, laws};
 use play_types::Config;
 use std::alloc::Global;
 use std::sync::Wait;
-use std::thread::{Threads, join_mut};
+use std::thread::Threads;
 
-/// Serves the clients of all doors beside a ticker, until the stage was stopped and all clients have ended, and then writes
-/// the text of the history.
+/// Serves the clients of all doors beside a ticker, until the stage is stopped and all links have ended, and then writes
+/// the text of the history. During the run the history is written to the log, in pieces.
 ///
-/// There are as many doors as the configuration has connections, and as many outputs as it has channels. `workers`, 1 to 64, is
-/// the number of threads that make the frames of a tick. The memory of the run is taken first: `OutOfMemory` comes before any call on
-/// a device, and the devices are as they were given. A command's memory is taken when the command is asked for, and if it
-/// runs out the client is told.
+/// There must be as many doors as the configuration has connections, and as many outputs as it has channels. `workers`, 1 to 64, is
+/// the number of threads that make the frames of a tick. The memory of the run is allocated first: on `OutOfMemory` no device has
+/// been called, and the devices are returned unchanged. The memory of a command is allocated when a client sends the command; if
+/// memory runs out then, the reply reports it.
 ///
-/// The run has one history. Each link that a door was given back is explained by it, each output has the frames of its ticks,
-/// and its text is written to the output for the history. `DeviceFault` comes only if a device failed.
-pub fn serve<R: Threads + Wait + Sync, C: Clock, D: Listener, O: Sink + Send>(
+/// The run has one history. It explains each link that a door was given back. Each output takes the frames of the ticks of the
+/// history, unless an output fails. The text of the history is written to the output for the history, and the log has the history, or
+/// a prefix of it if a write of the log failed. A log that fails ends nothing else. `DeviceFault` is returned only if a device failed.
+pub fn serve<R: Threads + Wait + Sync, C: Clock, D: Listener, O: Rest + Send>(
     rt: &R,
     alloc: Global,
     config: &Config,
@@ -60,8 +57,8 @@ pub fn serve<R: Threads + Wait + Sync, C: Clock, D: Listener, O: Sink + Send>(
     }
 }
 
-/// Runs the ticker beside the connection workers, and writes the text of the history when all have ended.
-fn run<R: Threads + Wait + Sync, C: Clock, D: Listener, O: Sink + Send>(
+/// Runs the threads, and writes the text of the history when all have ended.
+fn run<R: Threads + Wait + Sync, C: Clock, D: Listener, O: Rest + Send>(
     rt: &R,
     alloc: Global,
     config: &Config,
@@ -76,102 +73,34 @@ fn run<R: Threads + Wait + Sync, C: Clock, D: Listener, O: Sink + Send>(
     ensures { Serves (device_states C.state D.state O.state) D.Line.state
         (record { config = config.now; media = media.now }) result.end (devices, result.devices) }
 {
-    let RunMemory {
-        names,
-        renderer,
-        pipe,
-        stage,
-        mut passes,
-        sessions,
-        mut connection_workers,
-    } = memory;
-    let Devices {
-        clock,
-        mut doors,
-        outs,
-        mut history,
-    } = devices;
-    engage(&mut connection_workers, &mut passes, sessions, &mut doors);
-    let (stage_end, write_end) = pipe.split();
-    let mut ticker = TickerThread {
-        pass: passes.pop().unwrap(),
-        renderer,
-        ends: PipeEnds {
-            stage_end,
-            write_end,
-        },
-        clock,
-        outs,
-    };
+    laws::frames_from_the_beginning();
+    let (mut threads, shared) = memory.begin(devices);
     let server = Server {
         alloc,
-        stage: &stage,
+        stage: &shared.stage,
         config,
-        media: &names,
+        media: &shared.names,
     };
-    let tick_end = run_threads(
-        rt,
-        &server,
-        media,
-        &mut ticker,
-        connection_workers.as_mut_slice(),
-    );
-    let TickerThread {
-        pass,
-        clock,
-        outs,
-        ..
-    } = ticker;
-    let door_failed = door_failed(connection_workers.as_slice());
-    passes.push_reserved(pass);
-    release(connection_workers, &mut passes, &mut doors);
-    let stage = stage.close(rt, passes);
+    let (tick_end, logged) = threads.run(rt, &server, media);
+    let door_failed = door_failed(threads.others.connection_workers.as_slice());
+    let ClosedRun {
+        stage,
+        names,
+        mut devices,
+    } = shared.close(rt, threads);
     let _held = stage.journal().held();
-    let written = write_history(stage.journal(), &names, &mut history);
+    let written = write_history(stage.journal(), &names, &mut devices.history);
     Served {
-        devices: Devices {
-            clock,
-            doors,
-            outs,
-            history,
-        },
-        end: end_of(tick_end, door_failed, written),
+        devices,
+        end: end_of(tick_end, door_failed, written, logged),
     }
 }
 
-/// Runs the ticker beside the connection workers, each in a thread of its own, and returns how the ticks ended.
-fn run_threads<R: Threads + Wait + Sync, C: Clock, D: Listener, O: Sink + Send>(
-    rt: &R,
-    server: &Server<'_>,
-    media: &MediaTable,
-    ticker: &mut TickerThread<C, O>,
-    connection_workers: &mut [ConnectionWorker<D>],
-) -> TickEnd
-    requires stage { HasStageOfConfig server.now }
-    requires ticker { IsNewTicker server.now.stage.now ticker.old }
-    requires connection_workers { All (MayWork (door_states D.state D.Line.state) server.now.stage.now) connection_workers.old }
-    ensures { RanBeside (ticker_states C.state O.state) (door_states D.state D.Line.state) (setup_for ticker.old.renderer media.now) server.now
-        (result, record { ticker = ticker.old; connection_workers = connection_workers.old }, record { ticker = ticker.new; connection_workers = connection_workers.new }) }
+/// Returns `DeviceFault` if a device failed, and `Ended` otherwise.
+fn end_of(tick_end: TickEnd, door_failed: bool, written: Sent, logged: Sent) -> ServeEnd
+    ensures { result ≡ ends_so (is_tick_fault tick_end || (door_failed || (is_cut written || is_cut logged))) }
 {
-    let (tick_end, ()) = join_mut(
-        rt,
-        &mut || -> TickEnd
-            requires { IsSync R.row × IsNewTicker server.now.stage.now ticker.now }
-            ensures { HasTicked (ticker_states C.state O.state) (setup_for ticker.entry.now.renderer media.entry.now) server.entry.now.stage.now result (ticker.entry.now, ticker.exit.now) }
-        { ticker.run(rt, server.stage, media) },
-        &mut ||
-            requires { IsSync R.row × HasStageOfConfig server.now × All (MayWork (door_states D.state D.Line.state) server.now.stage.now) connection_workers.now }
-            ensures { AllZip (HasWorkedAt (door_states D.state D.Line.state) server.entry.now) connection_workers.entry.now connection_workers.exit.now }
-        { work_all(rt, server, connection_workers) },
-    );
-    tick_end
-}
-
-/// Returns how a run ended: whether a device failed.
-fn end_of(tick_end: TickEnd, door_failed: bool, written: Sent) -> ServeEnd
-    ensures { result ≡ ends_so (is_tick_fault tick_end || (door_failed || is_cut written)) }
-{
-    if ticker_failed(tick_end) || door_failed || matches!(written, Sent::Failed) {
+    if ticker_failed(tick_end) || door_failed || was_cut(written) || was_cut(logged) {
         ServeEnd::DeviceFault
     } else {
         ServeEnd::Ended
@@ -183,6 +112,13 @@ fn ticker_failed(tick_end: TickEnd) -> bool
     ensures { result ≡ is_tick_fault tick_end }
 {
     matches!(tick_end, TickEnd::ClockFault | TickEnd::OutFault { .. })
+}
+
+/// Returns whether a write of the text of the history, or of the log, failed.
+fn was_cut(sent: Sent) -> bool
+    ensures { result ≡ is_cut sent }
+{
+    matches!(sent, Sent::Failed)
 }
 
 /// Returns whether a door failed.

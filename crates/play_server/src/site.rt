@@ -4,7 +4,7 @@ ghost use Rattle.std.specs.Borrow.{sem, Lends};
 ghost use Rattle.play_server.specs.SiteState.{SiteState, after_call};
 ghost use Rattle.play_server.specs.Site.{AreReady, Finishes, IsNotReady, Says, device_states, ready_call};
 
-use play_outside::{Clock, Devices, FileFault, Listener, MediaDir, Sink, WriteStep};
+use play_outside::{Clock, Devices, FileFault, Listener, MediaDir, Rest, WriteStep};
 use play_types::{ByteList, Config};
 use std::alloc::Global;
 
@@ -19,10 +19,10 @@ pub struct ReadyCall {
     pub ok: bool,
 }
 
-/// What came of a call of [`Site::finish`].
+/// The result of a call of [`Site::finish`].
 #[derive(Clone, Copy, Debug, PartialEq, Eq)]
 pub enum FinishStep {
-    /// The history is where it is to be, or there is none to keep.
+    /// The history has its name, or there is none to keep.
     Done,
     /// The history did not get its name.
     Failed,
@@ -33,16 +33,16 @@ pub trait Site {
     /// The folder.
     type Media: MediaDir;
 
-    /// The clock that gives the beat.
+    /// The clock whose pulses make the ticks.
     type Clock: Clock;
 
     /// The door of a connection worker.
     type Door: Listener;
 
-    /// The output of a channel, and the one of the history's text.
-    type Out: Sink + Send;
+    /// The outputs: of a channel, for the text of the history, and for the log.
+    type Out: Rest + Send;
 
-    /// The calls, if the site tells them, and how many faults of `ready`, `finish` and `say` there were.
+    /// The calls, if the site records them, and the number of faults of `ready`, `finish` and `say`.
     ghost state: { Self → SiteState Self.Clock Self.Door Self.Out };
 
     /// The folder as it is now.
@@ -51,17 +51,17 @@ pub trait Site {
     /// The site with another folder in place of its own.
     ghost with_folder: { Self → Self.Media → Self };
 
-    /// Lends the folder. Whatever is read from it, the rest of the site stays as it was.
+    /// Lends the folder. Reads of it leave the rest of the site unchanged.
     fn media(&mut self) -> &mut Self::Media
         ensures* writes_back { sem 𝓛 (Lends Self.row Self.Media.row self.entry result (with_folder self.old)) }
         ensures value { result.now ≡ folder self.old };
 
-    /// Gives the devices for a run with this configuration, whose history is written to the file of that path if there
-    /// is one: as many doors as it has connections and as many outputs as it has channels. They are fresh and without
-    /// faults, the doors and the outputs have their places, from 1 on, as marks, and the output for the history has the
-    /// mark 0.
+    /// Returns the devices for a run with this configuration: as many doors as it has connections and as many outputs as it has
+    /// channels. `history` is the path of the file that the history is written to, if there is one. The devices are fresh and
+    /// without faults; the doors and the outputs have their positions, from 1 on, as marks, and the outputs for the history and for
+    /// the log have the mark 0. The site chooses where the log is kept.
     ///
-    /// A failed call raises the count of faults by one. If memory runs out, the call is told by a number alone.
+    /// A failed call raises the count of faults by one. A call that runs out of memory is only counted.
     fn ready(
         &mut self,
         alloc: Global,
@@ -74,14 +74,14 @@ pub trait Site {
             (λ fault. IsNotReady fault (ready_call config.now (option_map (λ path. path.now) history.entry) false) (state self.old) (state self.new)) }
         ensures folder { folder self.new ≡ folder self.old };
 
-    /// Takes the devices of a run back, and gives the history its name. A failed call takes them back all the same, and raises
-    /// the count of faults by one.
+    /// Takes the devices of a run back, and gives the history its name. A failed call takes them back too, and raises the count
+    /// of faults by one.
     fn finish(&mut self, devices: Devices<Self::Clock, Self::Door, Self::Out>) -> FinishStep
         ensures told { Finishes result devices (state self.old) (state self.new) }
         ensures folder { folder self.new ≡ folder self.old };
 
-    /// Says a line, which is given without its line feed. A failed call raises the count of faults by one, and says
-    /// nothing of the line.
+    /// Prints `line`, which is given without its line feed. A failed call raises the count of faults by one, and records nothing
+    /// of the line.
     fn say(&mut self, line: &str) -> WriteStep
         ensures told { Says result line.now (state self.old) (state self.new) }
         ensures folder { folder self.new ≡ folder self.old };

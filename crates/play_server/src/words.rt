@@ -1,4 +1,4 @@
-//! The words of the command line.
+//! The arguments of the command line.
 ghost use Rattle.std.specs.Prelude.{◌≡◌, ◌≢◌, ◌∷◌, ◌++◌, [], true, is_some, codes, List, ℕ, IfOk, IsErrOf, map, take, option_map, Some, string_bytes};
 ghost use Rattle.clap.specs.Words.{fault_of, first_of, first_value, found_of, matches_of, rows_of, rule_of};
 ghost use Rattle.clap.specs.Built.{FitsChain, TakesValue};
@@ -12,24 +12,24 @@ use std::alloc::{AllocError, Global};
 use std::error::Error;
 use std::fmt;
 
-/// The program's own word, which `clap` takes before the others.
+/// The name of the program, which `clap` takes as the first word.
 const PROGRAM: &str = "playd";
 
-/// What the words of `playd` name.
+/// The parsed arguments of `playd`.
 #[derive(Debug, Drop)]
 pub struct ServerWords {
     /// The path of the configuration.
     pub config: String,
-    /// The number of `--workers`, 1 to 64: the threads that make the frames.
+    /// The value of `--workers`, 1 to 64: the number of threads that make the frames.
     pub workers: u32,
-    /// The path of the file that the history's text is written to.
+    /// The path of the file that the text of the history is written to, if it was given.
     pub journal: Option<String>,
 }
 
-/// Why the words name nothing.
+/// Why the arguments could not be parsed.
 #[derive(Clone, Copy, Debug, PartialEq, Eq)]
 pub enum ServerWordsFault {
-    /// They are no command line of `playd`.
+    /// They are not a command line of `playd`.
     Usage,
     /// Memory ran out.
     OutOfMemory,
@@ -38,7 +38,7 @@ pub enum ServerWordsFault {
 impl fmt::Display for ServerWordsFault {
     fn fmt<W: fmt::Write>(&self, f: &mut fmt::Formatter<W>) -> fmt::Result {
         match self {
-            ServerWordsFault::Usage => write!(f, "the words are no command line of playd"),
+            ServerWordsFault::Usage => write!(f, "unknown command line of playd"),
             ServerWordsFault::OutOfMemory => write!(f, "out of memory"),
         }
     }
@@ -55,10 +55,10 @@ impl From<AllocError> for ServerWordsFault {
 }
 
 impl ServerWords {
-    /// Reads the words that follow the program's name: `--config FILE` once, and `--workers N`, a number from 1 to 64,
+    /// Parses the arguments that follow the program's name: `--config FILE` once, and `--workers N`, a number from 1 to 64,
     /// and `--journal FILE` at most once each, in any order. Without `--workers` there is one worker.
     ///
-    /// `Usage` comes exactly if `clap` refuses the words for another cause than memory.
+    /// Returns `Usage` if `clap` refuses the arguments for another cause than memory, and `OutOfMemory` if memory runs out.
     pub fn read(alloc: Global, words: &[String]) -> Result<ServerWords, ServerWordsFault>
         ensures { ReadsWords (codes "playd" ∷ map string_bytes words.now) result }
     {
@@ -68,7 +68,7 @@ impl ServerWords {
     }
 }
 
-/// Returns the words with the program's own word before them.
+/// Returns the arguments with the program's name before them.
 fn command_line(alloc: Global, words: &[String]) -> Result<Vec<&str>, AllocError>
     ensures { IfOk result (λ line. map (λ word. word.now) line.items ≡ codes "playd" ∷ map string_bytes words.now) }
 {
@@ -80,7 +80,7 @@ fn command_line(alloc: Global, words: &[String]) -> Result<Vec<&str>, AllocError
     Ok(line)
 }
 
-/// Parses the words, the first of which is the program's name.
+/// Parses `words`, the first of which is the program's name.
 fn parse<'a>(alloc: Global, words: &'a [&'a str]) -> Result<ArgMatches<'a>, ServerWordsFault>
     ensures accepted { IfOk result (λ m. (fault_of playd_app (map (λ w. w.now) words.entry.now) ≡ [])
         × (rows_of (found_of m) ≡ matches_of playd_app (map (λ w. w.now) words.entry.now))) }
@@ -101,7 +101,7 @@ fn parse<'a>(alloc: Global, words: &'a [&'a str]) -> Result<ArgMatches<'a>, Serv
     }
 }
 
-/// Returns the command of `playd`.
+/// Returns the `clap` command of `playd`.
 fn server_command<'a>(alloc: Global) -> Result<Command<'a>, AllocError>
     ensures { IfOk result IsServerCommand }
 {
@@ -152,7 +152,7 @@ fn journal_arg<'a>(alloc: Global) -> Arg<'a>
         .action(ArgAction::Set)
 }
 
-/// Returns what words that were accepted name.
+/// Returns the values of the arguments that were accepted.
 fn named(alloc: Global, matches: &ArgMatches<'_>) -> Result<ServerWords, ServerWordsFault>
     requires { is_some (first_value (found_of matches.now) (codes "config")) ≡ true }
     ensures words { IfOk result (λ words. Names (rows_of (found_of matches.now)) words) }
@@ -185,7 +185,7 @@ fn workers_of(matches: &ArgMatches<'_>) -> u32
     }
 }
 
-/// Returns a copy of the path of the history's file.
+/// Returns a copy of the path of the history's file, if it was given.
 fn journal_of(alloc: Global, matches: &ArgMatches<'_>) -> Result<Option<String>, AllocError>
     ensures { IfOk result (λ journal. first_of (codes "journal") (rows_of (found_of matches.now)) ≡ option_map string_bytes journal) }
 {

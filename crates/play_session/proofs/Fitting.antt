@@ -103,7 +103,7 @@ after_meaning_aimed config media batch (Asks found) is before = by_open batch.is
     by_open true = inside_aimed config media batch is.0 found is.1 before
     by_open false = outside_aimed config batch found before
 
--- the commands of the batch name configured channels alone after a line, whether the line was read or given up
+-- the commands of the batch name only configured channels after a line, whether the line was read or given up
 pub followed_aimed : {E : Type 0} (config : ConfigView) (media : List MediaNameView) (line : Line) (read : Result ReadLine E) (found : Step) (before after : SessionState)
     → IfOk read (λ (r : ReadLine). meaning_view r.meaning ≡ line_meaning config media line) → Follows read found (batch_of before) (batch_of after)
     → AreAimed config before.batch → AreAimed config after.batch

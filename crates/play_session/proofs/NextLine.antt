@@ -47,7 +47,7 @@ slice_get_after (y ∷ ys) x = slice_get_after ys x
 until_end_one : (s : model.Step) → until_end (s ∷ []) ≡ s ∷ []
 until_end_one s = elim (cases_Bool (is_end s)) [ inl ends_it ↦ rw ends_it refl | inr goes ↦ rw goes refl ]
 
--- a step of the code ends the connection if the step of the definition does
+-- a step of the code ends the connection exactly if the step of the definition does
 ends-viewed : (result : Step) (commands : List Cmd) (s : model.Step) → viewed result commands ≡ Some s → ends result ≡ is_end s
 ends-viewed (step.Local answer) commands s e = let same : model.Local answer ≡ s = cc in ap is_end same
 ends-viewed (step.Ask command) commands s e = let same : model.Ask command ≡ s = cc in ap is_end same
@@ -57,7 +57,7 @@ ends-viewed step.Bye commands s e = let same : model.EndConnection ≡ s = cc in
 ends-viewed step.Skip commands s e = let same : model.Skip ≡ s = cc in ap is_end same
 ends-viewed step.NeedMore commands s e = cc
 
--- the number that stands last among those that were given up is one of them, and a greater number than all is none
+-- the last number of a list of given-up lines is in the list, and a number greater than all is not
 given_up-last : (given_up : List ℕ) (number : ℕ) → is_given_up (given_up ++ number ∷ []) number ≡ true
 given_up-last given_up number =
     let last : list_any (λ k. k == number) (number ∷ []) ≡ true = rw (eq-eqb number number refl) refl in
@@ -114,7 +114,7 @@ line_given_up earlier line = record {
   asked = asks earlier.config earlier.media earlier.given_up earlier.lines;
 }
 
--- how far a session has come with one more step, the lines of these numbers with those that were given up
+-- the progress of a session after one more step, with these numbers added to the lines that were given up
 abbrev one_further : Progress → List ℕ → Progress
 one_further progress later = record progress { given_up = progress.given_up ++ later; given = progress.given + 1 }
 
@@ -195,7 +195,7 @@ LineStep-given_up earlier line =
           ∙ rw last (append-nil (asks earlier.config earlier.media all earlier.lines) ∙ asks-later earlier.config earlier.media earlier.given_up number earlier.lines high);
     }
 
--- if a step was given, what a caller learns of it
+-- what a caller learns of a step that was returned
 Gives-step : (config : ConfigView) (media : List MediaNameView) (result : Step) (after : SessionState) (progress : Progress) (one : model.Step)
     → viewed result after.batch ≡ Some one
     → GivesStep config media result after progress
@@ -216,7 +216,7 @@ gives_step config media result after progress further same next represents =
     subst (λ (q : Progress). (slice_get (steps config media q.given_up progress.stream) progress.given ≡ viewed result after.batch) × Represents config media after q)
     same (next, represents)
 
--- a line is given up exactly if the reply says so
+-- the reply that memory ran out is NoMemory
 out_of_memory-is : (answer : Reply) → is_out_of_memory answer ≡ true → answer ≡ reply.NoMemory
 out_of_memory-is (reply.Done name) is = cc
 out_of_memory-is (reply.Value values) is = cc

@@ -19,13 +19,13 @@ named_by (refusal.Illegal name at) = Some at
 named_by (refusal.NotFound name) = None
 named_by (refusal.Unreadable name) = None
 
--- the position of the word that is wrong, if what was asked for was refused for a word
+-- the position of the illegal word, if a line was refused for a word
 abbrev pub wrong_in : Result Parsed Refusal → Option ℕ
 wrong_in (Ok asked) = None
 wrong_in (Err reason) = named_by reason
 
--- the position in a line of the word at this position of the line's command, if the command has such a word: the words before the
--- command are counted too; and if no command was found, the position is that in the line
+-- the position in a line of the word at position `at` of the line's command, if the command has such a word: the words before
+-- the command are counted too. If REQ was refused, `at` is already the position in the line
 abbrev pub place_in_line : List (List ℕ) → Result (List (List ℕ)) Refusal → ℕ → Option ℕ
 place_in_line words (Ok command) at = if nat_lt at (length command) then Some (length words - length command + at) else None
 place_in_line words (Err reason) at = Some at
@@ -34,13 +34,13 @@ place_in_line words (Err reason) at = Some at
 abbrev pub wrong_word : ConfigView → List MediaNameView → List (List ℕ) → Option ℕ
 wrong_word config media words = option_and_then (place_in_line words (without_token words)) (wrong_in (requested config media words))
 
--- as much for the words of a line: one with an open quote or a bad escape has none
+-- the position of that word for the words of a line: a line with an open quote or a bad escape, or without words, has none
 abbrev pub wrong_word_of : ConfigView → List MediaNameView → Result (List (List ℕ)) TokenFault → Option ℕ
 wrong_word_of config media (Err fault) = None
 wrong_word_of config media (Ok []) = None
 wrong_word_of config media (Ok (word ∷ words)) = wrong_word config media (word ∷ words)
 
--- as much for a line: one that is too long, or is not UTF-8, has no words
+-- the position of that word for a line: one that is too long, or is not UTF-8, has none
 abbrev pub illegal_word : ConfigView → List MediaNameView → Line → Option ℕ
 illegal_word config media (Text line) = wrong_word_of config media (words_of line)
 illegal_word config media TooLong = None

@@ -14,8 +14,8 @@ use Rattle.play_session.specs.Step.{viewed, gives_up}
 use Rattle.play_session.specs.declared.step.Step.{Step}
 use Rattle.play_session.specs.declared.step.Step.TheVariants as step
 
--- the bytes that a session was fed since it was made or restarted, the numbers of the lines that it gave up, out of memory,
--- and how many steps it gave, one for each line
+-- the bytes that a session was fed since it was created or restarted, the numbers of the lines that it gave up because memory
+-- ran out, and how many steps it returned, one for each line
 pub record Progress : Type 0 where
   pub stream : List ℕ
   pub given_up : List ℕ
@@ -36,8 +36,8 @@ after_step progress result = record progress {
   given = progress.given + 1;
 }
 
--- the session has come as far as the progress says: `before` are the bytes of the lines whose steps it gave, and `rest` are
--- the bytes after them
+-- the session has this progress: `before` are the bytes of the lines whose steps it returned, and `rest` are the bytes after
+-- them
 pub record Represents (config : ConfigView) (media : List MediaNameView) (session : SessionState) (progress : Progress) : Type 0 where
   pub before : List ℕ
   pub rest : List ℕ
@@ -56,7 +56,7 @@ GivesStep config media result session progress =
     (slice_get (steps config media (after_step progress result).given_up progress.stream) progress.given ≡ viewed result session.batch)
     × Represents config media session (after_step progress result)
 
--- at NeedMore all steps of the stream were given; else the result is the next one
+-- at NeedMore all steps of the stream were returned; otherwise the result is the next one
 abbrev pub Gives : ConfigView → List MediaNameView → Step → SessionState → Progress → Type 0
 Gives config media (step.Local answer) session progress = GivesStep config media (step.Local answer) session progress
 Gives config media (step.Ask command) session progress = GivesStep config media (step.Ask command) session progress
@@ -67,7 +67,7 @@ Gives config media step.Skip session progress = GivesStep config media step.Skip
 Gives config media step.NeedMore session progress =
     (length (lines_of progress.stream) ≡ progress.given) × Represents config media session progress
 
--- the session has the token of the line whose step this is, except of a line that was given up
+-- the session has the token of the line whose step this is, unless the line was given up
 pub record HasToken (result : Step) (session : SessionState) (progress : Progress) : Type 0 where
   pub token : Option (List ℕ)
   pub line : slice_get (tokens progress.stream) progress.given ≡ Some token
@@ -81,8 +81,8 @@ IsBetweenLines session = reader.Represents session.reader []
 abbrev pub IsAsBefore : SessionState → SessionState → Type 0
 IsAsBefore before after = (after.batch_open ≡ before.batch_open) × (after.batch ≡ before.batch) × (after.ended ≡ before.ended)
 
--- a reply fits the configuration, and a command that the stage is asked for names configured channels alone; the commands of
--- a batch are those of the session
+-- a reply fits the configuration, and a command that the stage is asked for names only configured channels; the commands of a
+-- batch are those of the session
 abbrev pub Fits : ConfigView → Step → Type 0
 Fits config (step.Local answer) = IsReplyTo config answer
 Fits config (step.Ask command) = IsAimed config command

@@ -1,4 +1,4 @@
--- What a step of a session is in the definition of sessions.
+-- Steps of a session as steps of the definition of sessions.
 use Rattle.std.specs.Prelude.{Bool, true, false, Option, Some, None, List}
 use Rattle.play_types.specs.declared.command.Cmd.{Cmd}
 use Rattle.play_types.specs.declared.reply.Reply.{Reply}
@@ -38,7 +38,7 @@ is_out_of_memory (reply.Unknown line) = false
 is_out_of_memory (reply.Refused code command) = false
 is_out_of_memory reply.NoMemory = true
 
--- whether a step gives its line up, out of memory
+-- whether a step gives up its line because memory ran out
 abbrev pub gives_up : Step → Bool
 gives_up (step.Local answer) = is_out_of_memory answer
 gives_up (step.Ask command) = false

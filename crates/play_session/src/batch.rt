@@ -8,7 +8,7 @@ ghost use Rattle.play_session.specs.inner.Meaning.{meaning_view};
 
 use crate::meaning::Meaning;
 use crate::step::Step;
-use play_types::{Cmd, MAX_BATCH_COMMANDS, Name, Parsed, Reply};
+use play_types::{Cmd, ILLEGAL_WORD, MAX_BATCH_COMMANDS, Name, Parsed, Reply};
 use std::alloc::{AllocError, Global};
 use std::marker::Model;
 
@@ -58,7 +58,7 @@ impl Batch {
         self.commands.as_slice()
     }
 
-    /// Does with the batch what a line of this meaning asks for, and returns the step of the line.
+    /// Applies a line of this meaning to the batch, and returns the step of the line.
     pub fn step(&mut self, meaning: Meaning) -> Step
         ensures step { viewed result self.new.commands ≡ Some (step_for self.old (meaning_view meaning)) }
         ensures batch { self.new ≡ after_meaning self.old (meaning_view meaning) }
@@ -70,7 +70,7 @@ impl Batch {
         }
     }
 
-    /// Does with the batch what is asked for, and returns the step of the line.
+    /// Applies a parsed line to the batch, and returns the step of the line.
     fn step_for_ask(&mut self, asked: Parsed) -> Step
         ensures step { viewed result self.new.commands ≡ Some (step_for self.old (Asks asked)) }
         ensures batch { self.new ≡ after_meaning self.old (Asks asked) }
@@ -82,7 +82,7 @@ impl Batch {
         }
     }
 
-    /// Does what is asked for if no batch is open, and returns the step of the line.
+    /// Applies a parsed line while no batch is open, and returns the step of the line.
     fn step_outside(&mut self, asked: Parsed) -> Step
         ensures step { viewed result self.new.commands ≡ Some (step_outside asked) }
         ensures batch { self.new ≡ after_outside self.old asked }
@@ -99,7 +99,7 @@ impl Batch {
         }
     }
 
-    /// Does with the open batch what is asked for, and returns the step of the line.
+    /// Applies a parsed line to the open batch, and returns the step of the line.
     fn step_inside(&mut self, asked: Parsed) -> Step
         ensures step { viewed result self.new.commands ≡ Some (step_inside self.old.commands asked) }
         ensures batch { self.new ≡ after_inside self.old asked }
@@ -116,7 +116,7 @@ impl Batch {
         }
     }
 
-    /// Opens an empty batch, and returns the reply that this was done.
+    /// Opens an empty batch, and returns the reply `Done`.
     fn begin(&mut self) -> Step
         ensures step { result ≡ Step.Local (Reply.Done Name.Begin) }
         ensures batch { self.new ≡ record { is_open = true; commands = [] } }
@@ -126,8 +126,7 @@ impl Batch {
         done(Name::Begin)
     }
 
-    /// Adds a command to the open batch, and returns the reply. The command is refused if it is a query, and if the
-    /// batch is full.
+    /// Adds a command to the open batch, and returns the reply. The command is refused if it is a query or the batch is full.
     fn add(&mut self, command: Cmd) -> Step
         ensures step { viewed result self.new.commands ≡ Some (step_waiting self.old.commands command) }
         ensures batch { self.new ≡ record { is_open = self.old.is_open; commands = with_command self.old.commands command } }
@@ -140,7 +139,7 @@ impl Batch {
         done(name)
     }
 
-    /// Closes the open batch, and returns the step: the stage is asked for the batch if it has a command.
+    /// Closes the open batch, and returns `AskBatch` if the batch has a command, and the reply `Done` otherwise.
     fn commit(&mut self) -> Step
         ensures step { viewed result self.new.commands ≡ Some (step_commit self.old.commands) }
         ensures batch { self.new ≡ record { is_open = false; commands = self.old.commands } }
@@ -152,7 +151,7 @@ impl Batch {
         Step::AskBatch
     }
 
-    /// Closes the open batch, and returns the reply that this was done.
+    /// Closes the open batch, and returns the reply `Done`.
     fn discard(&mut self) -> Step
         ensures step { result ≡ Step.Local (Reply.Done Name.Discard) }
         ensures batch { self.new ≡ record { is_open = false; commands = self.old.commands } }
@@ -162,16 +161,16 @@ impl Batch {
     }
 }
 
-/// Returns the reply that a command was done.
+/// Returns the step with the reply that a command is done.
 fn done(name: Name) -> Step
     ensures { result ≡ Step.Local (Reply.Done name) }
 {
     Step::Local(Reply::Done(name))
 }
 
-/// Returns the reply that a command is refused, with code 403.
+/// Returns the step with the reply that a command is refused, with code 403.
 fn refused(name: Name) -> Step
     ensures { result ≡ Step.Local (Reply.Refused 403 name) }
 {
-    Step::Local(Reply::Refused(403, name))
+    Step::Local(Reply::Refused(ILLEGAL_WORD, name))
 }

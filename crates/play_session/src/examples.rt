@@ -1,5 +1,4 @@
-//! Worked streams. Each function does nothing, and its contract says which steps lines have. There is one channel, and
-//! no clip.
+//! Worked streams. Each function does nothing, and its contract gives the steps of lines. There is one channel, and no clip.
 #![tactic(auto, unfolding(play_types::specs::Words::is_word, play_types::specs::Words::is_same_name, history_model::specs::commands::Places::area_of, history_model::specs::commands::Options::options_at, history_model::specs::commands::Producer::producer_of, history_model::specs::commands::Producer::take_at, history_model::specs::commands::Command::play, play_types::specs::Words::name_of, play_types::specs::Words::kind_of, play_types::specs::Words::prop_of, history_model::specs::commands::Command::parsed, history_model::specs::sessions::Line::line_meaning, history_model::specs::sessions::Session::asks, history_model::specs::sessions::Session::line_steps))]
 
 ghost use Rattle.std.specs.Prelude.{◌≡◌, ◌∷◌, [], None, Some, codes};
@@ -10,7 +9,7 @@ ghost use Rattle.play_types.specs.declared.reply.Reply.TheVariants.{Done, Cls, V
 ghost use Rattle.history_model.specs.sessions.Session.{Local, Ask, AskBatch, KillServer, EndConnection, Skip};
 ghost use Rattle.play_session.specs.Worked.{gives, gives_without, line, layer, wrong_words};
 
-/// Replies without the stage, if no batch is open.
+/// Replies that do not need the stage, while no batch is open.
 pub fn replies()
     ensures refused { gives (line "FROB 1" ∷ line "PAUSE" ∷ line "PAUSE 2-0" ∷ line "PAUSE 1-x" ∷ line "PLAY 1-0 NONE" ∷ [])
         ≡ Local (Unknown (codes "FROB 1")) ∷ Local (Refused 402 name.Pause) ∷ Local (Refused 401 name.Pause) ∷ Local (Refused 403 name.Pause) ∷ Local (Refused 404 name.Play) ∷ [] }
@@ -32,7 +31,7 @@ pub fn batches()
         ≡ Local (Done name.Begin) ∷ Local (Done name.Stop) ∷ Local (Refused 401 name.Stop) ∷ Local (Refused 403 name.Info) ∷ Local (Unknown []) ∷ AskBatch (StopLayer (layer 2) ∷ []) ∷ [] }
 {}
 
-/// What ends a connection, if no batch is open.
+/// What ends a connection: BYE and KILL, but not while a batch is open.
 pub fn ends()
     ensures bye { gives (line "" ∷ line "BYE" ∷ line "INFO" ∷ []) ≡ Skip ∷ EndConnection ∷ [] }
     ensures kill { gives (line "INFO" ∷ line "KILL" ∷ line "INFO" ∷ []) ≡ Ask Info ∷ KillServer ∷ [] }
@@ -40,7 +39,7 @@ pub fn ends()
         ≡ Local (Done name.Begin) ∷ Local (Refused 403 name.Bye) ∷ Local (Refused 403 name.Kill) ∷ [] }
 {}
 
-/// Lines that were given up, out of memory.
+/// Lines that were given up because memory ran out.
 pub fn given_up()
     ensures command { gives_without (1 ∷ []) (line "BEGIN" ∷ line "STOP 1-2" ∷ line "COMMIT" ∷ [])
         ≡ Local (Done name.Begin) ∷ Local NoMemory ∷ Local (Done name.Commit) ∷ [] }
@@ -48,7 +47,8 @@ pub fn given_up()
         ≡ Local (Done name.Begin) ∷ Local (Done name.Stop) ∷ Local NoMemory ∷ AskBatch (StopLayer (layer 2) ∷ []) ∷ [] }
 {}
 
-/// REQ and a token before a command leave it as it is. What is refused there is REQ, and behind a token it is no name.
+/// REQ and a token before a command do not change the command. If the token or the command is missing, or the token is
+/// malformed, REQ is refused. After a token, REQ is not the name of a command.
 pub fn requests()
     ensures asked { gives (line "REQ a1 STOP 1-2" ∷ line "req b INFO" ∷ line "REQ f BYE" ∷ [])
         ≡ Ask (StopLayer (layer 2)) ∷ Ask Info ∷ EndConnection ∷ [] }

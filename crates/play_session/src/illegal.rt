@@ -1,4 +1,4 @@
-//! The word of a line for which the line is refused, for who has to mend it.
+//! The word for which a line is refused, for messages to the author of the line.
 ghost use Rattle.std.specs.Prelude.{◌≡◌, ◌<◌, IfOk, length};
 ghost use Rattle.std.specs.Str.{chars};
 ghost use Rattle.amcp_text.specs.Lines.{line_of_text};
@@ -11,8 +11,8 @@ use cmd_parse::parse;
 use play_types::{Config, MediaNames, Parsed, Refusal};
 use std::alloc::{AllocError, Global};
 
-/// Returns the position of the word for which a line is refused with 403, counted from 0 over all words of the line, also REQ and
-/// the token: `None` if the line is not refused for a word. The line's end is left out of the text.
+/// Returns the position of the word for which a line is refused with 403, counted from 0 over all words of the line, including
+/// REQ and the token. Returns `None` if the line is not refused for a word. `text` is the line without its line end.
 ///
 /// A batch can refuse a whole command with 403. Then there is no such word.
 pub fn illegal_word(
@@ -66,7 +66,7 @@ fn wrong_word(mut words: WordList, config: &Config, media: &MediaNames) -> Optio
     }
 }
 
-/// Returns the position of the word that is wrong, if what was asked for was refused for a word.
+/// Returns the position of the illegal word, if the line was refused for a word.
 fn wrong_in(asked: Result<Parsed, Refusal>) -> Option<usize>
     ensures { result ≡ wrong_in asked }
 {

@@ -1,4 +1,4 @@
-//! What a line of a connection means, and the token that it has.
+//! The meaning and the token of a line of a connection.
 ghost use Rattle.std.specs.Prelude.{◌≡◌, ◌<◌, IfOk, None, Ok};
 ghost use Rattle.std.specs.Str.{chars};
 ghost use Rattle.amcp_text.specs.Reader.{line_view};
@@ -10,7 +10,10 @@ ghost use Rattle.play_session.specs.inner.Meaning.{meaning_view};
 
 use crate::request::{requested, token_among};
 use amcp_text::{LineEvent, ReqToken, TokenFault, WordList, tokens};
-use play_types::{Config, MediaNames, Parsed, Refusal, Reply, Text};
+use play_types::{
+    CLIP_NOT_FOUND, CLIP_UNREADABLE, Config, ILLEGAL_WORD, MISSING_WORD, MediaNames, Parsed,
+    Refusal, Reply, Text, WRONG_CHANNEL,
+};
 use std::alloc::{AllocError, Global};
 
 /// What a line means.
@@ -95,7 +98,7 @@ fn read_words(
     Ok(ReadLine { token, meaning })
 }
 
-/// Reads a line that has no words and is no command.
+/// Returns a line that cannot be split into words: it is refused as unknown, and has no token.
 fn unknown(alloc: Global, line: &str) -> Result<ReadLine, AllocError>
     ensures meaning { IfOk result (λ read. meaning_view read.meaning ≡ Wrong (Unknown (chars line.now))) }
     ensures token { IfOk result (λ read. read.token ≡ None) }
@@ -112,10 +115,10 @@ fn reply_to(alloc: Global, line: &str, reason: Refusal) -> Result<Reply, AllocEr
 {
     match reason {
         Refusal::Unknown => Ok(Reply::Unknown(Text::copy(alloc, line)?)),
-        Refusal::Channel(name) => Ok(Reply::Refused(401, name)),
-        Refusal::Missing(name) => Ok(Reply::Refused(402, name)),
-        Refusal::Illegal(name, _) => Ok(Reply::Refused(403, name)),
-        Refusal::NotFound(name) => Ok(Reply::Refused(404, name)),
-        Refusal::Unreadable(name) => Ok(Reply::Refused(502, name)),
+        Refusal::Channel(name) => Ok(Reply::Refused(WRONG_CHANNEL, name)),
+        Refusal::Missing(name) => Ok(Reply::Refused(MISSING_WORD, name)),
+        Refusal::Illegal(name, _) => Ok(Reply::Refused(ILLEGAL_WORD, name)),
+        Refusal::NotFound(name) => Ok(Reply::Refused(CLIP_NOT_FOUND, name)),
+        Refusal::Unreadable(name) => Ok(Reply::Refused(CLIP_UNREADABLE, name)),
     }
 }

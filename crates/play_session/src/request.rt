@@ -7,7 +7,7 @@ use amcp_text::{ReqToken, WordList};
 use cmd_parse::parse;
 use play_types::{Config, MediaNames, Name, Parsed, Refusal, is_word};
 
-/// Returns the token of a line's words: the second, if the first is REQ.
+/// Returns the token of a line's words: the second word, if the first is REQ and the second is a token.
 pub fn token_among(words: &WordList) -> Option<ReqToken>
     ensures { result ≡ token_among words.now }
 {

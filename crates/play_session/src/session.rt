@@ -19,10 +19,10 @@ use play_types::{Cmd, Config, MediaNames, Reply};
 use std::alloc::{AllocError, Global};
 use std::marker::Model;
 
-/// The state of one connection: the line that is coming, and an open batch or none.
+/// The state of one connection: the unfinished line, and an open batch or none.
 ///
-/// It represents the bytes that it was fed since it was made or restarted, and the steps that it gave, one for each line.
-/// A line that was given up, out of memory, asks for nothing.
+/// It represents the bytes that it was fed since it was created or restarted, and the steps that it returned, one for each
+/// line. A line that was given up because memory ran out asks for nothing.
 #[derive(Debug, Drop)]
 pub struct Session {
     reader: LineReader,
@@ -59,7 +59,7 @@ impl Session {
         })
     }
 
-    /// Drops the bytes of the unfinished line and the batch, for a new connection. It takes no memory.
+    /// Drops the bytes of the unfinished line, the batch and the token, for a new connection.
     pub fn restart(&mut self)
         ensures represents { (config : ConfigView) (media : List MediaNameView) → Represents config media self.new at_start }
         ensures batch { self.new.batch ≡ [] }
@@ -73,8 +73,8 @@ impl Session {
         self.token = None;
     }
 
-    /// Takes the bytes of `piece` up to and with its first LF, and returns how many bytes it took: 0 exactly if a whole
-    /// line is held or the piece is empty. It takes no memory, and keeps the batch.
+    /// Takes the bytes of `piece` up to and including its first LF, and returns how many bytes it took: 0 exactly if a whole
+    /// line is held or the piece is empty. The batch and the token are kept.
     pub fn feed(&mut self, piece: &[u8]) -> usize
         ensures count { result ≡ taken_len self.old.reader.held piece.now }
         ensures represents { (config : ConfigView) (media : List MediaNameView) (progress : Progress)
@@ -86,12 +86,12 @@ impl Session {
         self.reader.feed(piece)
     }
 
-    /// Returns the step of the next line: `NeedMore` exactly if no whole line is held, and then the session stays as it
-    /// is; `Skip` exactly if the line has no word.
+    /// Returns the step of the next line: `NeedMore` exactly if no whole line is held, and then the session stays as it is;
+    /// `Skip` exactly if the line has no word.
     ///
-    /// No step may be asked for after a `Kill` or a `Bye`. A line for which there is no memory is given up with
-    /// `Local(NoMemory)`, which leaves the batch as it was. If each command of the batch before the line names configured
-    /// channels alone, so does each command of the batch after it. A batch that is asked for has a command.
+    /// The call is not allowed after a `Kill` or a `Bye`. A line for which there is no memory is given up with
+    /// `Local(NoMemory)`, which leaves the batch as it was. If each command of the batch before the line names only configured
+    /// channels, so does each command of the batch after it. At `AskBatch` the batch has a command.
     pub fn next(&mut self, alloc: Global, config: &Config, media: &MediaNames) -> Step
         requires { self.old.ended ≡ false }
         ensures needs_more { (result ≡ Step.NeedMore) ↔ (self.old.reader.held ≡ false) }
@@ -114,13 +114,13 @@ impl Session {
         self.follow(read)
     }
 
-    /// Takes one whole line, whose end is left out, and returns its step: as if the text and a CR LF were fed, and the
-    /// next step asked for. The bytes of an unfinished line are dropped.
+    /// Takes one whole line, without its line end, and returns its step: as if the text and a CR LF were fed, and
+    /// [`Session::next`] called. The bytes of an unfinished line are dropped.
     ///
-    /// No step may be asked for after a `Kill` or a `Bye`. `Skip` comes exactly if the line has no word. A line for
-    /// which there is no memory is given up with `Local(NoMemory)`, which leaves the batch as it was. If each command of
-    /// the batch before the line names configured channels alone, so does each command of the batch after it. A batch that is
-    /// asked for has a command.
+    /// The call is not allowed after a `Kill` or a `Bye`. It returns `Skip` exactly if the line has no word. A line for which
+    /// there is no memory is given up with `Local(NoMemory)`, which leaves the batch as it was. If each command of the batch
+    /// before the line names only configured channels, so does each command of the batch after it. At `AskBatch` the batch has
+    /// a command.
     pub fn take_line(
         &mut self,
         alloc: Global,
@@ -146,7 +146,8 @@ impl Session {
         self.follow(read)
     }
 
-    /// Does what a line asks for that was read, and returns its step. At an error the line is given up, out of memory.
+    /// Applies a line that was read to the batch, and returns its step. On an error the line is given up with
+    /// `Local(NoMemory)`.
     fn follow(&mut self, read: Result<ReadLine, AllocError>) -> Step
         ensures reader { self.new.reader ≡ self.old.reader }
         ensures follows { Follows read result (batch_of self.old) (batch_of self.new) }
@@ -168,22 +169,21 @@ impl Session {
         }
     }
 
-    /// Returns whether the session gave a `Kill` or a `Bye`, so that no further step may be asked for.
+    /// Returns whether the session returned a `Kill` or a `Bye`, after which no step may be requested.
     pub fn has_ended(&self) -> bool
         ensures { result ≡ self.now.ended }
     {
         self.ended
     }
 
-    /// Returns the token of the line whose step was given last, if the line has one, until the next step is asked for. It takes no
-    /// memory.
+    /// Returns the token of the line whose step was returned last, if the line has one. The next step replaces it.
     pub fn token(&self) -> Option<&ReqToken>
         ensures { option_map (λ token. token.now) result ≡ self.now.token }
     {
         self.token.as_ref()
     }
 
-    /// Returns the commands of the batch that an `AskBatch` asks for, until the next step is asked for.
+    /// Returns the commands of the batch that an `AskBatch` asks for. They are kept until the next step.
     pub fn batch(&self) -> &[Cmd]
         ensures { result.now ≡ self.now.batch }
     {

@@ -7,7 +7,7 @@ use play_types::{Cmd, Reply};
 /// What is to be done for a line of a connection.
 #[derive(Debug, Drop)]
 pub enum Step {
-    /// The reply is sent. `NoMemory` is the reply to a line that is given up, out of memory.
+    /// The reply is sent. `NoMemory` is the reply to a line that is given up because memory ran out.
     Local(Reply),
     /// The stage is asked for this command.
     Ask(Cmd),
@@ -24,7 +24,7 @@ pub enum Step {
 }
 
 impl Step {
-    /// Returns whether nothing more is done for the connection: at `Kill` and at `Bye`.
+    /// Returns whether the step ends the connection: `Kill` or `Bye`.
     pub fn is_end(&self) -> bool
         ensures { result ≡ ends self.now }
     {

@@ -12,7 +12,7 @@ use Rattle.play_scene.specs.Frames.{FrameView}
 use Rattle.play_sound.specs.Sounds.{HasSound, pair_bytes, sample_in}
 use Rattle.play_sound.proofs.Bytes.{length-pair, length-sample}
 
--- a sum that is held is one of 16 bits
+-- a number from -32768 to 32767 is one of 16 bits
 fits_between : (z : ℤ) → negsuc 32767 ≤ℤ z → z ≤ℤ pos 32767 → FitsSigned w16 z
 fits_between (pos n) low high = record { sfits = omega (arith, ints) }
 fits_between (negsuc n) low high = record { sfits = omega (arith, ints) }

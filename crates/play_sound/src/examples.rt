@@ -18,8 +18,8 @@ pub fn stills()
         ≡ 0x01 ∷ 0x00 ∷ 0xFF ∷ 0xFF ∷ 0x00 ∷ 0x01 ∷ 0x00 ∷ 0xFF ∷ 0xFF ∷ 0x7F ∷ 0x00 ∷ 0x80 ∷ 0 ∷ 0 ∷ 0 ∷ 0 ∷ [] }
 {}
 
-/// Two layers, one at half volume: 1500 and -1500, and sums that are held to 16 bits. A volume of a third is taken toward zero,
-/// and one of two makes a sample that is held.
+/// Two layers, one at half volume: 1500 and -1500, and sums that are clamped to 16 bits. Samples at a volume of a third are rounded
+/// toward zero, and a volume of two makes a sample that is clamped.
 pub fn volumes()
     ensures half_and_whole { bytes_of 3 (tone 500000 ∷ tone 1000000 ∷ [])
         ≡ 0xDC ∷ 0x05 ∷ 0x24 ∷ 0xFA ∷ 0xFF ∷ 0x7F ∷ 0x00 ∷ 0x80 ∷ 0 ∷ 0 ∷ 0 ∷ 0 ∷ [] }
@@ -27,7 +27,7 @@ pub fn volumes()
     ensures twice { bytes_of 2 (tone 2000000 ∷ []) ≡ 0xD0 ∷ 0x07 ∷ 0x30 ∷ 0xF8 ∷ 0xFF ∷ 0x7F ∷ 0x00 ∷ 0x80 ∷ [] }
 {}
 
-/// A wipe mixes the sounds: at step 1 of 4 three quarters of the old one are left, toward zero. A keyer sounds.
+/// A wipe mixes the sounds: at step 1 of 4 three quarters of the old one are left, rounded toward zero. A keyer is heard.
 pub fn transitions_and_keyers()
     ensures wipe { bytes_of 2 (record (layer Nothing (pos 1000000)) { old = Frame 0 0; trans = wipe; step = 1 } ∷ [])
         ≡ 0xEE ∷ 0x02 ∷ 0x12 ∷ 0xFD ∷ 0xFF ∷ 0x5F ∷ 0x00 ∷ 0xA0 ∷ [] }

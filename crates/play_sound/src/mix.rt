@@ -16,16 +16,16 @@ use play_types::{Drawn, Geometry, Scene};
 /// How many pairs are mixed at a time.
 const ROW_PAIRS: usize = 64;
 
-/// How many samples they have.
+/// How many samples are mixed at a time.
 const ROW_SAMPLES: usize = 2 * ROW_PAIRS;
 
 /// Writes the sound of a frame of this size that shows a scene, by the sounds of the tick before and the clips: its stereo
 /// pairs, left and right, each an `i16` in little-endian.
 ///
-/// Each sample is the sum of the samples of all layers, held to the range of an `i16`. A layer's sample is that of its still,
-/// or during a transition of every kind the mean of the old and the new one by the step, times its volume. Each quotient is
-/// taken toward zero. A still with fewer pairs is silent in the others, and so are colours. `out` has four bytes a pair, and
-/// the channels whose sounds the layers give are configured. It takes no memory.
+/// Each sample is the sum of the samples of all layers, clamped to the range of an `i16`. A layer's sample is that of its still, or,
+/// during a transition of any kind, the mean of the old and the new one by the step, times its volume. Each quotient is rounded
+/// toward zero. A still with fewer pairs is silent in the others, and so are colours. `out` has four bytes a pair, and the channels
+/// whose sounds the layers give are configured.
 pub fn mix_sound(scene: &Scene, size: Geometry, prev: &Frames, media: &MediaTable, out: &mut [u8])
     requires room { length out.old ≡ 4 * size.pairs }
     requires names { All (NamesConfigured (length prev.now)) scene.now }

@@ -30,7 +30,7 @@ pub(crate) fn sample_or_silence(sound: &[u8], place: usize) -> i64
     }
 }
 
-/// Returns a sample at a volume, the quotient taken toward zero. A volume of one leaves it.
+/// Returns a sample at a volume in millionths, rounded toward zero. A volume of 1,000,000 leaves it as it is.
 pub(crate) fn played(sample: i64, volume: i64) -> i64
     requires sample { IsNear 32768 sample }
     requires volume { AreValues Volume (volume ∷ []) }
@@ -43,7 +43,7 @@ pub(crate) fn played(sample: i64, volume: i64) -> i64
     sample * volume / MICROS_PER_UNIT
 }
 
-/// Returns the mean of an old and a new sample at step `j` of `d`, the quotient taken toward zero.
+/// Returns the mean of an old and a new sample at step `j` of `d`, rounded toward zero.
 pub(crate) fn mean(old: i64, new: i64, j: u32, d: u32) -> i64
     requires old { IsNear 32768 old }
     requires new { IsNear 32768 new }

@@ -1,4 +1,4 @@
-//! Rows of sums of samples, the left and the right one of each pair by turns.
+//! Rows of sums of samples, in turn the left and the right one of each pair.
 ghost use Rattle.std.specs.Prelude.{◌≡◌, ◌+◌, ◌*◌, ◌/◌, ◌<◌, ◌≤◌, ◌%◌, ◌+ℤ◌, ◌∷◌, [], length};
 ghost use Rattle.play_types.specs.Setting.{AreValues, number_at};
 ghost use Rattle.play_types.specs.declared.setting.Prop.TheVariants.{Volume};
@@ -11,7 +11,7 @@ ghost use Rattle.play_sound.specs.inner.Ranges.{IsNear};
 
 use crate::sample::{mean, played, sample_at, sample_or_silence};
 
-/// Adds the samples of a sound at a volume to sums, place by place. Past the end of its bytes it is silent.
+/// Adds the samples of a sound at a volume to sums, place by place. Past the end of its bytes the sound is silent.
 pub(crate) fn add_samples(sound: &[u8], volume: i64, sums: &mut [i64])
     requires whole { length sound.now % 2 ≡ 0 }
     requires volume { AreValues Volume (volume ∷ []) }
@@ -45,7 +45,7 @@ pub(crate) fn add_mixed(old: &[u8], new: &[u8], j: u32, d: u32, volume: i64, sum
     }
 }
 
-/// Returns a sum with one sample more.
+/// Returns a sum plus one sample.
 fn total(sum: i64, sample: i64) -> i64
     requires sum { IsNear (32768000 * 63) sum }
     requires sample { IsNear 32768000 sample }
@@ -54,7 +54,7 @@ fn total(sum: i64, sample: i64) -> i64
     sum + sample
 }
 
-/// Writes sums as samples of two bytes, each held to the range of an `i16`.
+/// Writes sums as samples of two bytes, each clamped to the range of an `i16`.
 pub(crate) fn write_samples(sums: &[i64], row: &mut [u8])
     requires whole { length row.old % 4 ≡ 0 }
     requires few { length row.old ≤ 2 * length sums.now }
@@ -67,7 +67,7 @@ pub(crate) fn write_samples(sums: &[i64], row: &mut [u8])
     }
 }
 
-/// Returns a sum held to the range of a sample.
+/// Returns a sum clamped to the range of a sample.
 fn held(sum: i64) -> i16
     ensures { result ≡ held_to_sample sum }
 {

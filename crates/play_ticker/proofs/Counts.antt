@@ -25,7 +25,7 @@ free_append channels (x ∷ xs) ys = elim (cases_Bool (is_room channels x)) [
   | inr none ↦ rw none (free_append channels xs ys)
 ]
 
--- what is passed over is no room and no news
+-- an item that is passed over is no room and no report
 foreign_room : (channels : ℕ) (item : Returned) → fits_returned channels item ≡ false → (is_room channels item ≡ false) × (is_news channels item ≡ false)
 foreign_room channels (Free scenes) other = (other, refl)
 foreign_room channels (Broken channel scenes) other = (refl, other)
@@ -42,7 +42,7 @@ foreign_news channels (item ∷ others) foreign =
     rw (foreign_room channels item (All-head (λ (item : Returned). fits_returned channels item ≡ false) item others foreign)).1
     (foreign_news channels others (All-tail (λ (item : Returned). fits_returned channels item ≡ false) item others foreign))
 
--- an item that is a room counts, and is no news
+-- an item that is a room counts, and is no report
 free_item : (channels : ℕ) (item : Returned) (scenes : List (List Drawn)) → room.Free scenes ≡ room_of item → fits_returned channels item ≡ true
     → (free_count channels (item ∷ []) ≡ 1) × (list_any (is_news channels) (item ∷ []) ≡ false)
 free_item channels (Free s) scenes says fits = (rw fits refl, refl)
@@ -60,12 +60,12 @@ news_item : (channels : ℕ) (item : Returned) (channel : ℕ) → room.Broken c
 news_item channels (Free s) channel says fits = absurd (cc says)
 news_item channels (Broken c s) channel says fits = (fits, refl)
 
--- the sets that were sent and those that are held are no more than four and those that came back, and no news came
+-- the sets that were sent and those that are held are at most four and those that came back, and no report of a failed output came
 pub record IsBalanced (view : StageView) : Type 0 where
   pub few : length view.sent + length view.held ≤ 4 + free_count view.channels view.returned
   pub quiet : list_any (is_news view.channels) view.returned ≡ false
 
--- scenes to fill were got, and are not counted any more
+-- the pipe gave scenes to fill, which are not counted any more
 pub record HasGot (scenes : List (List Drawn)) (old new : StageView) : Type 0 where
   pub many : length scenes ≡ old.channels
   pub sent : new.sent ≡ old.sent
@@ -117,7 +117,7 @@ got_returned scenes old new h was =
 pub got : (old new : StageView) (h : GetsRoom old new) → IsBalanced old → HasGot h.scenes old new
 got old new h was = ⊎_elim (λ (held : GivesHeld (room.Free h.scenes) old new). got_held h.scenes old new held was) (λ (back : GivesReturned (room.Free h.scenes) old new). got_returned h.scenes old new back was) h.room
 
--- the news of a failed output came
+-- the report of a failed output came
 pub record HasNews (old new : StageView) : Type 0 where
   pub sent : new.sent ≡ old.sent
   pub few : length new.sent ≤ 4 + free_count new.channels new.returned
@@ -164,7 +164,7 @@ room_many scenes old new h =
     (λ (back : GivesReturned (room.Free scenes) old new). fits_length old.channels back.item scenes back.says back.gets.next.own)
     h
 
--- a room leaves the number of channels
+-- a room keeps the number of channels
 pub room_channels : (result : Room) (old new : StageView) → GivesRoom result old new → new.channels ≡ old.channels
 room_channels result old new h =
     ⊎_elim
@@ -172,14 +172,14 @@ room_channels result old new h =
     (λ (back : GivesReturned result old new). ap (λ (v : StageView). v.channels) back.gets.after)
     h
 
--- the sets that were given back before the news that came first
+-- the sets that were given back before the first report
 pub free_before : (given more : List Returned) (channel : ℕ) (scenes : List (List Drawn)) → list_any is_broken given ≡ false
     → free_before_news ((given ++ Broken channel scenes ∷ []) ++ more) ≡ length given
 free_before [] more channel scenes none = refl
 free_before (Free s ∷ given) more channel scenes none = omega (arith, free_before given more channel scenes none)
 free_before (Broken c s ∷ given) more channel scenes none = absurd cc
 
--- if no output failed, no news came
+-- if no output failed, no report came
 news_broken : (channels : ℕ) (item : Returned) → is_news channels item ≡ true → is_broken item ≡ true
 news_broken channels (Free s) news = absurd cc
 news_broken channels (Broken c s) news = refl

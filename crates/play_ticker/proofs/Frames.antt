@@ -11,7 +11,7 @@ use Rattle.play_types.proofs.Histories.{ticks-append}
 use Rattle.history_model.specs.pictures.Media.{Setup}
 use Rattle.stage_lock.specs.Own.{is_own, made_by, positions}
 use Rattle.stage_lock.proofs.Positions.{made_by-append, positions-append}
-use Rattle.play_ticker.specs.Frames.{frames_text, is_tick, raw_frame, tick_positions}
+use Rattle.play_ticker.specs.Frames.{frames_since, frames_text, is_tick, raw_frame, tick_positions}
 
 -- there are as many positions as ticks
 pub positions_count : (k : ℕ) (xs : List Event) → length (positions is_tick k xs) ≡ ticks xs
@@ -66,10 +66,14 @@ goes_on_by_ticks seen history p same =
 pub ticks-quiet : (seen history : List Event) → GoesOn seen history → ticks history ≡ ticks seen
 ticks-quiet seen history on = omega (arith, ap ticks (sym on.whole), ticks-append seen on.rest, on.quiet)
 
+-- after given events, a history that goes on without a tick has as many ticks as before
+pub ticks-since : (given seen history : List Event) → GoesOn seen history → ticks (given ++ history) ≡ ticks (given ++ seen)
+ticks-since given seen history on = omega (arith, ticks-append given history, ticks-append given seen, ticks-quiet seen history on)
+
 quiet_positions : (k : ℕ) (rest : List Event) → ticks rest ≡ 0 → positions is_tick k rest ≡ []
 quiet_positions k rest quiet = nil_from_length (positions is_tick k rest) (positions_count k rest ∙ quiet)
 
--- then the positions of its ticks are the same
+-- a history that goes on without a tick keeps the positions of its ticks
 pub tick_positions-quiet : (seen history : List Event) → GoesOn seen history → tick_positions history ≡ tick_positions seen
 tick_positions-quiet seen history on =
     ap tick_positions (sym on.whole) ∙ positions-append is_tick 0 seen on.rest
@@ -98,49 +102,62 @@ goes_on-trans xs ys zs one two = record {
   quiet = omega (arith, ticks-append one.rest two.rest, one.quiet, two.quiet);
 }
 
+-- a history that goes on without a tick does so after given events too
+pub goes_on-since : (given front history more : List Event) → GoesOn (front ++ more) history → GoesOn ((given ++ front) ++ more) (given ++ history)
+goes_on-since given front history more on = record {
+  rest = on.rest;
+  whole = ap (λ (l : List Event). l ++ on.rest) (append_assoc given front more) ∙ (append_assoc given (front ++ more) on.rest ∙ ap (λ (l : List Event). given ++ l) on.whole);
+  quiet = on.quiet;
+}
+
 -- the frames at these ticks, by a history and by a longer one
-frames_front : (setup : Setup) (channel : ℕ) (history rest xs : List Event) (k : ℕ) → k + length xs ≤ length history →
-    flat_map (λ at. raw_frame setup (take at (history ++ rest)) channel) (positions is_tick k xs)
-    ≡ flat_map (λ at. raw_frame setup (take at history) channel) (positions is_tick k xs)
-frames_front setup channel history rest [] k within = refl
-frames_front setup channel history rest (x ∷ xs) k within =
-    let next = frames_front setup channel history rest xs (suc k) (omega (arith, within)) in
+frames_front : (setup : Setup) (given : List Event) (channel : ℕ) (history rest xs : List Event) (k : ℕ) → k + length xs ≤ length history →
+    flat_map (λ at. raw_frame setup (given ++ take at (history ++ rest)) channel) (positions is_tick k xs)
+    ≡ flat_map (λ at. raw_frame setup (given ++ take at history) channel) (positions is_tick k xs)
+frames_front setup given channel history rest [] k within = refl
+frames_front setup given channel history rest (x ∷ xs) k within =
+    let next = frames_front setup given channel history rest xs (suc k) (omega (arith, within)) in
     let here : take k (history ++ rest) ≡ take k history = take-append-le k history rest (omega (arith, within)) in
     go (is_tick x) here next
   where
-    text : List Event → List ℕ → List ℕ
-    text events = flat_map (λ at. raw_frame setup (take at events) channel)
-
     go : (b : Bool) → take k (history ++ rest) ≡ take k history
-        → flat_map (λ at. raw_frame setup (take at (history ++ rest)) channel) (positions is_tick (suc k) xs)
-        ≡ flat_map (λ at. raw_frame setup (take at history) channel) (positions is_tick (suc k) xs)
-        → flat_map (λ at. raw_frame setup (take at (history ++ rest)) channel) (cond b (k ∷ positions is_tick (suc k) xs) (positions is_tick (suc k) xs))
-        ≡ flat_map (λ at. raw_frame setup (take at history) channel) (cond b (k ∷ positions is_tick (suc k) xs) (positions is_tick (suc k) xs))
-    go true here next = λ i. raw_frame setup (here i) channel ++ next i
+        → flat_map (λ at. raw_frame setup (given ++ take at (history ++ rest)) channel) (positions is_tick (suc k) xs)
+        ≡ flat_map (λ at. raw_frame setup (given ++ take at history) channel) (positions is_tick (suc k) xs)
+        → flat_map (λ at. raw_frame setup (given ++ take at (history ++ rest)) channel) (cond b (k ∷ positions is_tick (suc k) xs) (positions is_tick (suc k) xs))
+        ≡ flat_map (λ at. raw_frame setup (given ++ take at history) channel) (cond b (k ∷ positions is_tick (suc k) xs) (positions is_tick (suc k) xs))
+    go true here next = λ i. raw_frame setup (given ++ here i) channel ++ next i
     go false here next = next
 
--- a history without further ticks has the same frames
+-- a history without further ticks has the frames of the one that it goes on from
+pub frames_since-quiet : (setup : Setup) (given : List Event) (channel : ℕ) (seen history : List Event) → GoesOn seen history →
+    frames_since setup given history channel ≡ frames_since setup given seen channel
+unfolding frames_since
+frames_since-quiet setup given channel seen history on =
+    ap (λ (h : List Event). flat_map (λ at. raw_frame setup (given ++ take at h) channel) (tick_positions history)) (sym on.whole)
+    ∙ ap (flat_map (λ at. raw_frame setup (given ++ take at (seen ++ on.rest)) channel)) (tick_positions-quiet seen history on)
+    ∙ frames_front setup given channel seen on.rest seen 0 (omega arith)
+
 pub frames_text-quiet : (setup : Setup) (channel : ℕ) (seen history : List Event) → GoesOn seen history →
     frames_text setup history channel ≡ frames_text setup seen channel
-unfolding frames_text
-frames_text-quiet setup channel seen history on =
-    ap (λ (h : List Event). flat_map (λ at. raw_frame setup (take at h) channel) (tick_positions history)) (sym on.whole)
-    ∙ ap (flat_map (λ at. raw_frame setup (take at (seen ++ on.rest)) channel)) (tick_positions-quiet seen history on)
-    ∙ frames_front setup channel seen on.rest seen 0 (omega arith)
+frames_text-quiet setup channel seen history on = frames_since-quiet setup [] channel seen history on
 
 -- without ticks there is no frame
-pub frames_text-none : (setup : Setup) (channel : ℕ) (history : List Event) → tick_positions history ≡ [] → frames_text setup history channel ≡ []
-unfolding frames_text
-frames_text-none setup channel history none = ap (flat_map (λ at. raw_frame setup (take at history) channel)) none
+pub frames_since-none : (setup : Setup) (given : List Event) (channel : ℕ) (history : List Event) → tick_positions history ≡ [] → frames_since setup given history channel ≡ []
+unfolding frames_since
+frames_since-none setup given channel history none = ap (flat_map (λ at. raw_frame setup (given ++ take at history) channel)) none
 
 -- one tick more is one frame more
+pub frames_since-tick : (setup : Setup) (given : List Event) (channel : ℕ) (history : List Event) →
+    frames_since setup given (history ++ Tick ∷ []) channel ≡ frames_since setup given history channel ++ raw_frame setup (given ++ history) channel
+unfolding frames_since
+frames_since-tick setup given channel history =
+    let whole : List Event = history ++ Tick ∷ [] in
+    let f : ℕ → List ℕ = λ at. raw_frame setup (given ++ take at whole) channel in
+    let last : raw_frame setup (given ++ take (length history) whole) channel ++ [] ≡ raw_frame setup (given ++ history) channel =
+    append-nil (f (length history)) ∙ ap (λ (h : List Event). raw_frame setup (given ++ h) channel) (take_at history (Tick ∷ []) (length history) refl) in
+    ap (flat_map f) (tick_positions-tick history) ∙ flat_map-append f (tick_positions history) (length history ∷ [])
+    ∙ (λ i. frames_front setup given channel history (Tick ∷ []) history 0 (omega arith) i ++ last i)
+
 pub frames_text-tick : (setup : Setup) (channel : ℕ) (history : List Event) →
     frames_text setup (history ++ Tick ∷ []) channel ≡ frames_text setup history channel ++ raw_frame setup history channel
-unfolding frames_text
-frames_text-tick setup channel history =
-    let whole : List Event = history ++ Tick ∷ [] in
-    let f : ℕ → List ℕ = λ at. raw_frame setup (take at whole) channel in
-    let last : raw_frame setup (take (length history) whole) channel ++ [] ≡ raw_frame setup history channel =
-    append-nil (f (length history)) ∙ ap (λ (h : List Event). raw_frame setup h channel) (take_at history (Tick ∷ []) (length history) refl) in
-    ap (flat_map f) (tick_positions-tick history) ∙ flat_map-append f (tick_positions history) (length history ∷ [])
-    ∙ (λ i. frames_front setup channel history (Tick ∷ []) history 0 (omega arith) i ++ last i)
+frames_text-tick setup channel history = frames_since-tick setup [] channel history

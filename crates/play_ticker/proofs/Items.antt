@@ -40,16 +40,17 @@ no_items : (items : List Taken) → length items ≡ 0 → items ≡ []
 no_items [] none = refl
 no_items (item ∷ items) none = absurd (omega (arith, none))
 
--- a history that goes on without a tick has the same sets
-pub staged-quiet : (channels : ℕ) (seen history : List Event) → GoesOn seen history → staged_of channels history ≡ staged_of channels seen
-staged-quiet channels seen history on =
-    let rest : staged_after channels seen on.rest ≡ [] = no_items (staged_after channels seen on.rest) (staged_count channels seen on.rest ∙ on.quiet) in
-    ap (staged_of channels) (sym on.whole) ∙ staged-append channels [] seen on.rest
-    ∙ ap (λ (l : List Taken). staged_of channels seen ++ l) rest ∙ append-nil (staged_of channels seen)
+-- a history that goes on without a tick has the sets of the one that it goes on from
+pub staged-quiet : (channels : ℕ) (given seen history : List Event) → GoesOn seen history → staged_of channels given history ≡ staged_of channels given seen
+staged-quiet channels given seen history on =
+    let rest : staged_after channels (given ++ seen) on.rest ≡ [] = no_items (staged_after channels (given ++ seen) on.rest) (staged_count channels (given ++ seen) on.rest ∙ on.quiet) in
+    ap (staged_of channels given) (sym on.whole) ∙ staged-append channels given seen on.rest
+    ∙ ap (λ (l : List Taken). staged_of channels given seen ++ l) rest ∙ append-nil (staged_of channels given seen)
 
 -- one tick more is one set more
-pub staged-tick : (channels : ℕ) (history : List Event) → staged_of channels (history ++ Tick ∷ []) ≡ staged_of channels history ++ staged_item channels history ∷ []
-staged-tick channels history = staged-append channels [] history (Tick ∷ [])
+pub staged-tick : (channels : ℕ) (given history : List Event)
+    → staged_of channels given (history ++ Tick ∷ []) ≡ staged_of channels given history ++ staged_item channels (given ++ history) ∷ []
+staged-tick channels given history = staged-append channels given history (Tick ∷ [])
 
 -- a history whose sets are known up to one, and from there on
 pub record SplitsAt (channels : ℕ) (past rest : List Event) (before : List Taken) (item : Taken) : Type 0 where
@@ -110,7 +111,7 @@ same_front (a ∷ xs) (b ∷ ys) x y e =
     let rest : xs ≡ ys = same_front xs ys x y others in
     λ i. first i ∷ rest i
 
--- a set that stands among sets and an end mark stands among the sets
+-- a set that is among sets and an end mark is among the sets
 pub record StandsIn (sets before : List Taken) (item : Taken) : Type 0 where
   pub after : List Taken
   pub whole : sets ≡ before ++ item ∷ after

@@ -7,7 +7,6 @@ use Rattle.play_types.specs.declared.event.Event.{Event}
 use Rattle.play_types.specs.declared.event.Event.TheVariants.{Tick}
 use Rattle.play_types.proofs.Histories.{ticks-append}
 use Rattle.play_outside.specs.SinkState.{SinkState}
-use Rattle.history_model.specs.pictures.Media.{Setup}
 use Rattle.scene_pipe.specs.declared.item.Taken.{Taken}
 use Rattle.scene_pipe.specs.declared.item.Taken.TheVariants.{Staged, Done}
 use Rattle.scene_pipe.specs.declared.item.Returned.{Returned}
@@ -15,7 +14,7 @@ use Rattle.scene_pipe.specs.Counts.{EndsWithNews, StopsAtNews, free_before_news,
 use Rattle.scene_pipe.specs.Items.{IsClosed, fits_returned}
 use Rattle.scene_pipe.specs.Views.{StageView, WriteView}
 use Rattle.play_ticker.specs.Ends.{HasEnded, Meets}
-use Rattle.play_ticker.specs.Outputs.{AllTakeFrames, AreCut, AreWritten, IsCutAt, Shown, TakesFrames}
+use Rattle.play_ticker.specs.Outputs.{AllTakeFrames, AreCut, AreWritten, Beginning, IsCutAt, Shown, TakesFrames, shown_from}
 use Rattle.play_ticker.specs.inner.Items.{AllFit, staged_item, staged_of}
 use Rattle.play_ticker.specs.inner.Staging.{HasStaged, IsTold, Staging}
 use Rattle.play_ticker.specs.inner.Writing.{HasWritten, IsCutTaken, IsWhole, Writing}
@@ -25,7 +24,7 @@ use Rattle.play_ticker.proofs.Counts.{no_news}
 use Rattle.play_ticker.proofs.Items.{SplitsAt, StandsIn, closed_end, split_at, staged_count, staged_open, stands_in}
 use Rattle.play_ticker.proofs.Taking.{each_length}
 
--- how many sets came back before the news of a failed output
+-- how many sets came back before the report of a failed output
 abbrev pub FewCameBack : Type 0
 FewCameBack = (channels : ℕ) (returned given : List Returned) → IsPrefix returned given → All (λ item. fits_returned channels item ≡ true) returned → StopsAtNews channels returned
     → free_count channels returned ≤ free_before_news given
@@ -64,13 +63,13 @@ abbrev pub end_by : Option ℕ → TickEnd → TickEnd
 end_by (Some channel) met = OutFault channel
 end_by None met = met
 
-all_written : {O : Type 0} (state : O → SinkState) (met : TickEnd) (channels : ℕ) (setup : Setup) (history : List Event) (returned : List Returned) (olds news : List O) → IsTold met channels returned
-    → (EndsWithNews channels returned → ⊥) → AllTakeFrames state (record { setup = setup; history = history }) olds news → AreWritten state met (record { setup = setup; history = history }) olds news
-all_written state ClockClosed channels setup history returned olds news told none all = all
-all_written state (Ended at) channels setup history returned olds news told none all = all
-all_written state TicksOver channels setup history returned olds news told none all = all
-all_written state ClockFault channels setup history returned olds news told none all = all
-all_written state (OutFault channel) channels setup history returned olds news told none all = absurd (none told)
+all_written : {O : Type 0} (state : O → SinkState) (met : TickEnd) (channels : ℕ) (begin : Beginning) (history : List Event) (returned : List Returned) (olds news : List O) → IsTold met channels returned
+    → (EndsWithNews channels returned → ⊥) → AllTakeFrames state (shown_from begin history) olds news → AreWritten state met (shown_from begin history) olds news
+all_written state ClockClosed channels begin history returned olds news told none all = all
+all_written state (Ended at) channels begin history returned olds news told none all = all
+all_written state TicksOver channels begin history returned olds news told none all = all
+all_written state ClockFault channels begin history returned olds news told none all = all
+all_written state (OutFault channel) channels begin history returned olds news told none all = absurd (none told)
 
 all_met : (met : TickEnd) (channels configured : ℕ) (returned : List Returned) → IsTold met channels returned → (EndsWithNews channels returned → ⊥) → Meets configured met met
 all_met ClockClosed channels configured returned told none = refl
@@ -80,13 +79,14 @@ all_met ClockFault channels configured returned told none = refl
 all_met (OutFault channel) channels configured returned told none = absurd (none told)
 
 -- the outputs were cut at a tick of the history
-cut_by : {O : Type 0} (state : O → SinkState) (met : TickEnd) (failed channels : ℕ) (setup : Setup) (base now : Writing O) (first last : Staging) → FewCameBack → AreSettled channels now.pipe last.pipe
-    → HasStaged met first last → first.pipe.channels ≡ channels → IsCutTaken state setup failed base now → AreCut state failed (record { setup = setup; history = last.pass.seen }) base.outs now.outs
-cut_by state met failed channels setup base now first last few same staged of cut =
+cut_by : {O : Type 0} (state : O → SinkState) (met : TickEnd) (failed channels : ℕ) (begin : Beginning) (base now : Writing O) (first last : Staging) → FewCameBack → AreSettled channels now.pipe last.pipe
+    → HasStaged begin.given met first last → first.pipe.channels ≡ channels → IsCutTaken state begin failed base now → AreCut state failed (shown_from begin last.pass.seen) base.outs now.outs
+cut_by state met failed channels begin base now first last few same staged of cut =
     let seen : List Event = last.pass.seen in
-    let sent : now.pipe.taken ≡ staged_of channels seen ++ Done ∷ [] = same.taken ∙ staged.sent ∙ ap (λ (n : ℕ). staged_of n seen ++ Done ∷ []) of in
-    let stands : StandsIn (staged_of channels seen) cut.before (Staged cut.tick cut.scenes) = stands_in (staged_of channels seen) cut.before cut.after cut.tick cut.scenes (cut.whole ∙ sent) in
-    let s : SplitsAt channels [] seen cut.before (Staged cut.tick cut.scenes) = split_at channels [] seen cut.before (Staged cut.tick cut.scenes) stands.after stands.whole in
+    let given : List Event = begin.given in
+    let sent : now.pipe.taken ≡ staged_of channels given seen ++ Done ∷ [] = same.taken ∙ staged.sent ∙ ap (λ (n : ℕ). staged_of n given seen ++ Done ∷ []) of in
+    let stands : StandsIn (staged_of channels given seen) cut.before (Staged cut.tick cut.scenes) = stands_in (staged_of channels given seen) cut.before cut.after cut.tick cut.scenes (cut.whole ∙ sent) in
+    let s : SplitsAt channels given seen cut.before (Staged cut.tick cut.scenes) = split_at channels given seen cut.before (Staged cut.tick cut.scenes) stands.after stands.whole in
     let news : StopsAtNews channels last.pipe.returned = stops_at_news met channels last.pipe.returned (subst (λ (n : ℕ). IsTold met n last.pipe.returned) of staged.told) in
     let came : free_count channels last.pipe.returned ≤ free_before_news now.pipe.given = few channels last.pipe.returned now.pipe.given same.returned same.came news in
     let most : ticks seen ≤ 4 + free_count channels last.pipe.returned = subst (λ (n : ℕ). ticks seen ≤ 4 + free_count n last.pipe.returned) of staged.few in
@@ -100,36 +100,36 @@ cut_by state met failed channels setup base now first last few same staged of cu
         came,
         cut.free,
         ap (λ (l : List Taken). length l) s.sets,
-        staged_count channels [] s.front,
+        staged_count channels given s.front,
         ap ticks s.whole,
         ticks-append s.front (Tick ∷ s.back),
       );
-      outs = cut.outs s.front (ap (λ (n : ℕ). staged_of n s.front) same.write_channels ∙ s.sets) (ap (λ (n : ℕ). staged_item n s.front) same.write_channels ∙ s.this);
+      outs = cut.outs s.front (ap (λ (n : ℕ). staged_of n given s.front) same.write_channels ∙ s.sets) (ap (λ (n : ℕ). staged_item n (given ++ s.front)) same.write_channels ∙ s.this);
     }
 
 -- the outputs at the end
-pub joined_outs : {O : Type 0} (state : O → SinkState) (failed : Option ℕ) (met : TickEnd) (channels : ℕ) (setup : Setup) (base now : Writing O) (first last : Staging) → FewCameBack → AreSettled channels now.pipe last.pipe
-    → HasWritten state setup failed base now → HasStaged met first last → first.pipe.channels ≡ channels
-    → AreWritten state (end_by failed met) (record { setup = setup; history = last.pass.seen }) base.outs now.outs
-joined_outs state None met channels setup base now first last few same written staged of =
+pub joined_outs : {O : Type 0} (state : O → SinkState) (failed : Option ℕ) (met : TickEnd) (channels : ℕ) (begin : Beginning) (base now : Writing O) (first last : Staging) → FewCameBack → AreSettled channels now.pipe last.pipe
+    → HasWritten state begin failed base now → HasStaged begin.given met first last → first.pipe.channels ≡ channels
+    → AreWritten state (end_by failed met) (shown_from begin last.pass.seen) base.outs now.outs
+joined_outs state None met channels begin base now first last few same written staged of =
     let fit : AllFit now.pipe.channels now.pipe.taken = subst (λ (n : ℕ). AllFit n now.pipe.taken) (sym same.write_channels) same.fit in
-    let whole : IsWhole state setup base now = written.written fit in
-    let sent : staged_of now.pipe.channels last.pass.seen ++ Done ∷ [] ≡ now.pipe.taken =
-    ap (λ (n : ℕ). staged_of n last.pass.seen ++ Done ∷ []) (same.write_channels ∙ sym of) ∙ sym (same.taken ∙ staged.sent) in
-    all_written state met first.pipe.channels setup last.pass.seen last.pipe.returned base.outs now.outs staged.told
+    let whole : IsWhole state begin base now = written.written fit in
+    let sent : staged_of now.pipe.channels begin.given last.pass.seen ++ Done ∷ [] ≡ now.pipe.taken =
+    ap (λ (n : ℕ). staged_of n begin.given last.pass.seen ++ Done ∷ []) (same.write_channels ∙ sym of) ∙ sym (same.taken ∙ staged.sent) in
+    all_written state met first.pipe.channels begin last.pass.seen last.pipe.returned base.outs now.outs staged.told
     (no_news first.pipe.channels last.pipe.returned now.pipe.given same.returned whole.free)
     (whole.outs last.pass.seen sent)
-joined_outs state (Some failed) met channels setup base now first last few same written staged of =
+joined_outs state (Some failed) met channels begin base now first last few same written staged of =
     let fit : AllFit now.pipe.channels now.pipe.taken = subst (λ (n : ℕ). AllFit n now.pipe.taken) (sym same.write_channels) same.fit in
-    cut_by state met failed channels setup base now first last few same staged of (written.written fit).1
+    cut_by state met failed channels begin base now first last few same staged of (written.written fit).1
 
 -- how the ticks ended
-pub joined_end : {O : Type 0} (state : O → SinkState) (failed : Option ℕ) (met : TickEnd) (channels : ℕ) (setup : Setup) (base now : Writing O) (first last : Staging) → AreSettled channels now.pipe last.pipe
-    → HasWritten state setup failed base now → HasStaged met first last → length base.frames ≡ last.pass.stage.sizes.channels
-    → HasEnded (end_by failed met) (record { pass = first.pass; clock = first.clock }) (record { pass = last.pass; clock = last.clock })
-joined_end state None met channels setup base now first last same written staged many =
+pub joined_end : {O : Type 0} (state : O → SinkState) (failed : Option ℕ) (met : TickEnd) (channels : ℕ) (begin : Beginning) (base now : Writing O) (first last : Staging) → AreSettled channels now.pipe last.pipe
+    → HasWritten state begin failed base now → HasStaged begin.given met first last → length base.frames ≡ last.pass.stage.sizes.channels
+    → HasEnded begin.given (end_by failed met) (record { pass = first.pass; clock = first.clock }) (record { pass = last.pass; clock = last.clock })
+joined_end state None met channels begin base now first last same written staged many =
     let fit : AllFit now.pipe.channels now.pipe.taken = subst (λ (n : ℕ). AllFit n now.pipe.taken) (sym same.write_channels) same.fit in
-    let whole : IsWhole state setup base now = written.written fit in
+    let whole : IsWhole state begin base now = written.written fit in
     record {
       met = met;
       meets = all_met met first.pipe.channels last.pass.stage.sizes.channels last.pipe.returned staged.told (no_news first.pipe.channels last.pipe.returned now.pipe.given same.returned whole.free);
@@ -137,7 +137,7 @@ joined_end state None met channels setup base now first last same written staged
       turns = staged.turns;
       pass = staged.pass;
     }
-joined_end state (Some failed) met channels setup base now first last same written staged many =
+joined_end state (Some failed) met channels begin base now first last same written staged many =
     let fit : AllFit now.pipe.channels now.pipe.taken = subst (λ (n : ℕ). AllFit n now.pipe.taken) (sym same.write_channels) same.fit in
     record {
       met = met;
@@ -157,6 +157,6 @@ written_length state (OutFault failed) shown olds news cut =
     each_length (λ channel old new. IsCutAt failed (record shown { history = cut.before }) channel (state old) (state new)) 1 olds news cut.outs
 
 -- the end mark was sent after all else
-pub sent_closed : (met : TickEnd) (first last : Staging) → HasStaged met first last → IsClosed last.pipe.sent
-sent_closed met first last staged =
-    subst IsClosed (sym staged.sent) (closed_end (staged_of first.pipe.channels last.pass.seen) (staged_open first.pipe.channels [] last.pass.seen))
+pub sent_closed : (given : List Event) (met : TickEnd) (first last : Staging) → HasStaged given met first last → IsClosed last.pipe.sent
+sent_closed given met first last staged =
+    subst IsClosed (sym staged.sent) (closed_end (staged_of first.pipe.channels given last.pass.seen) (staged_open first.pipe.channels given last.pass.seen))

@@ -11,10 +11,9 @@ use Rattle.play_scene.specs.Frames.{FrameView, frame_at, zero_frame}
 use Rattle.play_scene.specs.Picture.{clips_of}
 use Rattle.band_render.specs.Rendered.{AreRendered, sizes}
 use Rattle.band_render.specs.Histories.{HasFrame, Represents, scenes_after}
-use Rattle.play_ticker.specs.Frames.{AreBlank, raw_frame, setup_for}
+use Rattle.play_ticker.specs.Frames.{AreBlank, AreLast, raw_frame, setup_for}
 use Rattle.play_ticker.specs.inner.Writing.{bytes_in}
 use Rattle.play_ticker.proofs.Frames.{GoesOn}
-use Rattle.play_ticker.proofs.Steps.{from_nothing}
 
 -- what frames represent, if other events than ticks are added
 abbrev pub StaysShown : Type 0
@@ -51,14 +50,17 @@ abbrev pub ShowsBlank : Type 0
 ShowsBlank = (setup : Setup) (channels : List ChannelView) (entries : List Entry) → setup.clips ≡ clips_of entries →
     setup.channels ≡ sizes (map zero_frame channels) → Represents setup [] entries (map zero_frame channels)
 
--- blank frames represent a history without ticks
-pub shows_blank : StaysShown → ShowsBlank → (entries : List Entry) (frames : List FrameView) (history : List Event) → AreBlank frames → ticks history ≡ 0
-    → Represents (setup_for frames entries) history entries frames
-shows_blank stays blank_law entries frames history blank none =
+-- blank frames are the last ones of no history
+pub shows_blank : ShowsBlank → (entries : List Entry) (frames : List FrameView) → AreBlank frames → AreLast [] entries frames
+shows_blank blank_law entries frames blank =
     let setup : Setup = setup_for frames entries in
     let nothing : Represents setup [] entries (map zero_frame blank.channels) = blank_law setup blank.channels entries refl (ap sizes blank.blank) in
-    let empty : Represents setup [] entries frames = subst (Represents setup [] entries) (sym blank.blank) nothing in
-    shown-quiet stays setup entries frames [] history (from_nothing history none) empty
+    subst (Represents setup [] entries) (sym blank.blank) nothing
+
+-- the last frames of given events are those of a history after them without ticks
+pub shows_last : StaysShown → (given : List Event) (entries : List Entry) (frames : List FrameView) (history : List Event) → AreLast given entries frames → ticks history ≡ 0
+    → Represents (setup_for frames entries) (given ++ history) entries frames
+shows_last stays given entries frames history last none = shown_after stays (setup_for frames entries) entries frames given history none last
 
 -- the bytes that are written are the frame of the tick
 abbrev pub HasBytes : Type 0

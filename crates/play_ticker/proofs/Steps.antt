@@ -1,5 +1,5 @@
 -- What a pass knows, pulse by pulse and at the end.
-use Rattle.std.proofs.Common.{◌≡◌, ℕ, ◌+◌, ◌≤◌, ◌||◌, Bool, true, false, if◌then◌else◌, Option, Some, None, option_map, List, [], ◌∷◌, ◌++◌, length, refl, sym, ap, subst, ◌∙◌, inl, inr, ⊎_elim, arith, length-append, append-nil}
+use Rattle.std.proofs.Common.{◌≡◌, ℕ, ◌+◌, ◌≤◌, ◌||◌, Bool, true, false, if◌then◌else◌, Option, Some, None, option_map, List, [], ◌∷◌, ◌++◌, length, refl, sym, ap, subst, ◌∙◌, inl, inr, ⊎_elim, arith, length-append, append-nil, append_assoc, take}
 use Rattle.std.proofs.lemmas.List.{take_at}
 use mathlib.Core.List.{IsPrefix}
 use Rattle.play_types.specs.History.{stop_at, ticks}
@@ -20,9 +20,9 @@ use Rattle.play_ticker.specs.inner.Loop.{IsAtEnd, IsKnown, MadeTicks, Stops, Sto
 use Rattle.play_ticker.specs.inner.Staging.{MakesTick}
 use Rattle.play_ticker.specs.declared.ending.TickEnd.{TickEnd}
 use Rattle.play_ticker.specs.declared.ending.TickEnd.TheVariants.{ClockClosed, Ended, TicksOver, ClockFault, OutFault}
-use Rattle.play_ticker.proofs.Frames.{GoesOn, goes_on, goes_on_by_stop, goes_on-trans, positions_count, ticks_are_own, tick_positions-quiet, tick_positions-tick, ticks-quiet}
+use Rattle.play_ticker.proofs.Frames.{GoesOn, goes_on, goes_on_by_stop, goes_on-trans, positions_count, ticks_are_own, tick_positions-quiet, tick_positions-tick, ticks-quiet, ticks-since}
 
--- a history that was found knows what the pass had made
+-- a history that was found has what the pass had made
 pub found_known : (pass : PassView) (history : List Event) → IsFound pass history → IsKnown pass
 found_known pass history found = found.made_seen
 
@@ -51,13 +51,14 @@ added_tick pass history first =
       ends = no_end pass.ends i;
     }
 
--- what is told of pass 0 after a tick of its own
-pub made_tick : (old new : PassView) (h : MakesTick old new) → old.number ≡ 0 → MadeTicks old → MadeTicks new
-made_tick old new h first was =
+-- what holds of pass 0 after a tick of its own
+pub made_tick : (given : List Event) (old new : PassView) (h : MakesTick given old new) → old.number ≡ 0 → MadeTicks given old → MadeTicks given new
+made_tick given old new h first was =
     let is : new ≡ ticked h.history old = h.after ∙ added_tick old h.history first in
     let on : GoesOn old.seen h.history = found_goes_on old h.history first h.found in
-    let more : ticks (h.history ++ Tick ∷ []) ≤ MAX_TICKS = omega (arith, h.time, ticks-append h.history (Tick ∷ [])) in
-    subst MadeTicks (sym is) (record {
+    let more : ticks (given ++ (h.history ++ Tick ∷ [])) ≤ MAX_TICKS =
+    omega (arith, h.time, ticks-append given h.history, ticks-append given (h.history ++ Tick ∷ []), ticks-append h.history (Tick ∷ [])) in
+    subst (MadeTicks given) (sym is) (record {
       made = ap (λ (l : List ℕ). l ++ length h.history ∷ []) (was.made ∙ sym (tick_positions-quiet old.seen h.history on)) ∙ sym (tick_positions-tick h.history);
       few = more;
     })
@@ -72,11 +73,11 @@ none_made pass first none known =
 pub from_nothing : (history : List Event) → ticks history ≡ 0 → GoesOn [] history
 from_nothing history none = record { rest = history; whole = refl; quiet = none }
 
-pub made_none : (pass : PassView) → pass.number ≡ 0 → pass.made ≡ [] → IsKnown pass → MadeTicks pass
-made_none pass first none known =
+pub made_none : (given : List Event) (pass : PassView) → ticks given ≤ MAX_TICKS → pass.number ≡ 0 → pass.made ≡ [] → IsKnown pass → MadeTicks given pass
+made_none given pass few first none known =
     let quiet : ticks pass.seen ≡ 0 = none_made pass first none known in record {
       made = none ∙ sym (tick_positions-quiet [] pass.seen (from_nothing pass.seen quiet));
-      few = omega (arith, quiet);
+      few = omega (arith, few, quiet, ticks-append given pass.seen);
     }
 
 -- one pulse more
@@ -102,23 +103,25 @@ or_true : (b : Bool) → (b || true) ≡ true
 or_true true = refl
 or_true false = refl
 
--- pass 0 after it asked for the stop: it has seen no tick more, and holds a stop
-pub record Stopped (old new : PassView) : Type 0 where
+-- pass 0 after it asked for the stop: it has seen no more ticks, and has seen a stop
+pub record Stopped (given : List Event) (old new : PassView) : Type 0 where
   pub known : IsKnown old
   pub on : GoesOn old.seen new.seen
   pub seen : IsPrefix old.seen new.seen
   pub made : new.made ≡ old.made
   pub turns : new.turns ≡ old.turns + 1
   pub first : new.number ≡ old.number
-  pub stops : (base : PassView) → old.ends ≡ base.ends → StopsStage base new
+  pub stops : (base : PassView) → old.ends ≡ base.ends → StopsStage given base new
 
-made_stop : (old new : PassView) → old.number ≡ 0 → Adds old (Stop server) (λ history. stop_at history ≡ None) new → Stopped old new
-made_stop old new first h =
+made_stop : (given : List Event) (old new : PassView) → old.number ≡ 0 → Adds old (Stop server) (λ history. stop_at (given ++ history) ≡ None) new → Stopped given old new
+made_stop given old new first h =
     let history : List Event = h.history in
     let now : PassView = added old history (Stop server) in
     let found : GoesOn old.seen history = found_goes_on old history first h.found in
     let longer : IsPrefix history (history ++ Stop server ∷ []) = (Stop server ∷ [], refl) in
-    let all : Stopped old now = record {
+    let whole : List Event = given ++ history in
+    let grown : whole ++ Stop server ∷ [] ≡ given ++ (history ++ Stop server ∷ []) = append_assoc given history (Stop server ∷ []) in
+    let all : Stopped given old now = record {
       known = h.found.made_seen;
       on = goes_on-trans old.seen history (history ++ Stop server ∷ []) found (goes_on_by_stop history (Stop server) refl);
       seen = prefix_trans old.seen history (history ++ Stop server ∷ []) h.found.seen longer;
@@ -126,19 +129,20 @@ made_stop old new first h =
       turns = refl;
       first = refl;
       stops = λ base same. record {
-        at = length history;
-        stopped = stop_at-more history server h.told;
+        at = length whole;
+        stopped = ap stop_at (sym grown) ∙ stop_at-more whole server h.told;
         by = inl (record {
           ends = or_true old.ends;
-          last = ap (λ (l : List Event). l ++ Stop server ∷ []) (sym (take_at history (Stop server ∷ []) (length history) refl));
+          last = sym grown ∙ ap (λ (l : List Event). l ++ Stop server ∷ [])
+              (sym (take_at whole (Stop server ∷ []) (length whole) refl) ∙ ap (take (length whole)) grown);
         });
       };
     } in
-    subst (Stopped old) (sym h.after) all
+    subst (Stopped given old) (sym h.after) all
 
-found_stop : (old new : PassView) (at : ℕ) → old.number ≡ 0 → Looks old (λ history. stop_at history ≡ Some at) new → Stopped old new
-found_stop old new at first h =
-    let all : Stopped old (looked old h.history) = record {
+found_stop : (given : List Event) (old new : PassView) (at : ℕ) → old.number ≡ 0 → Looks old (λ history. stop_at (given ++ history) ≡ Some at) new → Stopped given old new
+found_stop given old new at first h =
+    let all : Stopped given old (looked old h.history) = record {
       known = h.found.made_seen;
       on = found_goes_on old h.history first h.found;
       seen = h.found.seen;
@@ -147,10 +151,12 @@ found_stop old new at first h =
       first = refl;
       stops = λ base same. record { at = at; stopped = h.told; by = inr same };
     } in
-    subst (Stopped old) (sym h.after) all
+    subst (Stopped given old) (sym h.after) all
 
-pub stopped : (old new : PassView) → old.number ≡ 0 → Stops old new → Stopped old new
-stopped old new first h = ⊎_elim (made_stop old new first) (λ (found : (at : ℕ) × Looks old (λ history. stop_at history ≡ Some at) new). found_stop old new found.0 first found.1) h
+pub stopped : (given : List Event) (old new : PassView) → old.number ≡ 0 → Stops given old new → Stopped given old new
+stopped given old new first h =
+    ⊎_elim (made_stop given old new first)
+    (λ (found : (at : ℕ) × Looks old (λ history. stop_at (given ++ history) ≡ Some at) new). found_stop given old new found.0 first found.1) h
 
 -- pass 0 after its stop by the end
 pub record Finished (end : TickEnd) (old new : PassView) : Type 0 where
@@ -161,8 +167,8 @@ pub record Finished (end : TickEnd) (old new : PassView) : Type 0 where
   pub turns : new.turns ≡ old.turns + stops_asked end
   pub first : new.number ≡ old.number
 
-finished_stop : (end : TickEnd) (old new : PassView) → stops_asked end ≡ 1 → Stopped old new → Finished end old new
-finished_stop end old new one h = record {
+finished_stop : (given : List Event) (end : TickEnd) (old new : PassView) → stops_asked end ≡ 1 → Stopped given old new → Finished end old new
+finished_stop given end old new one h = record {
   known = h.known;
   on = h.on;
   seen = h.seen;
@@ -171,9 +177,9 @@ finished_stop end old new one h = record {
   first = h.first;
 }
 
-pub finished : (end : TickEnd) (old new : PassView) → old.number ≡ 0 → IsAtEnd end old → StopsAt end old new → Finished end old new
-finished ClockClosed old new first at h = finished_stop ClockClosed old new refl (stopped old new first h)
-finished (Ended n) old new first at h =
+pub finished : (given : List Event) (end : TickEnd) (old new : PassView) → old.number ≡ 0 → IsAtEnd given end old → StopsAt given end old new → Finished end old new
+finished given ClockClosed old new first at h = finished_stop given ClockClosed old new refl (stopped given old new first h)
+finished given (Ended n) old new first at h =
     let same : Finished (Ended n) old old = record {
       known = at.1;
       on = record { rest = []; whole = append-nil old.seen; quiet = refl };
@@ -183,30 +189,30 @@ finished (Ended n) old new first at h =
       first = refl;
     } in
     subst (Finished (Ended n) old) (sym h) same
-finished TicksOver old new first at h = finished_stop TicksOver old new refl (stopped old new first h)
-finished ClockFault old new first at h = finished_stop ClockFault old new refl (stopped old new first h)
-finished (OutFault channel) old new first at h = finished_stop (OutFault channel) old new refl (stopped old new first h)
+finished given TicksOver old new first at h = finished_stop given TicksOver old new refl (stopped given old new first h)
+finished given ClockFault old new first at h = finished_stop given ClockFault old new refl (stopped given old new first h)
+finished given (OutFault channel) old new first at h = finished_stop given (OutFault channel) old new refl (stopped given old new first h)
 
--- what is told of pass 0 at the end, if `base` is the pass before all pulses
-pub ends_pass : (end : TickEnd) (base old new : PassView) → old.number ≡ 0 → old.ends ≡ base.ends → (IsKnown old → MadeTicks old) → IsAtEnd end old → StopsAt end old new
-    → EndsPass end base new
-ends_pass ClockClosed base old new first same ticked at h = (stopped old new first h).stops base same
-ends_pass (Ended n) base old new first same ticked at h =
-    (ap (λ (p : PassView). stop_at p.seen) h ∙ at.0, ap (λ (p : PassView). p.ends) h ∙ same)
-ends_pass TicksOver base old new first same ticked at h =
-    let s : Stopped old new = stopped old new first h in
-    let count : ticks new.seen ≡ ticks old.seen = ticks-quiet old.seen new.seen s.on in
-    let few : ticks old.seen ≤ MAX_TICKS = (ticked s.known).few in
+-- what holds of pass 0 at the end, if `base` is the pass before all pulses
+pub ends_pass : (given : List Event) (end : TickEnd) (base old new : PassView) → old.number ≡ 0 → old.ends ≡ base.ends → (IsKnown old → MadeTicks given old) → IsAtEnd given end old → StopsAt given end old new
+    → EndsPass given end base new
+ends_pass given ClockClosed base old new first same ticked at h = (stopped given old new first h).stops base same
+ends_pass given (Ended n) base old new first same ticked at h =
+    (ap (λ (p : PassView). stop_at (given ++ p.seen)) h ∙ at.0, ap (λ (p : PassView). p.ends) h ∙ same)
+ends_pass given TicksOver base old new first same ticked at h =
+    let s : Stopped given old new = stopped given old new first h in
+    let count : ticks (given ++ new.seen) ≡ ticks (given ++ old.seen) = ticks-since given old.seen new.seen s.on in
+    let few : ticks (given ++ old.seen) ≤ MAX_TICKS = (ticked s.known).few in
     (s.stops base same, omega (arith, count, few, at))
-ends_pass ClockFault base old new first same ticked at h = (stopped old new first h).stops base same
-ends_pass (OutFault channel) base old new first same ticked at h = (stopped old new first h).stops base same
+ends_pass given ClockFault base old new first same ticked at h = (stopped given old new first h).stops base same
+ends_pass given (OutFault channel) base old new first same ticked at h = (stopped given old new first h).stops base same
 
 -- the ticks that pass 0 has made are those that it has seen at the end
-pub all_made : (end : TickEnd) (old new : PassView) → Finished end old new → MadeTicks old → new.made ≡ tick_positions new.seen
-all_made end old new h was = h.made ∙ was.made ∙ sym (tick_positions-quiet old.seen new.seen h.on)
+pub all_made : (given : List Event) (end : TickEnd) (old new : PassView) → Finished end old new → MadeTicks given old → new.made ≡ tick_positions new.seen
+all_made given end old new h was = h.made ∙ was.made ∙ sym (tick_positions-quiet old.seen new.seen h.on)
 
-pub all_counted : (end : TickEnd) (old new : PassView) → Finished end old new → MadeTicks old → length old.made ≡ ticks new.seen
-all_counted end old new h was = ap length was.made ∙ positions_count 0 old.seen ∙ sym (ticks-quiet old.seen new.seen h.on)
+pub all_counted : (given : List Event) (end : TickEnd) (old new : PassView) → Finished end old new → MadeTicks given old → length old.made ≡ ticks new.seen
+all_counted given end old new h was = ap length was.made ∙ positions_count 0 old.seen ∙ sym (ticks-quiet old.seen new.seen h.on)
 
 -- pass 0 after it made one tick for each pulse
 pub record Goes (base pass : PassView) : Type 0 where
@@ -223,8 +229,8 @@ goes_first pass first none = record {
   ends = refl;
 }
 
-pub goes_tick : (base old new : PassView) → MakesTick old new → Goes base old → Goes base new
-goes_tick base old new h was =
+pub goes_tick : (given : List Event) (base old new : PassView) → MakesTick given old new → Goes base old → Goes base new
+goes_tick given base old new h was =
     let is : new ≡ ticked h.history old = h.after ∙ added_tick old h.history was.first in
     let many = length-append old.made (length h.history ∷ []) in
     let longer : IsPrefix h.history (h.history ++ Tick ∷ []) = (Tick ∷ [], refl) in
@@ -237,12 +243,12 @@ goes_tick base old new h was =
     subst (Goes base) (sym is) all
 
 -- one tick more was made
-pub made_more : (old new : PassView) (h : MakesTick old new) → old.number ≡ 0 → length new.made ≡ length old.made + 1
-made_more old new h first =
+pub made_more : (given : List Event) (old new : PassView) (h : MakesTick given old new) → old.number ≡ 0 → length new.made ≡ length old.made + 1
+made_more given old new h first =
     let is : new ≡ ticked h.history old = h.after ∙ added_tick old h.history first in
     omega (arith, ap (λ (p : PassView). length p.made) is, length-append old.made (length h.history ∷ []))
 
--- a pass that looked has made what it had made
+-- a check of the stage adds nothing to what a pass has made
 pub goes_looked : (base old new : PassView) (IsTold : List Event → Type 0) → Looks old IsTold new → Goes base old → (new.number ≡ 0) × IsPrefix base.seen new.seen × (new.made ≡ old.made) × (new.turns ≡ base.turns + (length new.made + 1)) × (new.ends ≡ base.ends)
 goes_looked base old new IsTold h was =
     let Is : PassView → Type 0 = λ p. (p.number ≡ 0) × IsPrefix base.seen p.seen × (p.made ≡ old.made) × (p.turns ≡ base.turns + (length p.made + 1)) × (p.ends ≡ base.ends) in

@@ -7,11 +7,10 @@ use Rattle.play_types.specs.declared.event.Event.TheVariants.{Tick}
 use Rattle.play_outside.specs.SinkState.{SinkState, after_taking}
 use Rattle.play_outside.specs.Sink.{Fails}
 use Rattle.play_outside.proofs.Taking.{after_taking-after_taking, after_taking-nil}
-use Rattle.history_model.specs.pictures.Media.{Setup}
-use Rattle.play_ticker.specs.Frames.{frames_text, raw_frame, tick_positions}
-use Rattle.play_ticker.specs.Outputs.{AllTakeFrames, EachOutput, IsCutAt, TakesFrames}
+use Rattle.play_ticker.specs.Frames.{frames_since, raw_frame, tick_positions}
+use Rattle.play_ticker.specs.Outputs.{AllTakeFrames, Beginning, EachOutput, IsCutAt, TakesFrames, shown_from}
 use Rattle.play_ticker.specs.inner.Writing.{FailsAt}
-use Rattle.play_ticker.proofs.Frames.{GoesOn, frames_text-none, frames_text-quiet, frames_text-tick, positions_count}
+use Rattle.play_ticker.proofs.Frames.{GoesOn, frames_since-none, frames_since-quiet, frames_since-tick, positions_count}
 
 -- what holds of each output as it is
 pub each_same : {O : Type 0} (P : ℕ → O → O → Type 0) (k : ℕ) (xs : List O) → ((channel : ℕ) (x : O) → k ≤ channel → P channel x x) → EachOutput P k xs xs
@@ -66,7 +65,7 @@ pub record TakesBelow (at : ℕ) (bytes : ℕ → List ℕ) (channel : ℕ) (old
   pub below : channel ≤ at → new ≡ after_taking old (bytes channel)
   pub others : at < channel → new ≡ old
 
--- so it is for each output
+-- each output up to `at` took its bytes, and the others took nothing
 abbrev pub AllBelow : {O : Type 0} → (O → SinkState) → (ℕ → List ℕ) → ℕ → List O → List O → Type 0
 AllBelow state bytes at olds news = EachOutput (λ channel old new. TakesBelow at bytes channel (state old) (state new)) 1 olds news
 
@@ -143,42 +142,43 @@ each_length P k (x ∷ xs) [] p = absurd p
 each_length P k (x ∷ xs) (y ∷ ys) p = omega (arith, each_length P (suc k) xs ys p.1)
 
 -- an output that took the frames of a history, and then one frame more
-pub taken_tick : (setup : Setup) (history : List Event) (channel : ℕ) (bytes : List ℕ) (old mid new : SinkState) → bytes ≡ raw_frame setup history channel
-    → TakesFrames (record { setup = setup; history = history }) channel old mid → new ≡ after_taking mid bytes
-    → TakesFrames (record { setup = setup; history = history ++ Tick ∷ [] }) channel old new
-taken_tick setup history channel bytes old mid new frame before now =
-    let text : frames_text setup history channel ++ bytes ≡ frames_text setup (history ++ Tick ∷ []) channel =
-    ap (λ (b : List ℕ). frames_text setup history channel ++ b) frame ∙ sym (frames_text-tick setup channel history) in
-    now ∙ ap (λ (s : SinkState). after_taking s bytes) before ∙ after_taking-after_taking old (frames_text setup history channel) bytes ∙ ap (after_taking old) text
+pub taken_tick : (begin : Beginning) (history : List Event) (channel : ℕ) (bytes : List ℕ) (old mid new : SinkState) → bytes ≡ raw_frame begin.setup (begin.given ++ history) channel
+    → TakesFrames (shown_from begin history) channel old mid → new ≡ after_taking mid bytes
+    → TakesFrames (shown_from begin (history ++ Tick ∷ [])) channel old new
+taken_tick begin history channel bytes old mid new frame before now =
+    let frames : List Event → List ℕ = λ events. frames_since begin.setup begin.given events channel in
+    let text : frames history ++ bytes ≡ frames (history ++ Tick ∷ []) =
+    ap (λ (b : List ℕ). frames history ++ b) frame ∙ sym (frames_since-tick begin.setup begin.given channel history) in
+    now ∙ ap (λ (s : SinkState). after_taking s bytes) before ∙ after_taking-after_taking old (frames history) bytes ∙ ap (after_taking old) text
 
 -- an output that took the frames of a history, when one of the outputs then failed
-pub cut_tick : (setup : Setup) (history : List Event) (failed channel : ℕ) (bytes : ℕ → List ℕ) (old mid new : SinkState) → bytes channel ≡ raw_frame setup history channel
-    → TakesFrames (record { setup = setup; history = history }) channel old mid → FailsAt failed bytes channel mid new
-    → IsCutAt failed (record { setup = setup; history = history }) channel old new
-cut_tick setup history failed channel bytes old mid new frame before now = record {
-  below = λ lt. taken_tick setup history channel (bytes channel) old mid new frame before (now.below lt);
-  failing = λ same. subst (λ (s : SinkState). Fails (raw_frame setup history channel) s new) before
+pub cut_tick : (begin : Beginning) (history : List Event) (failed channel : ℕ) (bytes : ℕ → List ℕ) (old mid new : SinkState) → bytes channel ≡ raw_frame begin.setup (begin.given ++ history) channel
+    → TakesFrames (shown_from begin history) channel old mid → FailsAt failed bytes channel mid new
+    → IsCutAt failed (shown_from begin history) channel old new
+cut_tick begin history failed channel bytes old mid new frame before now = record {
+  below = λ lt. taken_tick begin history channel (bytes channel) old mid new frame before (now.below lt);
+  failing = λ same. subst (λ (s : SinkState). Fails (raw_frame begin.setup (begin.given ++ history) channel) s new) before
       (subst (λ (b : List ℕ). Fails b mid new) frame (now.failing same));
   above = λ lt. now.above lt ∙ before;
 }
 
 -- the frames of a history that goes on without a tick
-pub still_taken : {O : Type 0} (state : O → SinkState) (setup : Setup) (seen history : List Event) (xs ys : List O) → GoesOn seen history
-    → AllTakeFrames state (record { setup = setup; history = seen }) xs ys → AllTakeFrames state (record { setup = setup; history = history }) xs ys
-still_taken state setup seen history xs ys on is =
+pub still_taken : {O : Type 0} (state : O → SinkState) (begin : Beginning) (seen history : List Event) (xs ys : List O) → GoesOn seen history
+    → AllTakeFrames state (shown_from begin seen) xs ys → AllTakeFrames state (shown_from begin history) xs ys
+still_taken state begin seen history xs ys on is =
     each_map
-    (λ channel old new. TakesFrames (record { setup = setup; history = seen }) channel (state old) (state new))
-    (λ channel old new. TakesFrames (record { setup = setup; history = history }) channel (state old) (state new))
+    (λ channel old new. TakesFrames (shown_from begin seen) channel (state old) (state new))
+    (λ channel old new. TakesFrames (shown_from begin history) channel (state old) (state new))
     1 xs ys
-    (λ channel x y le lt h. h ∙ ap (after_taking (state x)) (sym (frames_text-quiet setup channel seen history on)))
+    (λ channel x y le lt h. h ∙ ap (after_taking (state x)) (sym (frames_since-quiet begin.setup begin.given channel seen history on)))
     is
 
 -- before the first tick
-pub outs_first : {O : Type 0} (state : O → SinkState) (setup : Setup) (seen : List Event) (xs : List O) → ticks seen ≡ 0
-    → AllTakeFrames state (record { setup = setup; history = seen }) xs xs
-outs_first state setup seen xs quiet =
-    each_same (λ channel old new. TakesFrames (record { setup = setup; history = seen }) channel (state old) (state new)) 1 xs
-    (λ channel x le. sym (ap (after_taking (state x)) (frames_text-none setup channel seen (no_positions seen quiet)) ∙ after_taking-nil (state x)))
+pub outs_first : {O : Type 0} (state : O → SinkState) (begin : Beginning) (seen : List Event) (xs : List O) → ticks seen ≡ 0
+    → AllTakeFrames state (shown_from begin seen) xs xs
+outs_first state begin seen xs quiet =
+    each_same (λ channel old new. TakesFrames (shown_from begin seen) channel (state old) (state new)) 1 xs
+    (λ channel x le. sym (ap (after_taking (state x)) (frames_since-none begin.setup begin.given channel seen (no_positions seen quiet)) ∙ after_taking-nil (state x)))
   where
     no_positions : (seen : List Event) → ticks seen ≡ 0 → tick_positions seen ≡ []
     no_positions seen quiet = nil_from_length (tick_positions seen) (positions_count 0 seen ∙ quiet)

@@ -1,7 +1,8 @@
--- How the ticks end: the pulses that were taken, the looks at the stage, and who stopped it.
-use Rattle.std.specs.Prelude.{◌≡◌, ℕ, ◌+◌, ◌⊎◌, true, Some, [], ◌∷◌, ◌++◌, take, option_map}
+-- How the ticks end: the pulses that were taken, the turns at the stage, and who stopped it.
+use Rattle.std.specs.Prelude.{◌≡◌, ℕ, ◌+◌, ◌⊎◌, true, Some, List, [], ◌∷◌, ◌++◌, take, option_map}
 use Rattle.play_types.specs.History.{stop_at, ticks}
 use Rattle.play_types.specs.Scene.{IsConfigured}
+use Rattle.play_types.specs.declared.event.Event.{Event}
 use Rattle.play_types.specs.declared.event.Event.TheVariants.{Stop}
 use Rattle.play_types.specs.declared.event.TheConstants.{MAX_TICKS}
 use Rattle.play_outside.specs.ClockState.{ClockState, ClockTold, after_clock_closed, after_clock_fault}
@@ -12,7 +13,7 @@ use Rattle.stage_lock.specs.Views.{PassView}
 use Rattle.play_ticker.specs.declared.ending.TickEnd.{TickEnd}
 use Rattle.play_ticker.specs.declared.ending.TickEnd.TheVariants.{ClockClosed, Ended, TicksOver, ClockFault, OutFault}
 
--- the end that a tick's fault gives
+-- the end that the fault of a tick gives
 abbrev pub end_of : TickFault → TickEnd
 end_of (fault.Ended at) = Ended at
 end_of fault.TicksOver = TicksOver
@@ -25,11 +26,11 @@ pulses_taken TicksOver made = made + 1
 pulses_taken ClockFault made = made
 pulses_taken (OutFault channel) made = made
 
--- what is told after this number of pulses more
+-- the record after `count` more pulses
 abbrev pub more_pulses : ℕ → ClockTold → ClockTold
 more_pulses count told = record told { pulses = told.pulses + count }
 
--- the clock after it gave this number of pulses more
+-- the clock after it gave `count` more pulses
 abbrev pub after_pulses : ℕ → ClockState → ClockState
 after_pulses count state = record state { told = option_map (more_pulses count) state.told }
 
@@ -57,27 +58,27 @@ stops_asked (OutFault channel) = 1
 abbrev pub turns_won : TickEnd → ℕ → ℕ
 turns_won end made = pulses_taken end made + stops_asked end
 
--- a pass made the stop of tag 0.0, at this position, as the last event that it has seen
-pub record MakesStop (at : ℕ) (pass : PassView) : Type 0 where
+-- a pass made the stop of tag 0.0, at this position, as the last of the given events and those that it has seen
+pub record MakesStop (given : List Event) (at : ℕ) (pass : PassView) : Type 0 where
   pub ends : pass.ends ≡ true
-  pub last : pass.seen ≡ take at pass.seen ++ Stop server ∷ []
+  pub last : given ++ pass.seen ≡ take at (given ++ pass.seen) ++ Stop server ∷ []
 
--- a pass has seen a stop, at this position: it made that of tag 0.0, or it found one
-pub record StopsStage (old new : PassView) : Type 0 where
+-- among the given events and those that a pass has seen is a stop, at this position: it made that of tag 0.0, or it found one
+pub record StopsStage (given : List Event) (old new : PassView) : Type 0 where
   pub at : ℕ
-  pub stopped : stop_at new.seen ≡ Some at
-  pub by : MakesStop at new ⊎ (new.ends ≡ old.ends)
+  pub stopped : stop_at (given ++ new.seen) ≡ Some at
+  pub by : MakesStop given at new ⊎ (new.ends ≡ old.ends)
 
--- what a pass has seen and made, by what was met
-abbrev pub EndsPass : TickEnd → PassView → PassView → Type 0
-EndsPass ClockClosed old new = StopsStage old new
-EndsPass (Ended at) old new = (stop_at new.seen ≡ Some at) × (new.ends ≡ old.ends)
-EndsPass TicksOver old new = StopsStage old new × (ticks new.seen ≡ MAX_TICKS)
-EndsPass ClockFault old new = StopsStage old new
-EndsPass (OutFault channel) old new = StopsStage old new
+-- what a pass has seen after the given events, and whether it made a stop, by the end that was met
+abbrev pub EndsPass : List Event → TickEnd → PassView → PassView → Type 0
+EndsPass given ClockClosed old new = StopsStage given old new
+EndsPass given (Ended at) old new = (stop_at (given ++ new.seen) ≡ Some at) × (new.ends ≡ old.ends)
+EndsPass given TicksOver old new = StopsStage given old new × (ticks (given ++ new.seen) ≡ MAX_TICKS)
+EndsPass given ClockFault old new = StopsStage given old new
+EndsPass given (OutFault channel) old new = StopsStage given old new
 
--- what the side that makes ticks has met, by how the ticks ended: just that, unless an output failed. It is `OutFault` if it was told of
--- the output before anything else
+-- what the side that makes ticks has met, by how the ticks ended: exactly that, unless the output of a channel failed. Then it
+-- has met the report of that, or another end before it
 abbrev pub Meets : ℕ → TickEnd → TickEnd → Type 0
 Meets channels ClockClosed met = met ≡ ClockClosed
 Meets channels (Ended at) met = met ≡ Ended at
@@ -90,11 +91,11 @@ pub record Ticking : Type 0 where
   pub pass : PassView
   pub clock : ClockState
 
--- the ticks have ended so: what the side that makes them has met, and by it the pulses that were taken, the looks at the stage, and who
--- stopped it
-pub record HasEnded (end : TickEnd) (old new : Ticking) : Type 0 where
+-- how the ticks after the given events ended: what the side that makes them has met, and by it the pulses that were taken, the turns at
+-- the stage, and who stopped it
+pub record HasEnded (given : List Event) (end : TickEnd) (old new : Ticking) : Type 0 where
   pub met : TickEnd
   pub meets : Meets new.pass.stage.sizes.channels end met
   pub clock : new.clock ≡ clock_at_end met (ticks new.pass.seen) old.clock
   pub turns : new.pass.turns ≡ old.pass.turns + turns_won met (ticks new.pass.seen)
-  pub pass : EndsPass met old.pass new.pass
+  pub pass : EndsPass given met old.pass new.pass

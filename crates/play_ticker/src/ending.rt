@@ -7,9 +7,9 @@ use stage_core::TickFault;
 pub enum TickEnd {
     /// The clock gives no more pulses.
     ClockClosed,
-    /// A pulse found that the history was stopped: `at` events come before the stop.
+    /// At a pulse the history had a stop: `at` events come before it.
     Ended { at: u64 },
-    /// A pulse found that the history has as many ticks as it may have.
+    /// At a pulse the history had the maximum number of ticks.
     TicksOver,
     /// The clock failed.
     ClockFault,

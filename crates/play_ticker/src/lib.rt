@@ -1,10 +1,10 @@
 //! The ticks of a server: pulses become ticks, and ticks become frames at the outputs.
 //!
 //! [`tick_all`] takes the pulses of a clock. For each it makes one tick of a shared stage, and another thread renders what the
-//! stage shows at it, and writes the frame and the sound of each channel to the output of the channel, so that an output that is slow
-//! keeps no pulse from becoming a tick. Its contract says that the outputs then have the frames of exactly the ticks of the
-//! history, as the definitions give them, and why the pulses have ended. It takes no memory. A [`Ticker`] does the same with
-//! the stage and the clips that it holds.
+//! stage shows at the tick, and writes the frame and the sound of each channel to the output of the channel, so that a slow output
+//! delays a tick only while all scenes of the pipe are in use. Its contract states that the outputs then have the frames of exactly the
+//! ticks of the history, as the definitions give them, and why the ticks have ended. [`Ticker::run`] does this with the stage and the
+//! clips that the ticker holds.
 #![tactic(auto)]
 
 mod ending;

@@ -1,5 +1,7 @@
 //! The side that makes ticks.
 ghost use Rattle.std.specs.Prelude.{◌≡◌, ◌≤◌, [], length};
+ghost use Rattle.play_types.specs.History.{ticks};
+ghost use Rattle.play_types.specs.declared.event.TheConstants.{MAX_TICKS};
 ghost use Rattle.scene_pipe.specs.declared.pipe.TheConstants.{SETS};
 ghost use Rattle.play_ticker.specs.inner.Loop.{StopsAt};
 ghost use Rattle.play_ticker.specs.inner.Staging.{EndsStaging, HasStaged, MakesStep};
@@ -12,8 +14,8 @@ use stage_lock::Pass;
 use std::sync::Wait;
 
 impl Ticker<'_> {
-    /// Makes a tick for each pulse and sends its scenes, until no more ticks are made. Then it sends the end mark and stops the
-    /// stage, unless a tick found it stopped. It returns what it has met; that is `OutFault` if it was told that an output has failed.
+    /// Makes a tick for each pulse and sends its scenes, until the ticks end. Then it sends the end mark and stops the stage, unless a
+    /// tick found it stopped. It returns why the ticks ended; that is `OutFault` if it got a report that an output failed.
     pub(crate) fn stage_all<R: Wait, C: Clock>(
         &self,
         rt: &R,
@@ -24,12 +26,13 @@ impl Ticker<'_> {
         requires of { pass.old.stage ≡ self.now.stage.now }
         requires first { pass.old.number ≡ 0 }
         requires made { pass.old.made ≡ [] }
+        requires few { ticks self.now.stage.now.sizes.given ≤ MAX_TICKS }
         requires channels { pipe.old.channels ≡ self.now.stage.now.sizes.channels }
         requires sent { pipe.old.sent ≡ [] }
         requires returned { pipe.old.returned ≡ [] }
         requires held { length pipe.old.held ≤ SETS }
         ensures of { pass.new.stage ≡ self.now.stage.now }
-        ensures staged { HasStaged result (record { pass = pass.old; clock = C.state clock.old; pipe = pipe.old }) (record { pass = pass.new; clock = C.state clock.new; pipe = pipe.new }) }
+        ensures staged { HasStaged self.now.stage.now.sizes.given result (record { pass = pass.old; clock = C.state clock.old; pipe = pipe.old }) (record { pass = pass.new; clock = C.state clock.new; pipe = pipe.new }) }
     {
         let end = self.stage_ticks(rt, pass, pipe, clock);
         pipe.finish(rt);
@@ -37,7 +40,7 @@ impl Ticker<'_> {
         end
     }
 
-    /// Makes a tick for each pulse and sends its scenes, until no more ticks are made, and returns why.
+    /// Makes a tick for each pulse and sends its scenes, until the ticks end, and returns why they ended.
     fn stage_ticks<R: Wait, C: Clock>(
         &self,
         rt: &R,
@@ -48,12 +51,13 @@ impl Ticker<'_> {
         requires of { pass.old.stage ≡ self.now.stage.now }
         requires first { pass.old.number ≡ 0 }
         requires made { pass.old.made ≡ [] }
+        requires few { ticks self.now.stage.now.sizes.given ≤ MAX_TICKS }
         requires channels { pipe.old.channels ≡ self.now.stage.now.sizes.channels }
         requires sent { pipe.old.sent ≡ [] }
         requires returned { pipe.old.returned ≡ [] }
         requires held { length pipe.old.held ≤ SETS }
         ensures of { pass.new.stage ≡ self.now.stage.now }
-        ensures staged { EndsStaging result (record { pass = pass.old; clock = C.state clock.old; pipe = pipe.old }) (record { pass = pass.new; clock = C.state clock.new; pipe = pipe.new }) }
+        ensures staged { EndsStaging self.now.stage.now.sizes.given result (record { pass = pass.old; clock = C.state clock.old; pipe = pipe.old }) (record { pass = pass.new; clock = C.state clock.new; pipe = pipe.new }) }
     {
         for _ in rt.forever() {
             match self.stage_tick(rt, pass, pipe, clock) {
@@ -64,8 +68,8 @@ impl Ticker<'_> {
         unreachable!()
     }
 
-    /// Gets scenes to fill, then takes a pulse, and then makes a tick, sends its scenes, and tells the clock how many commands the history
-    /// holds. The stage is free for other threads once the tick is made.
+    /// Gets scenes to fill, then takes a pulse, and then makes a tick, sends its scenes, and reports to the clock how many commands the
+    /// history holds. The stage is free for other threads once the tick is made.
     fn stage_tick<R: Wait, C: Clock>(
         &self,
         rt: &R,
@@ -77,7 +81,7 @@ impl Ticker<'_> {
         requires first { pass.old.number ≡ 0 }
         requires channels { pipe.old.channels ≡ self.now.stage.now.sizes.channels }
         ensures of { pass.new.stage ≡ self.now.stage.now }
-        ensures step { MakesStep result (record { pass = pass.old; clock = C.state clock.old; pipe = pipe.old }) (record { pass = pass.new; clock = C.state clock.new; pipe = pipe.new }) }
+        ensures step { MakesStep self.now.stage.now.sizes.given result (record { pass = pass.old; clock = C.state clock.old; pipe = pipe.old }) (record { pass = pass.new; clock = C.state clock.new; pipe = pipe.new }) }
     {
         let mut scenes = match pipe.room(rt) {
             Room::Free(scenes) => scenes,
@@ -98,7 +102,7 @@ impl Ticker<'_> {
     fn stop<R: Wait>(&self, rt: &R, pass: &mut Pass, end: TickEnd)
         requires of { pass.old.stage ≡ self.now.stage.now }
         ensures of { pass.new.stage ≡ self.now.stage.now }
-        ensures stops { StopsAt end pass.old pass.new }
+        ensures stops { StopsAt self.now.stage.now.sizes.given end pass.old pass.new }
     {
         match end {
             TickEnd::Ended { .. } => {}

@@ -2,10 +2,12 @@
 ghost use Rattle.std.specs.Prelude.{◌≡◌, ◌≤◌, [], length, vec_len};
 ghost use Rattle.std.specs.Thread.{IsSync};
 ghost use mathlib.Core.List.{IsPrefix};
+ghost use Rattle.play_types.specs.History.{ticks};
+ghost use Rattle.play_types.specs.declared.event.TheConstants.{MAX_TICKS};
 ghost use Rattle.scene_pipe.specs.Calls.{AreNewEnds};
 ghost use Rattle.scene_pipe.specs.declared.pipe.TheConstants.{SETS};
 ghost use Rattle.play_ticker.specs.Ends.{HasEnded};
-ghost use Rattle.play_ticker.specs.Frames.{AreBlank, setup_for, tick_positions};
+ghost use Rattle.play_ticker.specs.Frames.{AreLast, setup_for, tick_positions};
 ghost use Rattle.play_ticker.specs.Outputs.{AreWritten};
 ghost use Rattle.play_ticker.specs.inner.Staging.{HasStaged};
 ghost use Rattle.play_ticker.specs.inner.Writing.{HasWritten};
@@ -19,7 +21,7 @@ use stage_lock::{Pass, SharedStage};
 use std::sync::Wait;
 use std::thread::{Threads, join_mut};
 
-/// What ticks are made of: the stage that is shared, and the clips.
+/// What ticks are made from: the shared stage, and the clips.
 #[derive(Clone, Copy)]
 pub struct Ticker<'a> {
     /// The stage whose ticks are made.
@@ -40,11 +42,13 @@ pub struct PipeEnds {
 /// Makes a tick of the stage for each pulse of the clock, and writes the frame and the sound of each channel at that tick to the
 /// output of the channel, channel 1 first, until the clock is closed or fails, a tick is refused, or an output fails.
 ///
-/// The pass is that of number 0, and has made nothing. The channels of the pipe, the frames of the renderer, which has rendered nothing, and
-/// the outputs are as many as the channels of the stage. Ticks are made by one thread, and rendered and written by another, and
-/// at most three ticks are made after one whose frame an output did not take. Other threads may use the stage meanwhile.
+/// The pass has number 0, and has made nothing. The pipe, the renderer and `outs` have as many channels, frames and outputs as the stage
+/// has channels. The frames are those of the last tick among the events that the stage was given, blank if there is none; they are not
+/// written again. The given events have at most the maximum number of ticks of a history. Ticks are made by one thread, and rendered and
+/// written by another, and at most three ticks are made after one whose frame an output did not take. Other threads may use the stage
+/// meanwhile.
 ///
-/// At each end but [`TickEnd::Ended`] it stops the stage with tag 0.0, unless another stop came first. It takes no memory.
+/// At each end but [`TickEnd::Ended`] it stops the stage with tag 0.0, unless another stop came first.
 pub fn tick_all<R: Threads + Wait + Sync, C: Clock, O: Sink + Send>(
     rt: &R,
     stage: &SharedStage,
@@ -60,14 +64,15 @@ pub fn tick_all<R: Threads + Wait + Sync, C: Clock, O: Sink + Send>(
     requires made { pass.old.made ≡ [] }
     requires pipe { pipe ≡ stage.now.sizes.channels }
     requires renderer { length renderer.old ≡ stage.now.sizes.channels }
-    requires blank { AreBlank renderer.old }
+    requires last { AreLast stage.now.sizes.given media.now renderer.old }
+    requires few { ticks stage.now.sizes.given ≤ MAX_TICKS }
     requires outs { vec_len outs.old ≡ stage.now.sizes.channels }
     ensures of { pass.new.stage ≡ stage.now }
     ensures first { pass.new.number ≡ 0 }
     ensures seen { IsPrefix pass.old.seen pass.new.seen }
     ensures made { pass.new.made ≡ tick_positions pass.new.seen }
-    ensures outs { AreWritten O.state result (record { setup = setup_for renderer.old media.now; history = pass.new.seen }) outs.old.items outs.new.items }
-    ensures ended { HasEnded result (record { pass = pass.old; clock = C.state clock.old }) (record { pass = pass.new; clock = C.state clock.new }) }
+    ensures outs { AreWritten O.state result (record { setup = setup_for renderer.old media.now; given = stage.now.sizes.given; history = pass.new.seen }) outs.old.items outs.new.items }
+    ensures ended { HasEnded stage.now.sizes.given result (record { pass = pass.old; clock = C.state clock.old }) (record { pass = pass.new; clock = C.state clock.new }) }
 {
     let ticker = Ticker { stage, media };
     let (stage_end, write_end) = pipe.split();
@@ -81,7 +86,7 @@ pub fn tick_all<R: Threads + Wait + Sync, C: Clock, O: Sink + Send>(
 impl Ticker<'_> {
     /// Makes a tick of the stage for each pulse of the clock, writes the frames to the outputs, and stops the stage.
     ///
-    /// It does what [`tick_all`] does with the stage and the clips of the ticker, and the ends of a new pipe.
+    /// It does what [`tick_all`] does, with the stage and the clips of the ticker, and with both ends of a new pipe.
     pub fn run<R: Threads + Wait + Sync, C: Clock, O: Sink + Send>(
         &self,
         rt: &R,
@@ -96,14 +101,15 @@ impl Ticker<'_> {
         requires made { pass.old.made ≡ [] }
         requires pipe { AreNewEnds self.now.stage.now.sizes.channels ends.old.stage_end ends.old.write_end }
         requires renderer { length renderer.old ≡ self.now.stage.now.sizes.channels }
-        requires blank { AreBlank renderer.old }
+        requires last { AreLast self.now.stage.now.sizes.given self.now.media.now renderer.old }
+        requires few { ticks self.now.stage.now.sizes.given ≤ MAX_TICKS }
         requires outs { vec_len outs.old ≡ self.now.stage.now.sizes.channels }
         ensures of { pass.new.stage ≡ self.now.stage.now }
         ensures first { pass.new.number ≡ 0 }
         ensures seen { IsPrefix pass.old.seen pass.new.seen }
         ensures made { pass.new.made ≡ tick_positions pass.new.seen }
-        ensures outs { AreWritten O.state result (record { setup = setup_for renderer.old self.now.media.now; history = pass.new.seen }) outs.old.items outs.new.items }
-        ensures ended { HasEnded result (record { pass = pass.old; clock = C.state clock.old }) (record { pass = pass.new; clock = C.state clock.new }) }
+        ensures outs { AreWritten O.state result (record { setup = setup_for renderer.old self.now.media.now; given = self.now.stage.now.sizes.given; history = pass.new.seen }) outs.old.items outs.new.items }
+        ensures ended { HasEnded self.now.stage.now.sizes.given result (record { pass = pass.old; clock = C.state clock.old }) (record { pass = pass.new; clock = C.state clock.new }) }
     {
         laws::free_scenes_before_the_news();
         let (failed, met) = self.run_sides(rt, pass, renderer, ends, clock, outs.as_mut_slice());
@@ -114,8 +120,8 @@ impl Ticker<'_> {
         }
     }
 
-    /// Runs the side that renders and writes in a thread of its own beside the side that makes ticks. It returns the channel whose output
-    /// failed, and what the side that makes ticks has met.
+    /// Runs the side that renders and writes beside the side that makes ticks. It returns the channel whose output failed, if one did, and
+    /// why the side that makes ticks ended.
     fn run_sides<R: Threads + Wait + Sync, C: Clock, O: Sink + Send>(
         &self,
         rt: &R,
@@ -130,12 +136,13 @@ impl Ticker<'_> {
         requires made { pass.old.made ≡ [] }
         requires pipe { AreNewEnds self.now.stage.now.sizes.channels ends.old.stage_end ends.old.write_end }
         requires renderer { length renderer.old ≡ self.now.stage.now.sizes.channels }
-        requires blank { AreBlank renderer.old }
+        requires last { AreLast self.now.stage.now.sizes.given self.now.media.now renderer.old }
+        requires few { ticks self.now.stage.now.sizes.given ≤ MAX_TICKS }
         requires outs { length outs.old ≡ self.now.stage.now.sizes.channels }
         ensures of { pass.new.stage ≡ self.now.stage.now }
-        ensures written { HasWritten O.state (setup_for renderer.old self.now.media.now) result.0
+        ensures written { HasWritten O.state (record { setup = setup_for renderer.old self.now.media.now; given = self.now.stage.now.sizes.given }) result.0
             (record { pipe = ends.old.write_end; frames = renderer.old; outs = outs.old }) (record { pipe = ends.new.write_end; frames = renderer.new; outs = outs.new }) }
-        ensures staged { HasStaged result.1 (record { pass = pass.old; clock = C.state clock.old; pipe = ends.old.stage_end }) (record { pass = pass.new; clock = C.state clock.new; pipe = ends.new.stage_end }) }
+        ensures staged { HasStaged self.now.stage.now.sizes.given result.1 (record { pass = pass.old; clock = C.state clock.old; pipe = ends.old.stage_end }) (record { pass = pass.new; clock = C.state clock.new; pipe = ends.new.stage_end }) }
     {
         let ticker = *self;
         let PipeEnds {
@@ -145,13 +152,13 @@ impl Ticker<'_> {
         join_mut(
             rt,
             &mut || -> Option<u8>
-                requires { IsSync R.row × (write_end.now.channels ≡ length renderer.now) × AreBlank renderer.now × (length outs.now ≡ length renderer.now) × (write_end.now.taken ≡ []) × (write_end.now.given ≡ []) }
-                ensures { HasWritten O.state (setup_for renderer.entry.now ticker.entry.media.now) result
+                requires { IsSync R.row × (write_end.now.channels ≡ length renderer.now) × AreLast ticker.stage.now.sizes.given ticker.media.now renderer.now × (length outs.now ≡ length renderer.now) × (write_end.now.taken ≡ []) × (write_end.now.given ≡ []) }
+                ensures { HasWritten O.state (record { setup = setup_for renderer.entry.now ticker.entry.media.now; given = ticker.entry.stage.now.sizes.given }) result
                     (record { pipe = write_end.entry.now; frames = renderer.entry.now; outs = outs.entry.now }) (record { pipe = write_end.exit.now; frames = renderer.exit.now; outs = outs.exit.now }) }
             { ticker.write_all(rt, renderer, write_end, outs) },
             &mut || -> TickEnd
-                requires { IsSync R.row × (pass.now.stage ≡ ticker.stage.now) × (pass.now.number ≡ 0) × (pass.now.made ≡ []) × (stage_end.now.channels ≡ ticker.stage.now.sizes.channels) × (stage_end.now.sent ≡ []) × (stage_end.now.returned ≡ []) × (length stage_end.now.held ≤ SETS) }
-                ensures { (pass.exit.now.stage ≡ ticker.entry.stage.now) × HasStaged result (record { pass = pass.entry.now; clock = C.state clock.entry.now; pipe = stage_end.entry.now }) (record { pass = pass.exit.now; clock = C.state clock.exit.now; pipe = stage_end.exit.now }) }
+                requires { IsSync R.row × (pass.now.stage ≡ ticker.stage.now) × (pass.now.number ≡ 0) × (pass.now.made ≡ []) × (ticks ticker.stage.now.sizes.given ≤ MAX_TICKS) × (stage_end.now.channels ≡ ticker.stage.now.sizes.channels) × (stage_end.now.sent ≡ []) × (stage_end.now.returned ≡ []) × (length stage_end.now.held ≤ SETS) }
+                ensures { (pass.exit.now.stage ≡ ticker.entry.stage.now) × HasStaged ticker.entry.stage.now.sizes.given result (record { pass = pass.entry.now; clock = C.state clock.entry.now; pipe = stage_end.entry.now }) (record { pass = pass.exit.now; clock = C.state clock.exit.now; pipe = stage_end.exit.now }) }
             { ticker.stage_all(rt, pass, stage_end, clock) },
         )
     }

@@ -1,6 +1,6 @@
 //! The side that renders and writes.
 ghost use Rattle.std.specs.Prelude.{◌≡◌, [], length, true};
-ghost use Rattle.play_ticker.specs.Frames.{AreBlank, setup_for};
+ghost use Rattle.play_ticker.specs.Frames.{AreLast, setup_for};
 ghost use Rattle.play_ticker.specs.inner.Items.{is_open};
 ghost use Rattle.play_ticker.specs.inner.Writing.{GivesBack, HasWritten, MakesWrite};
 
@@ -12,7 +12,7 @@ use scene_pipe::{Taken, WriteEnd};
 use std::sync::Wait;
 use std::thread::Threads;
 
-/// What became of the next item.
+/// What happened to the next item.
 #[derive(Clone, Copy)]
 pub(crate) enum Step {
     /// Its scenes were rendered, written and given back.
@@ -24,8 +24,8 @@ pub(crate) enum Step {
 }
 
 impl Ticker<'_> {
-    /// Renders the scenes that are taken, writes the frame and the sound of each channel to its output, and gives the scenes back, until the
-    /// end mark. After a failed output it tells so once, renders and writes nothing more, and returns the channel.
+    /// Takes scenes, renders them, writes the frame and the sound of each channel to its output, and gives the scenes back, until the end
+    /// mark. After an output fails it reports this once, renders and writes nothing more, and returns the channel at the end mark.
     pub(crate) fn write_all<R: Threads + Wait + Sync, O: Sink>(
         &self,
         rt: &R,
@@ -34,11 +34,11 @@ impl Ticker<'_> {
         outs: &mut [O],
     ) -> Option<u8>
         requires channels { pipe.old.channels ≡ length renderer.old }
-        requires blank { AreBlank renderer.old }
+        requires last { AreLast self.now.stage.now.sizes.given self.now.media.now renderer.old }
         requires outs { length outs.old ≡ length renderer.old }
         requires taken { pipe.old.taken ≡ [] }
         requires given { pipe.old.given ≡ [] }
-        ensures { HasWritten O.state (setup_for renderer.old self.now.media.now) result
+        ensures { HasWritten O.state (record { setup = setup_for renderer.old self.now.media.now; given = self.now.stage.now.sizes.given }) result
             (record { pipe = pipe.old; frames = renderer.old; outs = outs.old }) (record { pipe = pipe.new; frames = renderer.new; outs = outs.new }) }
     {
         laws::frames_represent_histories();
@@ -56,7 +56,7 @@ impl Ticker<'_> {
         unreachable!()
     }
 
-    /// Takes the next item. Scenes are rendered, written and given back, with the news if an output has failed.
+    /// Takes the next item. Scenes are rendered, written and given back, with a report if an output failed.
     fn write_next<R: Threads + Wait + Sync, O: Sink>(
         &self,
         rt: &R,

@@ -5,7 +5,7 @@ ghost use Rattle.play_transitions.specs.Column.{column_view};
 
 use play_types::Kind;
 
-/// What stands at a column of a transition, by the number of a column of the raster.
+/// What a transition shows at a column of the raster.
 #[derive(Clone, Copy, Debug, PartialEq, Eq)]
 pub enum Column {
     /// This column of the old picture.
@@ -16,10 +16,9 @@ pub enum Column {
     Both(u16),
 }
 
-/// Returns what stands at column `x` of a raster of `width` columns, at step `j` of a transition of `d` ticks. The new
-/// picture has taken `width * j / d` columns, from the left edge, or from the right one where the transition goes leftward:
-/// it has pushed the old picture as far, or slid over it, or was uncovered by an edge. A mix has both pictures at every
-/// column, and a cut the new one alone.
+/// Returns what column `x` of a raster of `width` columns shows, at step `j` of a transition of `d` ticks. The new picture has taken
+/// `width * j / d` columns, from the left edge, or from the right one if the transition goes leftward: it has pushed the old picture
+/// as far, or slid over it, or was uncovered by an edge. A mix shows both pictures at every column, and a cut the new one alone.
 pub fn pick(kind: Kind, leftward: bool, j: u32, d: u32, width: u16, x: u16) -> Column
     requires after { 0 < j }
     requires before { j < d }

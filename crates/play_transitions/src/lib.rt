@@ -1,8 +1,8 @@
 //! What a transition shows of the old picture and of the new one, column by column.
 //!
-//! [`pick`] tells for one column of the raster which column of which picture stands there at a step of the transition, and
-//! [`runs`] the same for all columns at once, as at most two runs of neighbouring columns.
-//! Rows stay as they are. No call takes memory, and none refuses.
+//! [`pick`] returns which column of which picture one column of the raster shows at a step of the transition, and [`runs`] returns
+//! this for all columns at once, as at most two runs of neighbouring columns. Rows stay as they are. No call allocates, and none
+//! refuses.
 #![tactic(auto)]
 
 mod columns;

@@ -24,8 +24,8 @@ pub struct RunPair {
     pub second: Option<Run>,
 }
 
-/// Returns the runs of a raster of `width` columns at step `j` of a transition of `d` ticks. From the left, they have every
-/// column once, and none is empty. At each column a run shows what [`pick`](crate::pick) tells of it.
+/// Returns the runs of a raster of `width` columns at step `j` of a transition of `d` ticks. From the left, they have every column
+/// once, and none is empty. At each column a run shows what [`pick`](crate::pick) returns for it.
 pub fn runs(kind: Kind, leftward: bool, j: u32, d: u32, width: u16) -> RunPair
     requires after { 0 < j }
     requires before { j < d }

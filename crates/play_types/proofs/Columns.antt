@@ -12,7 +12,7 @@ pub taken_le : (j d width : ℕ) → j < d → taken j d width ≤ width
 taken_le j d width h =
     div-le_of_le-mul d (omega (arith, mul-le width j width d (omega arith) (omega arith), mul_comm width d))
 
--- a transition shows columns of the raster alone
+-- a transition shows only columns of the raster
 pub IsInRaster-pick : (kind : Kind) (leftward : Bool) (j d width x : ℕ) → j < d → x < width → IsInRaster width (pick kind leftward j d width x)
 IsInRaster-pick Cut leftward j d width x h within = within
 IsInRaster-pick Mix leftward j d width x h within = within

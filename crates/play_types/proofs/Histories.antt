@@ -40,7 +40,7 @@ one_place_on p n =
       | inr w ↦ grind (arith, nat_tests)
     ]
 
--- before an event that is no stop, the first stop is one position on
+-- an event that is no stop, put in front, moves the first stop by one position
 pub stop_at-other : (event : Event) (events : List Event) → is_stop event ≡ false → stop_at (event ∷ events) ≡ option_map (λ n. 1 + n) (stop_at events)
 stop_at-other event events h = rw h (one_place_on (position_or_len is_stop events) (length events))
 
@@ -71,7 +71,7 @@ IsHistory-front (Tick ∷ xs) ys h = IsHistory-front xs ys h
 IsHistory-front (Stop tag ∷ []) ys h = refl
 IsHistory-front (Stop tag ∷ event ∷ xs) ys h = cc
 
--- a history without a stop goes on by another
+-- a history without a stop, followed by a history, is a history
 pub IsHistory-append : (xs ys : List Event) → IsHistory xs → stop_at xs ≡ None → IsHistory ys → IsHistory (xs ++ ys)
 IsHistory-append [] ys h none rest = rest
 IsHistory-append (Do tag cmd ∷ xs) ys h none rest =

@@ -14,7 +14,7 @@ scene_with_layer layers drawn scene room range = record {
   each = All-push IsDrawn layers drawn scene.each range;
 }
 
--- scenes may have one more that names configured channels
+-- scenes may have one more layer that names configured channels
 pub scenes_with_layer : (channel : ℕ) (drawn : Drawn) (scenes : List (List Drawn)) → AreScenes scenes → IsConfigured (length scenes) channel →
     NamesConfigured (length scenes) drawn → AreScenes (with_layer channel drawn scenes)
 scenes_with_layer channel drawn scenes are configured names =

@@ -23,23 +23,23 @@ chars_are_ascii (c ∷ word) h =
     let parts = and_parts (is_rec_char c) (list_all is_rec_char word) h in
     IsAscii-cons c word (char_is_ascii c parts.0) (chars_are_ascii word parts.1)
 
--- a word that writes a name is ASCII
+-- a word that is a name is ASCII
 pub rec_word_is_ascii : (word : List ℕ) → is_rec_word word ≡ true → IsAscii word
 rec_word_is_ascii word h = chars_are_ascii word (and_parts _ _ h).1
 
--- whether a word writes a name is the same by its characters and by its bytes
+-- a word is a name by its characters just if it is one by its bytes
 pub is_rec_word-chars : (word : List ℕ) → IsUtf8 word → (at_bytes at_chars : Bool) → is_rec_word word ≡ at_bytes → is_rec_word (chars word) ≡ at_chars → at_chars ≡ at_bytes
 is_rec_word-chars word utf8 true at_chars b c = sym c ∙ ap is_rec_word (chars-IsAscii word (rec_word_is_ascii word b)) ∙ b
 is_rec_word-chars word utf8 false true b c =
     sym c ∙ ap is_rec_word (sym (encodes-IsAscii (chars word) (rec_word_is_ascii (chars word) c)) ∙ encodes-chars word utf8) ∙ b
 is_rec_word-chars word utf8 false false b c = refl
 
--- a word that writes no name by its bytes writes none by its characters
+-- a word that is no name by its bytes is none by its characters
 pub no_name : (word : List ℕ) → IsUtf8 word → is_rec_word word ≡ false → rec_name_of (chars word) ≡ None
 no_name word utf8 h =
     ap (λ (b : Bool). cond b (Some (map to_ascii_uppercase (chars word))) None) (is_rec_word-chars word utf8 false (is_rec_word (chars word)) h refl)
 
--- a word that writes a name by its bytes writes the one of these bytes in capitals
+-- a word that is a name by its bytes gives the name of these bytes in capitals
 pub some_name : (word : List ℕ) → IsUtf8 word → is_rec_word word ≡ true → rec_name_of (chars word) ≡ Some (map to_ascii_uppercase word)
 some_name word utf8 h =
     ap rec_name_of (chars-IsAscii word (rec_word_is_ascii word h)) ∙ ap (λ (b : Bool). cond b (Some (map to_ascii_uppercase word)) None) h
@@ -58,14 +58,14 @@ pub capitals_stay : (word : List ℕ) → map to_ascii_uppercase (map to_ascii_u
 capitals_stay [] = refl
 capitals_stay (c ∷ word) = rw (uppercase-uppercase c, capitals_stay word) refl
 
--- a name in capitals writes itself
+-- a name in capitals reads back as itself
 pub name_reads_back : (word : List ℕ) → is_rec_word word ≡ true
     → rec_name_of (map to_ascii_uppercase word) ≡ Some (map to_ascii_uppercase word)
 name_reads_back word h =
     let parts = and_parts _ (list_all is_rec_char word) h in
     rw (length-map word to_ascii_uppercase, parts.0, capitals_are_chars word parts.1, capitals_stay word) refl
 
--- a name that writes itself has characters of names alone
+-- a name that reads back as itself has only characters of names
 pub is_rec_word-name : (name : List ℕ) → rec_name_of name ≡ Some name → is_rec_word name ≡ true
 is_rec_word-name name h = (cond_some (is_rec_word name) (map to_ascii_uppercase name) name h).0
 

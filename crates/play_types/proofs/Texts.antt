@@ -5,7 +5,7 @@ use Rattle.std.proofs.lemmas.Slice.Eq.{bytes_eq-Decides}
 use Rattle.std.proofs.lemmas.Str.{chars-encodes, length-le-encodes}
 use Rattle.std.specs.Str.{chars}
 
--- a text is what its characters spell
+-- encoding the characters of a text gives its bytes
 pub encode_utf8_all-chars : (bytes : List ℕ) → IsUtf8 bytes → encode_utf8_all (chars bytes) ≡ bytes
 encode_utf8_all-chars bytes text =
     ap encode_utf8_all (ap chars (sym text.1.1) ∙ chars-encodes text.0 text.1.0) ∙ text.1.1

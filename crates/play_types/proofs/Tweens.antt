@@ -37,7 +37,7 @@ pub along-start : (curve : Curve) (from to : ℤ) (d : ℕ) → 0 < d → along 
 along-start curve from to d h =
     rw (along-part curve from to 0 d h, gone-none curve d, no_way (to -ℤ from), zero-div (whole curve d)) (omega (arith, ints))
 
--- what is gone with a curve that is slow at last, and the square of what is left, are the square of the whole
+-- what is gone with EaseOutQuad, and the square of what is left, add up to the square of the whole
 squares : (j r : ℕ) → (j + r) * (j + r) ≡ j * (2 * (j + r) - j) + r * r
 squares j r =
     let twice : 2 * (j + r) - j ≡ j + 2 * r = omega arith in
@@ -68,7 +68,7 @@ gone-below EaseOutQuad j d h = omega (arith, square_left j d h, square_some (d -
 gone-below EaseInCubic j d h = cube_below j d h
 gone-below EaseOutCubic j d h = omega (arith, cube_some (d - j) (omega arith), cube_below 0 d (omega arith))
 
--- later no less of it is gone
+-- at a later tick no less of the way is gone
 gone-later : (curve : Curve) (i j d : ℕ) → i ≤ j → j < d → gone curve i d ≤ gone curve j d
 gone-later Linear i j d h less = h
 gone-later EaseInQuad i j d h less = mul-le i i j j h h
@@ -124,7 +124,7 @@ IsBetween-along curve from to j d =
           (rw (whole_way from to) at (IsBetween-part from (to -ℤ from) (gone curve j d) (whole curve d) (gone-below curve j d w.1)))
     ]
 
--- it never turns back
+-- a tween never turns back
 pub IsBetween-later : (curve : Curve) (from to : ℤ) (i j d : ℕ) → i ≤ j → IsBetween (along curve from to i d) to (along curve from to j d)
 IsBetween-later curve from to i j d h =
     elim (leb_tells d j) [

@@ -12,7 +12,7 @@ pub record ClipView : Type 0 where
   pub frames : ℕ
   pub bytes : List ℕ
 
--- the version is 1 or 2, the size is in range, there are 1 to 1,000,000 frames, and the bytes are just theirs
+-- the version is 1 or 2, the size is in range, there are 1 to 1,000,000 frames, and the bytes are as many as these frames have
 pub record IsClip (clip : ClipView) : Type 0 where
   pub some_version : MULTIPLIED ≤ clip.version
   pub version : clip.version ≤ STRAIGHT

@@ -13,17 +13,17 @@ pub data Column : Type 0 where
 abbrev pub taken : ℕ → ℕ → ℕ → ℕ
 taken j d width = width * j / d
 
--- column x if the new picture, n columns of it, pushes the old one out: rightward, or leftward
+-- column x when n columns of the new picture have pushed the old one out, rightward and leftward
 abbrev pub pushed : Bool → ℕ → ℕ → ℕ → Column
 pushed false n width x = if nat_lt x n then New (width - n + x) else Old (x - n)
 pushed true n width x = if nat_le (width - n) x then New (x - (width - n)) else Old (x + n)
 
--- column x if the new picture slides over the old one
+-- column x when n columns of the new picture have slid over the old one, rightward and leftward
 abbrev pub slid : Bool → ℕ → ℕ → ℕ → Column
 slid false n width x = if nat_lt x n then New (width - n + x) else Old x
 slid true n width x = if nat_le (width - n) x then New (x - (width - n)) else Old x
 
--- column x if an edge uncovers the new picture
+-- column x when an edge has uncovered n columns of the new picture, rightward and leftward
 abbrev pub wiped : Bool → ℕ → ℕ → ℕ → Column
 wiped false n width x = if nat_lt x n then New x else Old x
 wiped true n width x = if nat_le (width - n) x then New x else Old x

@@ -1,4 +1,4 @@
--- What a command is called, whether it only asks, whether it marks a recording, and how the stage's answer to it is told to a client.
+-- The name of a command, whether it only asks, its recording mark, and the reply for the stage's answer to it.
 use Rattle.std.specs.Prelude.{Bool, true, false, Option, Some, None}
 use Rattle.play_types.specs.declared.answer.Answer.{Answer}
 use Rattle.play_types.specs.declared.answer.Answer.TheVariants as answer
@@ -49,7 +49,7 @@ is_query cmd = elim (shape_of cmd) [
   | shape.Ask query ↦ true
 ]
 
--- the mark of a recording that a command is, if it is one
+-- the recording mark, if a command is ADD or REMOVE
 abbrev pub mark_of : Cmd → Option Recording
 mark_of cmd = elim (shape_of cmd) [
   | shape.Take at take ↦ None
@@ -64,7 +64,7 @@ mark_of cmd = elim (shape_of cmd) [
   | shape.Ask query ↦ None
 ]
 
--- the reply that tells a client the stage's answer to a command of this name
+-- the reply for the stage's answer to a command of this name
 abbrev pub answer_reply : Name → Answer → Reply
 answer_reply command answer.Done = reply.Done command
 answer_reply command (answer.Value micros) = reply.Value micros

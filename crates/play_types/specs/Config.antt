@@ -16,7 +16,7 @@ pub record IsChannel (channel : ChannelView) : Type 0 where
   pub size : IsSize channel.width channel.height channel.pairs
   pub output : 0 < length channel.output
 
--- a configuration: the characters of its address and of its media folder, pulses a second, connection workers, the
+-- a configuration: the characters of its address and of its media folder, pulses per second, connection workers, the
 -- most commands that a history holds, and its channels
 pub record ConfigView : Type 0 where
   pub listen : List ℕ

@@ -4,7 +4,7 @@ use Rattle.std.specs.Int.{int_min, int_max}
 use Rattle.play_types.specs.declared.transition.Curve.{Curve}
 use Rattle.play_types.specs.declared.transition.Curve.TheVariants.{Linear, EaseInQuad, EaseOutQuad, EaseInCubic, EaseOutCubic}
 
--- how much of the whole way is gone at tick j of d, before the last
+-- how much of the whole way is gone at tick j of d, for j < d
 abbrev pub gone : Curve → ℕ → ℕ → ℕ
 gone Linear j d = j
 gone EaseInQuad j d = j * j
@@ -20,7 +20,7 @@ whole EaseOutQuad d = d * d
 whole EaseInCubic d = d * d * d
 whole EaseOutCubic d = d * d * d
 
--- the value where p of q of the way between two others are gone: the product comes first, and the quotient is rounded toward
+-- the value at p of q parts of the way from one to another: the product comes first, and the quotient is rounded toward
 -- zero
 abbrev pub part_way : ℤ → ℤ → ℕ → ℕ → ℤ
 part_way from to p q = from +ℤ int_div ((to -ℤ from) *ℤ pos p) (pos q)

@@ -11,6 +11,7 @@ pub mod Curve
 pub mod Answer
 pub mod Shape
 pub mod Commands
+pub mod Replies
 pub mod CmdList
 pub mod History
 pub mod Geometry

@@ -12,11 +12,11 @@ is_rec_char c = is_ascii_alphanumeric c || (c == 95 || c == 45)
 abbrev pub is_rec_word : List ℕ → Bool
 is_rec_word word = (nat_lt 0 (length word) && nat_le (length word) MAX_REC_NAME_BYTES) && list_all is_rec_char word
 
--- the name that a word writes, in capitals, if it writes one
+-- the name that a word is, in capitals, or none if it is not a name
 abbrev pub rec_name_of : List ℕ → Option (List ℕ)
 rec_name_of word = if is_rec_word word then Some (map to_ascii_uppercase word) else None
 
--- how the bytes of a name are kept: it is in capitals, and zeros stand after it
+-- the first `len` bytes are a name in capitals, and zeros follow
 pub record IsKept (bytes : List ℕ) (len : ℕ) : Type 0 where
   pub name : rec_name_of (take len bytes) ≡ Some (take len bytes)
   pub count : length (take len bytes) ≡ len

@@ -46,6 +46,6 @@ pub record AreScenes (scenes : List (List Drawn)) : Type 0 where
 abbrev pub scene_at : ℕ → List (List Drawn) → List Drawn
 scene_at channel scenes = channel_item channel scenes []
 
--- the scenes with one layer more above the others of a channel
+-- the scenes with one more layer, above the others of a channel
 abbrev pub with_layer : ℕ → Drawn → List (List Drawn) → List (List Drawn)
 with_layer channel drawn scenes = with_channel_item channel (scene_at channel scenes ++ drawn ∷ []) scenes

@@ -29,11 +29,11 @@ pub record SettingView : Type 0 where
   pub curve : Curve
   pub deferred : Bool
 
--- the number at a place of the list
+-- the number at position `at` of a list, or 0 behind its end
 abbrev pub number_at : List ℤ → ℕ → ℤ
 number_at values at = slice_index_or values at (pos 0)
 
--- a number within the ends, which count too
+-- a number from `low` to `high`, both included
 abbrev pub IsWithin : ℤ → ℤ → ℤ → Type 0
 IsWithin low high value = (low ≤ℤ value) × (value ≤ℤ high)
 
@@ -67,7 +67,7 @@ duration_of Fill duration = duration
 duration_of Clip duration = duration
 duration_of Keyer duration = 0
 
--- the curve that is kept: a keyer has none, which is kept as the linear one
+-- the curve that is kept: a keyer has none, and keeps the linear one
 abbrev pub kept_curve : Prop → Curve → Curve
 kept_curve Opacity curve = curve
 kept_curve Volume curve = curve
@@ -75,7 +75,7 @@ kept_curve Fill curve = curve
 kept_curve Clip curve = curve
 kept_curve Keyer curve = Linear
 
--- the setting that is kept of these parts
+-- the setting made of these parts, without what its property does not use
 abbrev pub setting_of : PlaceView → Prop → List ℤ → ℕ → Curve → Bool → SettingView
 setting_of place prop values duration curve deferred =
     record { place = place; prop = prop; values = values_of prop values; duration = duration_of prop duration; curve = kept_curve prop curve; deferred = deferred }

@@ -1,5 +1,5 @@
--- What commands act on, in a few cases. A new command has its equation here, and definitions that treat many commands alike
--- go by these cases.
+-- What commands act on, in a few cases. A new command gets its equation here; definitions that treat many commands alike
+-- match on these cases.
 use Rattle.std.specs.Prelude.{ℕ}
 use Rattle.play_types.specs.declared.command.Cmd.{Cmd}
 use Rattle.play_types.specs.declared.command.Cmd.TheVariants as cmd

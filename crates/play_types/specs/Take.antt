@@ -14,7 +14,7 @@ pub record TakeView : Type 0 where
   pub trans : TransView
   pub auto : Bool
 
--- the take that is kept of these parts
+-- the take made of these parts: only a clip keeps whether it is looped, and its frames
 abbrev pub take_of : Spec → Bool → ℕ → ℕ → TransView → Bool → TakeView
 take_of (Clip id) looped seek length trans auto =
     record { spec = Clip id; looped = looped; seek = seek; length = length; trans = trans; auto = auto }

@@ -17,7 +17,7 @@ pub record TransView : Type 0 where
 abbrev pub cut : TransView
 cut = record { kind = Cut; duration = 0; curve = Linear; leftward = false }
 
--- the transition that is kept of these parts
+-- the transition made of these parts: a cut keeps none of them
 abbrev pub trans_of : Kind → ℕ → Curve → Bool → TransView
 trans_of Cut duration curve leftward = cut
 trans_of Mix duration curve leftward = record { kind = Mix; duration = duration; curve = curve; leftward = leftward }
@@ -25,7 +25,7 @@ trans_of Push duration curve leftward = record { kind = Push; duration = duratio
 trans_of Slide duration curve leftward = record { kind = Slide; duration = duration; curve = curve; leftward = leftward }
 trans_of Wipe duration curve leftward = record { kind = Wipe; duration = duration; curve = curve; leftward = leftward }
 
--- the duration is at most 1,000,000, and a cut is kept as one
+-- the duration is at most 1,000,000, and a cut has duration 0, is linear and not leftward
 pub record IsTrans (kind : Kind) (duration : ℕ) (curve : Curve) (leftward : Bool) : Type 0 where
   pub short : duration ≤ MAX_DURATION
   pub kept : trans_of kind duration curve leftward ≡ record { kind = kind; duration = duration; curve = curve; leftward = leftward }

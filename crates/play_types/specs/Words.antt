@@ -18,11 +18,11 @@ use Rattle.play_types.specs.declared.transition.Curve.TheVariants as curve
 abbrev pub are_capitals : List ℕ → Bool
 are_capitals word = list_all (λ c. nat_lt c 97) word
 
--- a word is this fixed one, which is given in capitals, in any case of its ASCII letters
+-- a word is `fixed`, which is given in capitals, without regard to the case of ASCII letters
 unfoldable pub is_word : List ℕ → List ℕ → Bool
 is_word fixed word = bytes_eq (map to_ascii_uppercase word) fixed
 
--- two names differ in the case of their ASCII letters alone
+-- two names are equal without regard to the case of their ASCII letters
 unfoldable pub is_same_name : List ℕ → List ℕ → Bool
 is_same_name one other = bytes_eq (map to_ascii_uppercase one) (map to_ascii_uppercase other)
 

@@ -149,12 +149,12 @@ impl StatusList {
 /// The answer of the stage to a command or a batch.
 #[derive(Clone, Copy, Debug, PartialEq, Eq)]
 pub enum Answer {
-    /// It was done.
+    /// The command or the batch was done.
     Done,
     /// The mixer values that were asked for.
     Value(Micros),
     /// The status of the channels.
     Info(StatusList),
-    /// A limit of the stage refused it, and nothing changed.
+    /// A limit of the stage refused the command or the batch, and nothing changed.
     Refused,
 }

@@ -40,7 +40,7 @@ impl Model for Clip {
 
 impl Clip {
     /// Creates a clip. It returns `None` exactly if the version is not 1 or 2, the size is out of range, the frames are
-    /// not 1 to 1,000,000, or the bytes are not as many as the frames have.
+    /// not 1 to 1,000,000, or there are more or fewer bytes than `frames` frames of this size have.
     pub fn new(version: u16, geometry: Geometry, frames: u32, bytes: ByteList) -> Option<Clip>
         ensures exact { IsSome result
             ↔ IsClip (record { version = version; geometry = geometry; frames = frames; bytes = bytes }) }

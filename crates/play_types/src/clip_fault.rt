@@ -10,11 +10,11 @@ pub enum ClipFault {
     BadMagic,
     /// The version is neither 1 nor 2.
     BadVersion,
-    /// The header's field at this byte is not accepted, and those before it are.
+    /// The header field at byte `at` is not accepted. The fields before it are.
     BadField { at: usize },
-    /// The file has `had` bytes, fewer than the `needed` bytes of its header, or than its header announces.
+    /// The file has `had` bytes, fewer than `needed`: the 20 bytes of a header, or what the header announces.
     Short { needed: u64, had: u64 },
-    /// This many bytes stand after the last frame.
+    /// `extra` bytes follow the last frame.
     Long { extra: u64 },
     /// Memory ran out before the file was read.
     OutOfMemory,

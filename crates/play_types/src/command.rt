@@ -15,7 +15,7 @@ use std::alloc::{AllocError, Global};
 use std::marker::Model;
 use std::slice;
 
-/// A command of the stage. `Cmd::load` keeps a cut and no `auto`, `Cmd::play_take` no `auto`.
+/// A command of the stage. [`Cmd::load`] makes the take's transition a cut and clears `auto`, [`Cmd::play_take`] clears `auto`.
 #[derive(Clone, Copy, Debug, PartialEq, Eq)]
 pub enum Cmd {
     /// Shows the first picture of a take, paused.
@@ -36,9 +36,9 @@ pub enum Cmd {
     ClearLayer(Place),
     /// Removes the foregrounds and the backgrounds of all layers of a channel.
     ClearChannel(u8),
-    /// Exchanges two places, with their mixer values if the last part says so.
+    /// Exchanges two places, with their mixer values if the last field is true.
     SwapLayers(Place, Place, bool),
-    /// Exchanges all layers of two channels, with their mixer values if the last part says so.
+    /// Exchanges all layers of two channels, with their mixer values if the last field is true.
     SwapChannels(u8, u8, bool),
     /// Sets a mixer value.
     Set(Setting),
@@ -151,7 +151,7 @@ impl Cmd {
         }
     }
 
-    /// Returns the mark of a recording that the command is, if it is one.
+    /// Returns the recording mark, if the command is ADD or REMOVE.
     pub fn mark(&self) -> Option<Recording>
         ensures { result ≡ mark_of self.now }
     {
@@ -173,14 +173,14 @@ impl Cmd {
 /// The most commands of a batch.
 pub const MAX_BATCH_COMMANDS: usize = 256;
 
-/// Commands in order. A command that is alone is kept in place, and takes no memory.
+/// Commands in order. [`CmdList::copy_of`] keeps a single command inline, without an allocation.
 #[derive(Debug, Drop)]
 pub struct CmdList {
     alloc: Global,
     cmds: Kept,
 }
 
-/// Where the commands of a list lie.
+/// How a list keeps its commands.
 #[derive(Debug, Drop)]
 enum Kept {
     Alone(Cmd),
@@ -198,7 +198,7 @@ impl Model for CmdList {
 }
 
 impl CmdList {
-    /// Creates a list without commands. It takes no memory.
+    /// Creates a list without commands. It does not allocate.
     pub fn new(alloc: Global) -> CmdList
         ensures { result ≡ [] }
     {
@@ -208,7 +208,7 @@ impl CmdList {
         }
     }
 
-    /// Creates a list of the commands of a slice. It takes the room for these commands and for no more.
+    /// Creates a list of the commands of a slice, with room for no more.
     pub fn copy_of(alloc: Global, cmds: &[Cmd]) -> Result<CmdList, AllocError>
         ensures { IfOk result (λ list. list ≡ cmds.now) }
     {
@@ -273,7 +273,7 @@ impl CmdList {
     }
 }
 
-/// Returns the commands of a slice in memory that has room for no more.
+/// Returns a copy of the commands of a slice, with room for no more.
 fn exact_copy(alloc: Global, cmds: &[Cmd]) -> Result<Vec<Cmd>, AllocError>
     ensures { IfOk result (λ copy. copy.items ≡ cmds.now) }
 {

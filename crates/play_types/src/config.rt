@@ -10,7 +10,7 @@ use std::alloc::{AllocError, Global};
 use std::marker::Model;
 use std::slice;
 
-/// The most pulses of a second.
+/// The most pulses per second.
 pub const MAX_RATE: u32 = 240;
 
 /// The most connection workers.
@@ -127,7 +127,7 @@ impl Model for ChannelList {
 }
 
 impl ChannelList {
-    /// Creates a list without channels. It takes no memory.
+    /// Creates a list without channels. It does not allocate.
     pub fn new(alloc: Global) -> ChannelList
         ensures { result ≡ [] }
     {
@@ -141,7 +141,7 @@ impl ChannelList {
         ensures ok { OnOk result (self.new ≡ self.old ++ channel ∷ []) }
         ensures err { OnErr result (self.new ≡ self.old) }
     {
-        // The list keeps that each channel is in range.
+        // Reading a field makes the channel's range known, which the invariant of the list needs.
         let _ = &channel.width;
         self.channels.push(channel)?;
         Ok(())
@@ -250,7 +250,7 @@ impl Config {
         &self.media
     }
 
-    /// Returns the pulses a second, 1 to 240.
+    /// Returns the pulses per second, 1 to 240.
     pub fn rate(&self) -> u32
         ensures value { result ≡ self.now.rate }
         ensures range { IsConfig self.now }

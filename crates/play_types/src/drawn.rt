@@ -1,4 +1,4 @@
-//! What the stage hands to whoever composes a frame.
+//! The layers that a frame is composed of, as the stage gives them.
 
 use crate::transition::Trans;
 

@@ -41,7 +41,7 @@ pub fn playhead_of_a_clip()
     ensures colour_has_none { head (take_of (Spec.Colour 4278190335) true 2 5 cut false) 9 ≡ 0 }
 {}
 
-/// A value between 1 and 0 over four ticks, in millionths, and one over three ticks, where thirds are rounded toward the
+/// A value from 1 to 0 over four ticks, in millionths, and values over three ticks, whose thirds are rounded toward the
 /// value at the start.
 pub fn tween_over_four_ticks()
     ensures before { along Linear (pos 1000000) (pos 0) 0 4 ≡ pos 1000000 }
@@ -74,8 +74,8 @@ pub fn curves_over_four_ticks()
     ensures out_cubic_last { along EaseOutCubic (pos 0) (pos 1000000) 4 4 ≡ pos 1000000 }
 {}
 
-/// Values with each curve at tick 2 of 3, from 0 down to -10, where parts are rounded toward the value at the start, and from 1
-/// to 0 over 1,000,000 ticks.
+/// Values with each curve at tick 2 of 3, from 0 down to -10, rounded toward the value at the start, and from 1 to 0 at
+/// the last tick but one of 1,000,000.
 pub fn curves_round_toward_the_start()
     ensures in_quad { along EaseInQuad (pos 0) (neg_ℤ (pos 10)) 2 3 ≡ neg_ℤ (pos 4) }
     ensures out_quad { along EaseOutQuad (pos 0) (neg_ℤ (pos 10)) 2 3 ≡ neg_ℤ (pos 8) }
@@ -100,7 +100,7 @@ pub fn columns_of_transitions()
     ensures slid_in_leftward { pick Kind.Slide true 2 3 4 2 ≡ New 0 }
 {}
 
-/// A history of two ticks, of a command and of a batch of two.
+/// A history of two ticks, a command and a batch of two commands.
 pub fn numbers_of_a_history(tag: Tag, cmd: Cmd)
     ensures ticks { ticks
         (Event.Tick ∷ Event.Do tag cmd ∷ Event.Tick ∷ Event.Batch tag (cmd ∷ cmd ∷ []) ∷ [])
@@ -234,7 +234,7 @@ pub fn limits_of_configurations()
     ensures channel_17 { IsConfig (config 1 1 1 17) → ⊥ }
 {}
 
-/// Words that write names of recordings, and words that write none.
+/// Words that are names of recordings, and words that are not.
 pub fn names_of_recordings()
     ensures capitals { rec_name_of (codes "take_1-b") ≡ Some (codes "TAKE_1-B") }
     ensures none { rec_name_of [] ≡ None }

@@ -31,14 +31,14 @@ pub fn tween_goes_on(curve: Curve, from: i64, to: i64, tick: u64, later: u64, du
     ensures { IsBetween (along curve from to tick duration) to (along curve from to later duration) }
 {}
 
-/// A transition shows columns of the raster alone.
+/// A transition shows only columns of the raster.
 pub fn column_in_raster(kind: Kind, leftward: bool, step: u32, duration: u32, width: u16, x: u16)
     requires running { step < duration }
     requires raster { x < width }
     ensures { IsInRaster width (pick kind leftward step duration width x) }
 {}
 
-/// A clip shows frames of the part that is played alone.
+/// A clip shows only frames of the part that is played.
 pub fn playhead_in_part(id: u32, looped: bool, seek: u32, length: u32, trans: Trans, shown: u64)
     requires { 0 < length }
     ensures from { seek ≤ head (take_of (Spec.Clip id) looped seek length trans false) shown }
@@ -46,7 +46,7 @@ pub fn playhead_in_part(id: u32, looped: bool, seek: u32, length: u32, trans: Tr
         < seek + length }
 {}
 
-/// A file is the file of one clip alone.
+/// A file is the file of only one clip.
 pub fn clip_of_a_file(first: &Clip, second: &Clip)
     requires first_in_range { IsClip first.now }
     requires second_in_range { IsClip second.now }
@@ -54,31 +54,31 @@ pub fn clip_of_a_file(first: &Clip, second: &Clip)
     ensures { first.now ≡ second.now }
 {}
 
-/// The name of a command that is printed reads back.
+/// The printed name of a command reads back as this name.
 #[tactic(auto, unfolding(crate::specs::Words::name_of, crate::specs::Words::is_word))]
 pub fn name_reads_back(name: Name)
     ensures { name_of (name_text name) ≡ Some name }
 {}
 
-/// A property that is printed reads back.
+/// A printed property reads back as this property.
 #[tactic(auto, unfolding(crate::specs::Words::prop_of, crate::specs::Words::is_word))]
 pub fn prop_reads_back(prop: Prop)
     ensures { prop_of (prop_text prop) ≡ Some prop }
 {}
 
-/// A kind of transition that is printed reads back.
+/// A printed kind of transition reads back as this kind.
 #[tactic(auto, unfolding(crate::specs::Words::kind_of, crate::specs::Words::is_word))]
 pub fn kind_reads_back(kind: Kind)
     ensures { kind_of (kind_text kind) ≡ Some kind }
 {}
 
-/// A curve that is printed reads back.
+/// A printed curve reads back as this curve.
 #[tactic(auto, unfolding(crate::specs::Words::curve_of, crate::specs::Words::is_word))]
 pub fn curve_reads_back(curve: Curve)
     ensures { curve_of (curve_text curve) ≡ Some curve }
 {}
 
-/// Properties with one number are one property.
+/// Properties with equal numbers are equal.
 pub fn prop_by_its_number(one: Prop, other: Prop)
     requires { prop_number one ≡ prop_number other }
     ensures { one ≡ other }

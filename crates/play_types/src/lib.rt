@@ -1,10 +1,10 @@
 //! The types that all parts of the server use: places, takes, settings, commands and events.
 //!
-//! A value that has a range is made only by its `new`, which returns `None` exactly if the range is left.
+//! A value that has a range is made only by functions such as `new`, which return `None` exactly if it would be out of range.
 //! Contracts see such a value as a plain record of numbers, and a list type as the list of its items.
 //!
-//! The definitions over these types stand in `specs/`: histories, playheads, tweens, the columns of transitions and clip
-//! files. The modules `examples` and `laws` show what they say.
+//! The definitions over these types are in `specs/`: histories, playheads, tweens, the columns of transitions and clip
+//! files. The modules `examples` and `laws` show what they mean.
 #![tactic(auto)]
 
 mod answer;
@@ -44,7 +44,10 @@ pub use media::{MAX_MEDIA_NAMES, MediaName, MediaNames};
 pub use parsed::{Parsed, Refusal};
 pub use place::{MAX_CHANNELS, MAX_LAYER, MAX_LIVE_LAYERS, Place, channel_index};
 pub use rec_name::{MAX_REC_NAME_BYTES, RecName};
-pub use reply::{Name, Reply};
+pub use reply::{
+    CLIP_NOT_FOUND, CLIP_UNREADABLE, ILLEGAL_WORD, JOURNAL_FULL, LINE_GIVEN_UP, MISSING_WORD, Name,
+    OUT_OF_MEMORY, Reply, UNKNOWN_COMMAND, WRONG_CHANNEL,
+};
 pub use scene::{Scene, Scenes};
 pub use setting::{MAX_MICROS, MAX_WAITING_SETTINGS, MICROS_PER_UNIT, Prop, Setting};
 pub use shape::{CommandShape, Query, Recording, Target};

@@ -14,7 +14,7 @@ use std::slice;
 /// The most clips that a media table may have.
 pub const MAX_MEDIA_NAMES: usize = 4_294_967_295;
 
-/// The name of a clip, with its size and its frames. A clip that is not readable has its numbers 0.
+/// The name of a clip, with its size and its frames. If the clip is not readable, the numbers are 0.
 #[derive(Debug, Drop)]
 pub struct MediaName {
     name: Text,
@@ -137,7 +137,7 @@ impl Model for MediaNames {
 }
 
 impl MediaNames {
-    /// Creates a list without names. It takes no memory.
+    /// Creates a list without names. It does not allocate.
     pub fn new(alloc: Global) -> MediaNames
         ensures { result ≡ [] }
     {
@@ -152,7 +152,7 @@ impl MediaNames {
         ensures ok { OnOk result (self.new ≡ self.old ++ name ∷ []) }
         ensures err { OnErr result (self.new ≡ self.old) }
     {
-        // The list keeps that the numbers of each name are in range.
+        // Reading a field makes the ranges of the name's numbers known, which the invariant of the list needs.
         let _ = &name.readable;
         self.names.push(name)?;
         Ok(())

@@ -26,16 +26,16 @@ pub enum Parsed {
     Kill,
 }
 
-/// Why the words of a line ask for nothing.
+/// Why a line is refused.
 #[derive(Clone, Copy, Debug, PartialEq, Eq)]
 pub enum Refusal {
     /// The first word is no command's name: 400.
     Unknown,
-    /// A place names no channel that is configured: 401.
+    /// The channel is not configured: 401.
     Channel(Name),
-    /// The line ends if a further word is required: 402.
+    /// The line ends where a further word is required: 402.
     Missing(Name),
-    /// The word at this position, counted from 0, is wrong, repeated or too many: 403.
+    /// The word at this position, counted from 0, is wrong, repeated or surplus: 403.
     Illegal(Name, usize),
     /// There is no clip of this name: 404.
     NotFound(Name),

@@ -13,7 +13,7 @@ pub const MAX_LAYER: u16 = 9_999;
 /// The most layers of a channel that are live.
 pub const MAX_LIVE_LAYERS: usize = 64;
 
-/// Returns the index of the item of a channel in a list that has one for each channel, that of channel 1 first.
+/// Returns the index of a channel in a list with one item for each channel, channel 1 first.
 pub fn channel_index(channel: u8) -> usize
     requires { 1 ≤ channel }
     ensures { result ≡ channel - 1 }

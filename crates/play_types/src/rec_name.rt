@@ -11,8 +11,8 @@ use std::marker::Model;
 /// The most bytes of the name of a recording.
 pub const MAX_REC_NAME_BYTES: usize = 32;
 
-/// The name of a recording: 1 to `MAX_REC_NAME_BYTES` ASCII capitals, digits, underscores and dashes. It is kept in place, and
-/// takes no memory. Contracts see the list of its bytes.
+/// The name of a recording: 1 to `MAX_REC_NAME_BYTES` ASCII capitals, digits, underscores and dashes. Contracts see the
+/// list of its bytes.
 #[derive(Clone, Copy, Debug, PartialEq, Eq)]
 pub struct RecName {
     // The bytes from `len` on are 0.
@@ -59,14 +59,14 @@ impl RecName {
     }
 }
 
-/// Returns whether a word is the name of a recording, in any case of its letters.
+/// Returns whether a word is the name of a recording, with letters in either case.
 fn is_rec_word(word: &[u8]) -> bool
     ensures { result ≡ is_rec_word word.now }
 {
     !word.is_empty() && word.len() <= MAX_REC_NAME_BYTES && are_rec_chars(word)
 }
 
-/// Returns whether the name of a recording may have these characters, in any case of its letters.
+/// Returns whether the name of a recording may have these characters, with letters in either case.
 fn are_rec_chars(word: &[u8]) -> bool
     ensures { result ≡ list_all is_rec_char word.now }
 {

@@ -9,10 +9,10 @@ use crate::place::{MAX_LIVE_LAYERS, channel_index};
 use std::alloc::{AllocError, Global};
 use std::marker::Model;
 
-/// The drawn layers of a channel, at most 64, in rising layer.
+/// The drawn layers of a channel, at most 64, the lowest first.
 #[derive(Debug, Drop)]
 pub struct Scene {
-    // It has room for the most layers.
+    // Its capacity is `MAX_LIVE_LAYERS`.
     layers: Vec<Drawn>,
 }
 
@@ -31,7 +31,7 @@ impl Model for Scene {
 }
 
 impl Scene {
-    /// Returns a scene without layers that has the room of its most layers.
+    /// Creates a scene without layers, with room for `MAX_LIVE_LAYERS` of them.
     fn new(alloc: Global) -> Result<Scene, AllocError>
         ensures { IfOk result (λ scene. scene ≡ []) }
     {
@@ -65,8 +65,8 @@ impl Scene {
     }
 }
 
-/// A [`Scene`] for each channel of a configuration. They serve every configuration with this number of channels. Only
-/// [`Scenes::new`] takes memory.
+/// A [`Scene`] for each channel of a configuration. They fit every configuration with this number of channels. Only
+/// [`Scenes::new`] allocates.
 #[derive(Debug, Drop)]
 pub struct Scenes {
     scenes: Vec<Scene>,
@@ -85,7 +85,7 @@ impl Model for Scenes {
 }
 
 impl Scenes {
-    /// Returns a scene without layers for each channel, with the room of the most layers.
+    /// Creates a scene without layers for each channel of `config`, with room for `MAX_LIVE_LAYERS` layers each.
     pub fn new(alloc: Global, config: &Config) -> Result<Scenes, AllocError>
         ensures { IfOk result (λ scenes. scenes ≡ replicate (length config.now.channels) []) }
     {

@@ -10,7 +10,7 @@ use crate::transition::{Curve, MAX_DURATION};
 use crate::word::is_word;
 use std::marker::Model;
 
-/// The millionths of 1, in which mixer values are written.
+/// The number 1 in millionths, in which mixer values are given.
 pub const MICROS_PER_UNIT: i64 = 1_000_000;
 
 /// The greatest mixer value, in millionths.
@@ -58,7 +58,7 @@ impl Prop {
         }
     }
 
-    /// Returns the property that a word names, in any case of its letters.
+    /// Returns the property that a word names, ignoring the case of ASCII letters.
     #[tactic(auto, unfolding(crate::specs::Words::prop_of))]
     pub fn read(word: &str) -> Option<Prop>
         ensures { result ≡ prop_of (chars word.now) }
@@ -70,7 +70,7 @@ impl Prop {
     }
 }
 
-/// A mixer value that is to be reached, from where it is, in `duration` ticks.
+/// A mixer value that is to be reached from the current one in `duration` ticks.
 ///
 /// Values are millionths, and those that the property does not use are 0. A keyer has duration 0.
 #[derive(Clone, Copy, Debug, PartialEq, Eq)]

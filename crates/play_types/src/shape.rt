@@ -7,8 +7,8 @@ use crate::rec_name::RecName;
 use crate::setting::{Prop, Setting};
 use crate::take::Take;
 
-/// What a command does, and on what. [`Cmd::shape`](crate::Cmd::shape) classifies each command, and what treats many
-/// commands alike goes by these cases.
+/// What a command does, and on what. [`Cmd::shape`](crate::Cmd::shape) classifies each command, and code that treats
+/// many commands alike matches on these cases.
 #[derive(Clone, Copy, Debug)]
 pub enum CommandShape {
     /// Brings a take to a place.
@@ -17,9 +17,9 @@ pub enum CommandShape {
     Change(Place),
     /// Removes what all places of a channel hold.
     ClearChannel(u8),
-    /// Exchanges two places, with their mixer values if the last part says so.
+    /// Exchanges two places, with their mixer values if the last field is true.
     SwapLayers(Place, Place, bool),
-    /// Exchanges all layers of two channels, with their mixer values if the last part says so.
+    /// Exchanges all layers of two channels, with their mixer values if the last field is true.
     SwapChannels(u8, u8, bool),
     /// Sets a mixer value.
     Set(Setting),

@@ -24,7 +24,7 @@ pub enum Spec {
 /// A producer with the part of it that is played and the transition that brings it in.
 ///
 /// `seek` and `length` count frames of a clip. For other producers they are 0 and the take is not looped.
-/// `auto` says that it starts by itself if the foreground ends.
+/// With `auto` the take starts by itself when the foreground ends.
 #[derive(Clone, Copy, Debug, PartialEq, Eq)]
 pub struct Take {
     spec: Spec,
@@ -143,7 +143,7 @@ impl Take {
         self.trans
     }
 
-    /// Returns whether the take starts by itself if the foreground ends.
+    /// Returns whether the take starts by itself when the foreground ends.
     pub fn auto(self) -> bool
         ensures { result ≡ self.auto }
     {

@@ -1,4 +1,4 @@
-//! How a picture gives way to the next one.
+//! How a picture is replaced by the next one.
 ghost use Rattle.std.specs.Prelude.{◌≡◌, ◌≤◌, ◌↔◌, IsTrue, IsSome, IfSome};
 ghost use Rattle.std.specs.Str.{chars};
 ghost use Rattle.play_types.specs.Words.{are_capitals, curve_of, curve_text, kind_of, kind_text};
@@ -11,7 +11,7 @@ use std::marker::Model;
 /// The longest transition or tween, in ticks.
 pub const MAX_DURATION: u32 = 1_000_000;
 
-/// The steps of a transition of another curve than the linear one, as it is drawn.
+/// The number of steps in which a transition with a curve other than linear is drawn.
 pub const EASED_STEPS: u32 = 1_000_000;
 
 /// The kind of a transition.
@@ -47,7 +47,7 @@ impl Kind {
         }
     }
 
-    /// Returns the kind that a word names, in any case of its letters.
+    /// Returns the kind that a word names, ignoring the case of ASCII letters.
     #[tactic(auto, unfolding(crate::specs::Words::kind_of))]
     pub fn read(word: &str) -> Option<Kind>
         ensures { result ≡ kind_of (chars word.now) }
@@ -66,11 +66,11 @@ pub enum Curve {
     Linear,
     /// Slowly at first, by the square of the time.
     EaseInQuad,
-    /// Slowly at last, by the square of the time that is left.
+    /// Slowly at the end, by the square of the time that is left.
     EaseOutQuad,
     /// More slowly at first, by the cube of the time.
     EaseInCubic,
-    /// More slowly at last, by the cube of the time that is left.
+    /// More slowly at the end, by the cube of the time that is left.
     EaseOutCubic,
 }
 
@@ -98,7 +98,7 @@ impl Curve {
         }
     }
 
-    /// Returns the curve that a word names, in any case of its letters.
+    /// Returns the curve that a word names, ignoring the case of ASCII letters.
     #[tactic(auto, unfolding(crate::specs::Words::curve_of))]
     pub fn read(word: &str) -> Option<Curve>
         ensures { result ≡ curve_of (chars word.now) }

@@ -24,7 +24,7 @@ fn config(alloc: Global) -> Result<Config, Fail>
     Ok(Config::new(listen, media, 240, 1, 9, channels).ok_or("a configuration")?)
 }
 
-/// Returns the devices of a run whose one door is over this listener.
+/// Returns the devices of a run whose only door is over `listener`.
 fn devices(
     rt: HostRuntime,
     listener: TcpListener,
@@ -44,10 +44,11 @@ fn devices(
         doors,
         outs,
         history: PlainSink::new(0),
+        log: PlainSink::new(0),
     })
 }
 
-/// No clause says that a client receives what was written. The system keeps what the client says until the run begins.
+/// No clause says that a client receives what was written. The system keeps what the client sends until the run begins.
 #[test]
 fn serves_a_client(rt: HostRuntime) -> Result<(), Fail> {
     let alloc = rt.alloc();

@@ -21,7 +21,7 @@ use std::env;
 use std::io::IsTerminal;
 use std::process::ExitCode;
 
-/// Serves on the devices of the system, and ends with the status of [`serve()`]. A thread writes what is said on standard
+/// Serves on the devices of the system, and ends with the status of [`serve()`]. A thread of its own writes standard
 /// error.
 fn main(rt: HostRuntime) -> ExitCode {
     let alloc = rt.alloc();

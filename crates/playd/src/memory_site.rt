@@ -1,4 +1,4 @@
-//! Words, and a site in memory call by call, with ample memory.
+//! Reading the words of a server, and a site in memory, call by call, with ample memory.
 use play_outside::{FileFault, MemMedia, PlainClock, PlainDoor, PlainSink, WriteStep};
 use play_server::*;
 use play_types::{Channel, ChannelList, Config, Text};
@@ -21,7 +21,7 @@ fn reads_words(rt: HostRuntime) -> Result<(), Fail> {
     Ok(())
 }
 
-/// Returns a configuration of one channel, with this number of connections.
+/// Returns a configuration of one channel and `connections` connections.
 fn config(alloc: Global, connections: u32) -> Result<Config, Fail> {
     let mut channels = ChannelList::new(alloc);
     channels.push(Channel::new(1, 1, 0, Text::copy(alloc, "o")?).ok_or("a channel")?)?;
@@ -30,7 +30,7 @@ fn config(alloc: Global, connections: u32) -> Result<Config, Fail> {
     Ok(Config::new(listen, media, 25, connections, 1, channels).ok_or("a configuration")?)
 }
 
-/// Returns a site with plain devices for two connections, and room for 8 bytes that are said. Its first call fails.
+/// Returns a site with plain devices for two connections, and room for lines of 8 bytes in all. Its first call fails.
 fn site(alloc: Global) -> Result<MemSite<PlainClock, PlainDoor, PlainSink>, Fail> {
     let devices = PlainSite::new(1, 1).ready(alloc, &config(alloc, 2)?, None)?;
     let media = MemMedia::new(Vec::new(alloc), Vec::new(alloc), Vec::new(alloc));

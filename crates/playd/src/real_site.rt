@@ -8,7 +8,7 @@ use host_system::{FolderMedia, ProgramFile, Progress, words_of};
 use play_outside::{FileFault, MediaDir, WriteStep};
 use play_server::{FinishStep, Site};
 use play_types::Config;
-use real_devices::{FileSink, LiveRuntime, RateClock, RealDevices, TcpDoor, try_threads};
+use real_devices::{FileSink, LiveRuntime, RealDevices, SignalClock, TcpDoor, try_threads};
 use std::alloc::Global;
 use std::env::{self, Env};
 use std::fs::File;
@@ -18,8 +18,8 @@ use std::rt::Files;
 use std::thread::Threads;
 use std::time::Clock;
 
-/// Files of the system, and the devices that a configuration names. It says its lines on standard error, and does not tell
-/// its calls.
+/// The files of the system, and the devices that a configuration names. It writes its lines to standard error. Its
+/// state does not list its calls.
 #[derive(Drop)]
 pub struct RealSite<R, H> {
     rt: R,
@@ -31,8 +31,9 @@ pub struct RealSite<R, H> {
 }
 
 impl<R: Files + Eprint + AllocGlobal + Copy + Drop, H: Drop> RealSite<R, H> {
-    /// Returns the site over a runtime, whose live outputs have their threads over `host`. No call of it has failed yet, and no read
-    /// of its folder. It says on standard error as much of the clips that are read as `progress` allows.
+    /// Returns the site over a runtime; the threads of its live outputs run over `host`. No call of it, and no read of
+    /// its folder, has failed yet. How much it reports on standard error about the clips that are read depends on
+    /// `progress`.
     pub fn new(rt: R, host: H, progress: Progress) -> RealSite<R, H>
         ensures faults { result.faults ≡ 0 }
         ensures folder { ⟦<FolderMedia<R> as MediaDir>⟧.state result.media ≡ record { files = None; faults = 0 } }
@@ -69,7 +70,7 @@ impl<
 > Site for RealSite<R, H> {
     type Media = FolderMedia<R>;
 
-    type Clock = RateClock<R>;
+    type Clock = SignalClock<R>;
 
     type Door = TcpDoor<R>;
 
@@ -85,7 +86,8 @@ impl<
         &mut self.media
     }
 
-    /// Makes the devices that the configuration names, if the system has threads for them, and says where the server listens.
+    /// Makes the devices that the configuration names, if the system has threads for them, and reports where the server
+    /// listens.
     fn ready(
         &mut self,
         alloc: Global,
@@ -108,8 +110,8 @@ impl<
         }
     }
 
-    /// Closes the listening socket and the files, after each live output has handed out what waits, for two seconds at most. The file
-    /// of the history gets its name, if the history was written.
+    /// Closes the listening socket and the files, after each live output has handed out what waits, for two seconds at
+    /// most. The file of the history gets its name, if the history was written.
     fn finish(&mut self, devices: RealDevices<R>) -> FinishStep
         ensures told { Finishes result devices (⟦<RealSite<R, H> as Site>⟧.state self.old) (⟦<RealSite<R, H> as Site>⟧.state self.new) }
         ensures folder { self.new.media ≡ self.old.media }
@@ -123,7 +125,7 @@ impl<
         }
     }
 
-    /// Says a line on standard error. Before the line of words that are no command line it says which words there are.
+    /// Writes a line to standard error. Before the line of the usage fault it writes the usage of the program.
     fn say(&mut self, line: &str) -> WriteStep {
         if line == USAGE_FAULT {
             say_usage(&self.rt, &self.program);
@@ -142,7 +144,7 @@ impl<
     ghost state_stays = { λ _ _. refl };
 }
 
-/// Returns the address that the doors listen on, if the system tells it.
+/// Returns the address that the doors listen on, if the system gives it.
 fn address_of<R: Clock + Eprint + Copy + Drop>(devices: &RealDevices<R>) -> Option<SocketAddr> {
     devices.doors.first()?.address().ok()
 }
@@ -150,8 +152,8 @@ fn address_of<R: Clock + Eprint + Copy + Drop>(devices: &RealDevices<R>) -> Opti
 /// The word before the path of the configuration.
 const CONFIG: &str = "--config";
 
-/// Returns the path of the configuration as the words of the program name it, so that no output empties it. If the words
-/// cannot be read once more, it is not known.
+/// Returns the path of the configuration in the words of the program, so that no output empties that file, or `None` if
+/// the words cannot be read once more.
 fn config_path<R: Env + AllocGlobal>(rt: &R, alloc: Global) -> Option<String> {
     let mut is_next = false;
     for word in words_of(alloc, env::args(rt)).ok()? {

@@ -1,4 +1,4 @@
-//! What is said on standard error, for a person. If that cannot be written, nothing is said.
+//! The lines on standard error, for a person. Failures to write them are ignored.
 
 use host_system::ProgramFile;
 use play_types::Config;
@@ -6,28 +6,28 @@ use std::fmt::Display;
 use std::io::Eprint;
 use std::net::SocketAddr;
 
-/// The name of the program, with which each line on standard error begins but for that of a fault.
+/// The name of the program. Each line on standard error begins with it, except that of a fault.
 pub const PROGRAM: &str = "playd";
 
-/// The line of words that are no command line.
+/// The line of the fault of words that are no command line.
 pub const USAGE_FAULT: &str = "E usage";
 
-/// Says which words the program takes, with an example of each form, and from which sources it was built.
+/// Writes which words the program takes, with an example of each form, and from which sources it was built.
 pub fn say_usage<E: Eprint>(errors: &E, program: &ProgramFile) {
     let _ = errors.eprintln(USAGE);
     program.say(errors, PROGRAM);
 }
 
-const USAGE: &str = "playd: these words start no server. The words are, in any order,
+const USAGE: &str = "playd: unknown command line. The words are, in any order,
   --config FILE [--workers N] [--journal FILE]
 with N from 1 to 64, as in
   playd --config studio.toml
   playd --config studio.toml --workers 4
   playd --config studio.toml --journal evening.script";
 
-/// Says where the server listens, on how many channels it plays, how many connections it serves at once, and from which
-/// sources the program was built. If the system does not tell the address, it is that of the configuration. Before that it
-/// says if other machines can reach the address.
+/// Reports where the server listens, how many channels it has, how many connections it serves at once, and from which
+/// sources the program was built. If `address` is `None`, the address of the configuration is named. If `address` is
+/// not a loopback address, a line before that reports that other machines can reach it.
 pub fn say_listening<E: Eprint>(
     errors: &E,
     config: &Config,
@@ -45,14 +45,14 @@ pub fn say_listening<E: Eprint>(
     }
 }
 
-/// Says that other machines can reach this address.
+/// Reports that other machines can reach this address.
 fn say_open<E: Eprint>(errors: &E, address: &SocketAddr) {
     let _ = errors.eprintln(format_args!(
         "{PROGRAM}: {address} is not an address of this machine alone: whoever reaches it can do everything, and end the server; see \"Who may reach it\" in docs/OPERATING.md"
     ));
 }
 
-/// Says that the server is ready, at this address.
+/// Reports that the server is ready, at this address.
 fn say_ready<E: Eprint, D: Display>(
     errors: &E,
     config: &Config,
@@ -66,7 +66,7 @@ fn say_ready<E: Eprint, D: Display>(
     ));
 }
 
-/// Returns the ending of a noun after a number.
+/// Returns the plural ending of a noun, which is empty after the number one.
 fn ending(is_one: bool) -> &'static str {
     if is_one { "" } else { "s" }
 }

@@ -12,8 +12,9 @@ use std::alloc::Global;
 use std::sync::Wait;
 use std::thread::Threads;
 
-/// Serves as `serve_main` does with these words. Words that cannot be read are no command line, with status 1, and if
-/// memory ran out for them the status is 5; the site says so, and nothing else is asked of it then.
+/// Serves as `serve_main` does with these words, and returns the exit status. If the words could not be read, the
+/// status is 1, as for words that are no command line, or 5 if memory ran out; then the site writes the line of that
+/// fault, and does nothing else.
 pub fn serve<R: Threads + Wait + Sync, E: Site>(
     rt: &R,
     alloc: Global,
@@ -34,7 +35,7 @@ pub fn serve<R: Threads + Wait + Sync, E: Site>(
     }
 }
 
-/// Says the line of the fault that words are which are not known, and returns its exit status.
+/// Reports the fault of words that could not be read, and returns its exit status.
 fn end<E: Site>(fault: WordsFault, site: &mut E) -> u8
     ensures ends { EndsAtOnce (run_fault_of fault) result (E.state site.old) (E.state site.new) }
     ensures unread { E.folder site.new ≡ E.folder site.old }

@@ -8,13 +8,13 @@ use std::fs;
 use std::net::TcpListener;
 use std::test::Fail;
 
-/// Where the frames and the history go.
+/// The paths of the frames and of the history.
 const FILES: [&str; 3] = ["playd_test/a", "playd_test/b", "playd_test/history"];
 
-/// What an earlier run wrote in them.
+/// The contents that an earlier run left in them.
 const EARLIER: &str = "what an earlier run wrote";
 
-/// Returns a configuration of two channels that listens on an address.
+/// Returns a configuration of two channels that listens on `address`.
 fn config_of(alloc: Global, address: &str) -> Result<Config, Fail> {
     let mut channels = ChannelList::new(alloc);
     for output in [FILES[0], FILES[1]] {
@@ -25,7 +25,7 @@ fn config_of(alloc: Global, address: &str) -> Result<Config, Fail> {
     Ok(Config::new(address, media, 25, 3, 9, channels).ok_or("no configuration")?)
 }
 
-/// No clause says that devices are made, that the socket is closed if they are finished, nor what a file holds.
+/// No clause says that devices are made, that the socket is closed when they are finished, nor what a file holds.
 #[test]
 fn gives_devices_again(rt: HostRuntime) -> Result<(), Fail> {
     let alloc = rt.alloc();
@@ -38,7 +38,7 @@ fn gives_devices_again(rt: HostRuntime) -> Result<(), Fail> {
     let config = config_of(alloc, address.as_str())?;
     let mut site = RealSite::new(rt, rt, Progress::Silent);
     let devices = site.ready(alloc, &config, Some(FILES[2]))?;
-    // The address is taken.
+    // The address is in use.
     assert_eq!(rt;
         site.ready(alloc, &config, None).err(),
         Some(FileFault::Failed)
@@ -49,13 +49,13 @@ fn gives_devices_again(rt: HostRuntime) -> Result<(), Fail> {
     for path in [FILES[0], FILES[1]] {
         assert_eq!(rt; fs::read_to_string(&rt, path)?.as_str(), "");
     }
-    // A history in which nothing was written takes nobody's place.
+    // A history to which nothing was written does not replace an earlier one.
     assert_eq!(rt; fs::read_to_string(&rt, FILES[2])?.as_str(), EARLIER);
     fs::remove_dir_all(&rt, "playd_test")?;
     Ok(())
 }
 
-/// No clause says that a line can be said.
+/// No clause says that a line can be written.
 #[test]
 fn says_lines(rt: HostRuntime) -> Result<(), Fail> {
     let mut site = RealSite::new(rt, rt, Progress::Silent);

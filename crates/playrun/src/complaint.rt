@@ -1,23 +1,25 @@
-//! What is said on standard error, for a person. If that cannot be written, nothing is said.
+//! The lines on standard error, for a person. Failures to write them are ignored.
 
+use super::run_times::{HourTime, Rate, time_left};
 use clip_store::MAX_MEDIA_BYTES;
 use host_system::{Grouped, ProgramFile};
 use play_schedule::LineFault;
 use run_script::{MAX_TOLD_CUES, RefusedCue};
 use std::io::Eprint;
 use std::rt::Files;
+use std::time::Duration;
 
 /// The name of the program, with which each line on standard error begins.
 pub const PROGRAM: &str = "playrun";
 
-/// Says which words the program takes, with an example of each form, and from which sources it was built.
+/// Writes which words the program takes, with an example of each form, and from which sources it was built.
 pub fn say_usage<R: Eprint + Files + AllocGlobal>(rt: &R) {
     let _ = rt.eprintln(USAGE);
     ProgramFile::find(rt).say(rt, PROGRAM);
 }
 
-/// Says for which word of its text a line of a script is refused. Lines are counted from 1 and words from 0, and a person is told both
-/// from 1.
+/// Reports for which word of its text a line of a script is refused. `line` is counted from 1 and `word` from 0; in the
+/// report both are counted from 1. If the text is not UTF-8, nothing is written.
 pub fn say_refused_word<E: Eprint>(errors: &E, line: u64, text: &[u8], word: usize) {
     let number = word.saturating_add(1);
     if let Ok(text) = str::from_utf8(text) {
@@ -27,19 +29,19 @@ pub fn say_refused_word<E: Eprint>(errors: &E, line: u64, text: &[u8], word: usi
     }
 }
 
-/// Says what is wrong with the faulty line of a cue sheet, and which line it is, counted from 1.
+/// Reports what is wrong with the faulty line of a cue sheet, and its number, counted from 1.
 pub fn say_faulty_cue<E: Eprint>(errors: &E, line: u32, fault: LineFault) {
     let why = why_faulty(fault);
     let _ = errors.eprintln(format_args!("{PROGRAM}: line {line} of the cue sheet: {why}"));
 }
 
-/// Says that a cue sheet has no END.
+/// Reports that a cue sheet has no END.
 pub fn say_no_end<E: Eprint>(errors: &E) {
     let _ = errors.eprintln(format_args!("{PROGRAM}: the cue sheet has no line END"));
 }
 
-/// Says how far the writing of a film is, over what was said of it before: how many ticks were made again, of `all` up to the last
-/// recorded one, and how many frames were written. The line ends with the last of these ticks.
+/// Reports how far the writing of a film is, over the last such report: `ticks` ticks were made again, of `all` up to
+/// the last recorded one, and `frames` frames were written. The line ends with the last of these ticks.
 pub fn say_film<E: Eprint>(errors: &E, ticks: u64, all: u64, frames: u32) {
     let end = if ticks == all { "\n" } else { "" };
     let _ = errors.eprint(format_args!(
@@ -47,8 +49,32 @@ pub fn say_film<E: Eprint>(errors: &E, ticks: u64, all: u64, frames: u32) {
     ));
 }
 
-/// Says that a cue of a sheet was refused: its line, counted from 1, its time, the reply and its text. If it was refused for a word of
-/// the text, the number of the word is said too, counted from 1.
+/// Reports how far a run with digests is, over the last such report: how many ticks were made, of `all` if that is
+/// known, how many there were in a second of `took`, and how long the rest takes at that rate. The next report
+/// overwrites this one.
+pub fn say_run<E: Eprint>(errors: &E, ticks: u64, all: Option<u64>, took: Duration) {
+    let rate = Rate::of(ticks, took);
+    let _ = match all {
+        Some(all) => {
+            let left = time_left(ticks, all, took);
+            errors.eprint(format_args!(
+                "{PROGRAM}: {ticks} of {all} ticks, {rate} a second, {left} left  \r"
+            ))
+        }
+        None => errors.eprint(format_args!("{PROGRAM}: {ticks} ticks, {rate} a second  \r")),
+    };
+}
+
+/// Reports how many ticks a run with digests had, how long they took, and how many there were in a second.
+pub fn say_run_end<E: Eprint>(errors: &E, ticks: u64, took: Duration) {
+    let (rate, time) = (Rate::of(ticks, took), HourTime::of(took));
+    let _ = errors.eprintln(format_args!(
+        "{PROGRAM}: {ticks} ticks in {time}, {rate} a second            "
+    ));
+}
+
+/// Reports that a cue of a sheet was refused: its line, counted from 1, its time, the reply and its text, and, if it
+/// was refused for a word of the text, the number of the word, counted from 1.
 pub fn say_refused_cue<E: Eprint>(errors: &E, cue: RefusedCue<'_>) {
     let (line, time, reply) = (cue.line, cue.time, cue.reply);
     let text = str::from_utf8(cue.text).unwrap_or("");
@@ -65,7 +91,7 @@ pub fn say_refused_cue<E: Eprint>(errors: &E, cue: RefusedCue<'_>) {
     };
 }
 
-/// Says how many of the cues that were played were refused, if one was.
+/// Reports how many of the cues that were played were refused, if one was.
 pub fn say_cues<E: Eprint>(errors: &E, refused: u64, played: u64) {
     if refused == 0 {
         return;
@@ -80,7 +106,8 @@ pub fn say_cues<E: Eprint>(errors: &E, refused: u64, played: u64) {
     };
 }
 
-/// Says how many bytes the file of a film has, and whether it fits beside the clips of a folder, which have `held` bytes.
+/// Reports how many bytes the file of a film has, and whether it fits beside the clips of a folder, which have `held`
+/// bytes.
 pub fn say_recorded<E: Eprint>(errors: &E, bytes: u64, folder: &str, held: u64) {
     let (clip, most) = (Grouped(bytes), Grouped(MAX_MEDIA_BYTES));
     let left = MAX_MEDIA_BYTES.saturating_sub(held);
@@ -126,7 +153,7 @@ fn why_faulty(fault: LineFault) -> &'static str {
     }
 }
 
-const USAGE: &str = "playrun: these words name no run. The words are one of
+const USAGE: &str = "playrun: unknown command line. The words are one of
   run W H
   run --config FILE [--workers N] [--digest]
   gen SEED STEPS

@@ -4,8 +4,8 @@ use play_outside::{FileFault, MediaDir};
 use std::alloc::Global;
 use std::cell::Cell;
 
-/// Reads what another folder of configuration and media has, and counts the bytes of the media files as a server does: an empty file
-/// counts as one byte.
+/// Reads the configuration and the media of another folder, and counts the bytes of the media files as a server does:
+/// an empty file counts as one byte.
 #[derive(Drop)]
 pub struct CountedMedia<'a, M> {
     media: M,
@@ -13,7 +13,7 @@ pub struct CountedMedia<'a, M> {
 }
 
 impl<'a, M: MediaDir + Drop> CountedMedia<'a, M> {
-    /// Returns the files of another folder. The bytes that are read of them are added to `held`.
+    /// Returns the folder over another one. The bytes that are read from its media files are added to `held`.
     pub fn new(media: M, held: &'a Cell<u64>) -> CountedMedia<'a, M> {
         CountedMedia { media, held }
     }

@@ -15,9 +15,9 @@ use std::io::Eprint;
 use std::rt::Files;
 use std::thread::Threads;
 
-/// Plays a script as `run_and_tell` does with these words. Words that cannot be read are no command line, with status 1, and
-/// if memory ran out for them the status is 5; nothing is read then. At status 1 standard error says which words there
-/// are.
+/// Plays a script as `run_and_tell` does with these words, and returns the exit status. If the words could not be read,
+/// the status is 1, as for words that are no command line, or 5 if memory ran out; nothing is read then. At status 1
+/// standard error gets the usage of the program.
 pub fn play<
     R: Threads + Sync + Eprint + Files + AllocGlobal,
     I: Source,

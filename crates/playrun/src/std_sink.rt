@@ -9,8 +9,8 @@ use host_system::complain;
 use play_outside::{Sink, WriteStep};
 use std::io::{Eprint, ErrorKind, Write};
 
-/// Writes to standard output, and keeps nothing back: what a write took, the system took. It says on standard error why a
-/// write failed. It does not tell what was taken.
+/// Writes to standard output, and buffers nothing: what a write took, the system took. It reports on standard error why
+/// a write failed. Its state does not hold what was taken.
 #[derive(Drop)]
 pub struct StdSink<W, E> {
     output: W,

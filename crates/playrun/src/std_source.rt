@@ -1,4 +1,4 @@
-//! Reading a stream of the system.
+//! Reading from a stream of the system.
 ghost use Rattle.std.specs.Prelude.{◌≡◌, ◌<◌, None, length};
 ghost use Rattle.play_outside.specs.Source.{Reads};
 ghost use Rattle.playrun.specs.Stream.{GivesFrom};
@@ -8,10 +8,10 @@ use host_system::complain;
 use play_outside::{ReadStep, Source};
 use std::io::{Eprint, ErrorKind, Read};
 
-/// The interruption of this number in one call counts as a failure.
+/// How many interruptions of one call make it fail.
 pub const INTERRUPTIONS: u32 = 1000;
 
-/// Reads standard input, and says on standard error why a read failed. It does not tell what is left.
+/// Reads standard input, and reports on standard error why a read failed. Its state does not hold what is left.
 #[derive(Drop)]
 pub struct StdSource<R, E> {
     input: R,

@@ -1,4 +1,4 @@
-//! Telling a person on standard error.
+//! Reports to a person on standard error.
 
 use super::complaint::{
     say_cues, say_faulty_cue, say_film, say_no_end, say_recorded, say_refused_cue, say_refused_word,
@@ -8,25 +8,25 @@ use run_script::{RefusedCue, Teller};
 use std::cell::Cell;
 use std::io::Eprint;
 
-/// After how many ticks a terminal is told how far the writing of a film is.
+/// After how many ticks the progress of a film is reported again on a terminal.
 const TICKS_BETWEEN_WORDS: u64 = 1000;
 
-/// Tells on standard error what is wrong with a cue sheet, which of its cues are refused, and whether a film fits beside the clips of
-/// the media folder. If a person listens, it tells too for which words lines of a script are refused, and how far the writing of a film
-/// is. If that cannot be written, nothing is told.
+/// Reports on standard error what is wrong with a cue sheet, which of its cues are refused, and whether a film fits
+/// beside the clips of the media folder. On a terminal it also reports for which words lines of a script are refused,
+/// and how far the writing of a film is. Failures to write are ignored.
 #[derive(Drop)]
 pub struct StdTeller<'a, E> {
     errors: E,
     listens: bool,
     /// The number of bytes of the clips of the media folder.
     held: &'a Cell<u64>,
-    /// The number of ticks of which a person was told last.
+    /// The number of ticks in the last report on a film.
     told: u64,
 }
 
 impl<'a, E: Eprint + Drop> StdTeller<'a, E> {
-    /// Returns a teller over what prints to standard error, to which a person listens if it is a terminal. `held` has the number of
-    /// bytes of the clips of the media folder once they were read.
+    /// Returns a teller that writes to `errors`. `held` has the number of bytes of the clips of the media folder once
+    /// they were read.
     pub fn new(errors: E, is_terminal: bool, held: &'a Cell<u64>) -> StdTeller<'a, E> {
         StdTeller {
             errors,

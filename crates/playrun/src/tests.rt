@@ -1,14 +1,19 @@
-//! What the devices do over streams that are interrupted or fail, and what is played of files of the system.
+//! What the devices do over streams that are interrupted or fail, and how clips in files of the system are played.
 ghost use Rattle.std.specs.Prelude.{◌≤◌, IfOk};
 
 use super::*;
 use play_outside::{MemSink, MemSource, ReadStep, Sent, Sink, Source, WriteStep, send};
 use run_script::run_main;
+use run_times::{HourTime, Rate, time_left};
+use script_ticks::ticks_in;
+use std::fmt::Display;
 use std::io::{Eprint, ErrorKind, Read, Write};
 use std::rt::Files;
 use std::test::Fail;
+use std::time::{Clock, Duration};
 use std::{fs, io};
 use std_source::INTERRUPTIONS;
+use tick_lines::TickLines;
 
 /// A stream that is interrupted, moves two bytes a call until `calls` are made, and then fails once and ends.
 #[derive(Drop)]
@@ -95,7 +100,7 @@ fn writes_again_after_interruptions(rt: HostRuntime) -> Result<(), Fail> {
 const THREE: &[u8] =
     b"RCLP\0\x01\0\0\0\x01\0\x01\0\0\0\x03\0\0\0\0\0\0\0\xff\0\0\x50\xff\0\0\xa0\xff";
 
-/// The files of the folders of clips.
+/// The files in the folders of clips.
 const FILES: [(&str, &[u8]); 5] = [
     ("playrun_show/clips/three.rclp", THREE),
     ("playrun_show/clips/short.RCLP", b"RCLP"),
@@ -155,7 +160,7 @@ fn write_file<R: Files + Eprint + Clone + Drop>(
     }
 }
 
-/// No clause says what is played of files of the system.
+/// No clause says how clips in files of the system are played.
 #[test]
 fn plays_the_clips_of_a_folder(rt: HostRuntime) -> Result<(), Fail> {
     let alloc = rt.alloc();
@@ -191,5 +196,133 @@ fn plays_the_clips_of_a_folder(rt: HostRuntime) -> Result<(), Fail> {
         assert_eq!(&rt; out.taken(), output.as_bytes(), "{folder}");
     }
     fs::remove_dir_all(&rt, "playrun_show")?;
+    Ok(())
+}
+
+/// No clause says how the ticks of a script are counted before it is played.
+#[test]
+fn counts_the_ticks_of_a_script(rt: HostRuntime) -> Result<(), Fail> {
+    let cases: [(&[u8], u64); 6] = [
+        (b"", 0),
+        (b"T", 1),
+        (b"T\nT 90000\r\n1.1 PLAY 1-0 RED\nT 9", 90_010),
+        (b"T 3\n#T 4\n1.1 T 5\nT 0\nT 100001\nTT\n T\n", 3),
+        (b"T 3\nX\nT 4\n", 3),
+        (b"T 3\n1.1 X\nT 4\n", 7),
+    ];
+    for (script, ticks) in cases {
+        assert_eq!(rt; ticks_in(script), ticks);
+    }
+    Ok(())
+}
+
+/// No clause says which ticks are counted for the progress of a run.
+#[test]
+fn counts_the_digests_of_the_first_channel(rt: HostRuntime) -> Result<(), Fail> {
+    let mut lines = TickLines::new();
+    let pieces: [(&[u8], u64); 7] = [
+        (b"1.1 202 PLAY OK\nD 1 1 5f", 0),
+        (b"\nD 2 1 5f\n", 1),
+        (b"D", 1),
+        (b" 1 ", 1),
+        (b"2 5f\nD 11 2 5f\nE D 1 2\n", 2),
+        (b"D 1\n", 2),
+        (b"D 1 3 5f\nD 2 3 5f\nD 1 4 5f\n", 4),
+    ];
+    for (piece, ticks) in pieces {
+        lines.take(piece);
+        assert_eq!(rt; lines.ticks(), ticks);
+    }
+    Ok(())
+}
+
+/// A clock that is a quarter of a second later at each look, and an error output that counts how often something is
+/// written.
+#[derive(Drop)]
+struct Desk<'a> {
+    looks: &'a Cell<u64>,
+    words: &'a Cell<u64>,
+}
+
+impl<'a> Desk<'a> {
+    /// Returns a time that is a quarter of a second later than the one before.
+    fn look(&self) -> Duration {
+        let looks = self.looks.get().saturating_add(1);
+        self.looks.set(looks);
+        Duration::from_millis(looks.saturating_mul(250))
+    }
+
+    /// Counts a write.
+    fn count(&self) {
+        let words = self.words.get().saturating_add(1);
+        self.words.set(words);
+    }
+}
+
+impl<'a> Clock for Desk<'a> {
+    fn monotonic(&self) -> io::Result<Duration> {
+        Ok(self.look())
+    }
+
+    fn since_1970(&self) -> io::Result<Duration> {
+        Ok(self.look())
+    }
+}
+
+impl<'a> Eprint for Desk<'a> {
+    fn eprint<D: Display + Drop>(&self, _value: D) -> io::Result<()> {
+        self.count();
+        Ok(())
+    }
+
+    fn eprintln<D: Display + Drop>(&self, _value: D) -> io::Result<()> {
+        self.count();
+        Ok(())
+    }
+}
+
+/// No clause says how often the progress of a run is reported.
+#[test]
+fn says_once_a_second_how_far_a_run_is(rt: HostRuntime) -> Result<(), Fail> {
+    let looks = Cell::new(0);
+    let words = Cell::new(0);
+    let mut progress = RunProgress::new(
+        Desk {
+            looks: &looks,
+            words: &words,
+        },
+        Some(100),
+    );
+    progress.take(b"1.1 202 PLAY OK\n");
+    assert_eq!(rt; looks.get(), 0);
+    for _tick in 0..4 {
+        progress.take(b"D 1 1 5f\n");
+    }
+    progress.end();
+    assert_eq!(rt; words.get(), 0);
+    for _tick in 0..9 {
+        progress.take(b"D 1 1 5f\nD 2 1 5f\n");
+    }
+    assert_eq!(rt; looks.get(), 13);
+    assert_eq!(rt; words.get(), 3);
+    progress.end();
+    assert_eq!(rt; words.get(), 4);
+    Ok(())
+}
+
+/// No clause says how a time or a rate is written.
+#[test]
+fn says_times_and_rates(rt: HostRuntime) -> Result<(), Fail> {
+    let alloc = rt.alloc();
+    let hour = Duration::from_secs(3_909);
+    let said = format!(in alloc;
+        "{} {} {} {} {}",
+        HourTime::of(hour),
+        Rate::of(90_000, Duration::from_secs(924)),
+        time_left(30_000, 90_000, hour),
+        time_left(0, 90_000, hour),
+        time_left(5, 4, hour)
+    )?;
+    assert_eq!(rt; said.as_str(), "1:05:09 97.4 2:10:18 97725:00:00 0:00:00");
     Ok(())
 }

@@ -48,14 +48,14 @@ at_from_end p xs at d h =
     let is = cond-true (nat_lt (position_or_len p (reverse xs)) (length (reverse xs))) (Some (position_or_len p (reverse xs))) None (lt-ltb _ _ some) in
     (cc (is, h), omega (arith, length-reverse xs, found.0))
 
--- so many come before the last that passes
+-- the elements before it are those before the last that passes
 pub before_from_end : {X : Type 0} (p : X → Bool) (xs : List X) (at : ℕ) (d : X) → position p (reverse xs) ≡ Some at
     → take (length xs - 1 - at) xs ≡ before_last p xs
 before_from_end p xs at d h =
     let found = at_from_end p xs at d h in
     ap (λ (n : ℕ). take n xs) (omega (arith, found.0, found.1))
 
--- and these come after it
+-- and those after it are those after the last that passes
 pub after_from_end : {X : Type 0} (p : X → Bool) (xs : List X) (at : ℕ) (d : X) → position p (reverse xs) ≡ Some at
     → take (length xs - (length xs - 1 - at + 1)) (drop (length xs - 1 - at + 1) xs) ≡ after_last p xs
 after_from_end p xs at d h =

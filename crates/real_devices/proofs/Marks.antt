@@ -12,7 +12,7 @@ marks_more state quiet items item after n k next so_far last more =
     ap (map state) more ∙ map-append state items (item ∷ []) ∙ ap₂ (λ xs x. xs ++ x ∷ []) so_far last
     ∙ sym (map-range_with_len_more quiet 1 n k (omega (arith, next)))
 
--- the same if the devices are counted by what was yielded
+-- `marks_more` if the devices are counted by the items that an iterator yielded
 pub marks_turn : {A S Y : Type 0} (state : A → S) (quiet : ℕ → S) (items : List A) (item : A) (after : List A) (yielded : List Y) (y : Y) (mark : ℕ) →
     mark ≡ length yielded → map state items ≡ map quiet (range_with_len 1 (length yielded)) → state item ≡ quiet (mark + 1) →
     after ≡ items ++ item ∷ [] → map state after ≡ map quiet (range_with_len 1 (length (yielded ++ y ∷ [])))

@@ -9,8 +9,8 @@ use std::sync::atomic::{AtomicU64, AtomicUsize, Ordering};
 /// Why a door gets no place.
 const FULL: &str = "each place of the group has a door";
 
-/// The doors on one listening socket, and the links that came from them: which places are free and whose clients are silent, how
-/// many calls are under way, and how often failures are said.
+/// The doors on one listening socket, and the links that came from them: which places are free and whose clients are
+/// silent, how many calls are in progress, and when failures may be reported again.
 #[derive(Drop)]
 pub struct DoorGroup {
     shared: Arc<Shared, Global>,
@@ -19,7 +19,7 @@ pub struct DoorGroup {
 #[derive(Drop)]
 struct Shared {
     places: Vec<AtomicU64>,
-    /// How many places were given to doors.
+    /// How many doors have asked for a place.
     given: AtomicUsize,
     calls: AtomicU64,
     clients: Pace,
@@ -27,7 +27,7 @@ struct Shared {
 }
 
 impl DoorGroup {
-    /// Returns a group with room for this many doors. If memory ran out the error says so.
+    /// Returns a group with room for `doors` doors, or an error if memory ran out.
     pub fn new(alloc: Global, doors: u32) -> io::Result<DoorGroup> {
         let mut places = Vec::with_capacity(alloc, doors as usize)?;
         for _ in 0..doors {
@@ -46,8 +46,8 @@ impl DoorGroup {
         Ok(DoorGroup { shared })
     }
 
-    /// Returns the next place, for one more door. It is not free before the door waits for a connection. It fails if each has a door,
-    /// and takes no memory.
+    /// Returns the next place, for one more door. It is not free before the door waits for a connection. It fails if
+    /// each place has a door.
     pub fn place(&self) -> io::Result<Place> {
         let at = self.shared.given.fetch_add(1, Ordering::SeqCst);
         if at >= self.shared.places.len() {
@@ -69,18 +69,18 @@ impl DoorGroup {
         self.shared.places.as_slice()
     }
 
-    /// Returns the same group, for one more door or link. It takes no memory.
+    /// Returns another handle of this group, for one more door or link.
     pub fn try_clone(&self) -> io::Result<DoorGroup> {
         let shared = Arc::try_clone(&self.shared)?;
         Ok(DoorGroup { shared })
     }
 
-    /// How often the failures of connections are said.
+    /// Returns when failures of connections may be reported.
     pub(crate) fn clients(&self) -> &Pace {
         &self.shared.clients
     }
 
-    /// How often the failures of the listening socket are said.
+    /// Returns when failures of the listening socket may be reported.
     pub(crate) fn socket(&self) -> &Pace {
         &self.shared.socket
     }
@@ -95,8 +95,8 @@ impl DoorGroup {
         self.shared.calls.fetch_sub(1, Ordering::SeqCst);
     }
 
-    /// Returns whether no call of a door or a link is under way. Each worker of a run is in one but for short moments, until
-    /// the run ends.
+    /// Returns whether no call of a door or a link is in progress. Each worker of a run is in one but for short
+    /// moments, until the run ends.
     pub(crate) fn is_quiet(&self) -> bool {
         self.shared.calls.load(Ordering::SeqCst) == 0
     }

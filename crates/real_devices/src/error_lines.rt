@@ -1,4 +1,4 @@
-//! Standard error, for whose reader nobody waits.
+//! Standard error, whose reader nobody waits for.
 use crate::file_limit::largest_file;
 use std::alloc::Global;
 use std::fmt::{Display, Write};
@@ -9,13 +9,13 @@ use std::thread::{self, Threads};
 use std::time::{Clock, Duration};
 use std::{fs, mem};
 
-/// From how many bytes on that wait to be written a further line is left out.
+/// If this many bytes or more wait to be written, a further line is left out.
 const ROOM: usize = 65_536;
 
-/// For how many bytes of a line there is memory from the start.
+/// How many bytes of a line have memory from the start.
 const LINE: usize = 16_384;
 
-/// How many bytes the line has at most that says how many lines were left out.
+/// The most bytes of the line that reports how many lines were left out.
 const NOTICE: usize = 64;
 
 /// For how many milliseconds the end of a program waits for its last lines to be written.
@@ -24,19 +24,19 @@ const END_MILLIS: u64 = 1_000;
 /// The file that standard error goes to, as Linux names it.
 const FILE: &str = "/proc/self/fd/2";
 
-/// Standard error, written by a thread of its own. Who says a line waits for no reader: if none takes what was said, further
-/// lines are left out and counted.
+/// Standard error, written by a thread of its own, so that no caller waits for its reader: while the reader takes
+/// nothing, further lines are left out and counted.
 #[derive(Drop)]
 pub struct ErrorLines {
-    /// Nothing if no thread could be started: then each line is written at once.
+    /// `None` if no thread could be started: then each line is written at once.
     shared: Option<Arc<Shared, Global>>,
 }
 
-/// What those who say lines share with the thread that writes them.
+/// What callers share with the thread that writes their lines.
 #[derive(Drop)]
 struct Shared {
     waiting: Mutex<Waiting>,
-    /// Is notified when lines come, and when the thread has written what it took.
+    /// Notified when lines come, and when the thread has written those that it took.
     changed: Condvar,
 }
 
@@ -46,12 +46,13 @@ struct Waiting {
     text: String,
     /// How many lines were left out since some were written.
     left_out: u64,
-    /// Whether the thread writes lines that it took.
+    /// Whether the thread is writing lines that it took.
     is_writing: bool,
 }
 
 impl ErrorLines {
-    /// Starts the thread that writes lines. If the system has none, or no memory, each line is written at once.
+    /// Starts the thread that writes lines. If no thread can be started, or memory runs out, each line is written at
+    /// once.
     pub fn start<R: Threads + Wait + Eprint + Files + AllocGlobal + Copy + Send + 'static>(
         rt: R,
         alloc: Global,
@@ -62,7 +63,8 @@ impl ErrorLines {
         }
     }
 
-    /// Says a value. If more waits to be written than there is room for, it is left out, which is an error.
+    /// Adds a value to the text that waits to be written, or writes it at once if there is no thread. If there is no
+    /// room for it, it is left out, which is an error.
     pub(crate) fn say<R: Wait + Eprint, D: Display + Drop>(
         &self,
         rt: &R,
@@ -74,7 +76,7 @@ impl ErrorLines {
         }
     }
 
-    /// Waits until all that was said is written, for a second at most.
+    /// Waits until all lines are written, for a second at most.
     pub fn finish<R: Wait + Clock>(&self, rt: &R) {
         if let Some(shared) = &self.shared {
             shared.finish(rt);
@@ -82,7 +84,7 @@ impl ErrorLines {
     }
 }
 
-/// Starts the thread that writes lines, and returns what it shares with those who say them.
+/// Starts the thread that writes lines, and returns what it shares with the callers.
 fn begin<R: Threads + Wait + Eprint + Copy + Send + 'static>(
     rt: R,
     alloc: Global,
@@ -107,8 +109,8 @@ fn begin<R: Threads + Wait + Eprint + Copy + Send + 'static>(
     Ok(shared)
 }
 
-/// Writes lines as they come, for as long as the program runs. If `room` is how many bytes there is room for, lines beyond
-/// that are dropped.
+/// Writes lines as they come, for as long as the program runs. If `room` limits how many bytes may be written, lines
+/// beyond that are dropped.
 fn write_lines<R: Wait + Eprint>(rt: &R, shared: &Shared, mut text: String, mut room: Option<u64>) {
     for _ in rt.forever() {
         let left_out = shared.take(rt, &mut text);
@@ -122,7 +124,7 @@ fn write_lines<R: Wait + Eprint>(rt: &R, shared: &Shared, mut text: String, mut 
     }
 }
 
-/// Returns whether there is room for this many bytes, and counts them then.
+/// Returns whether there is room for `bytes` bytes, and if so, uses it.
 fn takes(room: &mut Option<u64>, bytes: usize) -> bool {
     let Some(left) = *room else {
         return true;
@@ -146,7 +148,7 @@ fn room_left<R: Files + AllocGlobal>(rt: &R) -> Option<u64> {
 }
 
 impl Shared {
-    /// Adds a value to what waits to be written.
+    /// Adds a value to the text that waits to be written.
     fn say<R: Wait, D: Display + Drop>(&self, rt: &R, value: D) -> io::Result<()> {
         let mut waiting = self.waiting.lock(rt);
         let added = waiting.add(value);
@@ -155,8 +157,8 @@ impl Shared {
         added
     }
 
-    /// Waits until lines are to be written, puts them into the text, and returns how many were left out after them. What was
-    /// taken before is written by then.
+    /// Waits until lines are to be written, moves them into `text`, and returns how many were left out after them. What
+    /// was taken before is written by then.
     fn take<R: Wait>(&self, rt: &R, text: &mut String) -> u64 {
         let mut waiting = self.waiting.lock(rt);
         waiting.is_writing = false;
@@ -202,7 +204,7 @@ impl Waiting {
         self.text.is_empty() && self.left_out == 0
     }
 
-    /// Returns whether all that was said is written.
+    /// Returns whether all lines are written.
     fn is_written(&self) -> bool {
         self.is_empty() && !self.is_writing
     }

@@ -3,8 +3,8 @@ ghost use Rattle.std.specs.Prelude.{◌≡◌};
 ghost use Rattle.real_devices.specs.declared.patience.TheConstants.{INTERRUPTIONS, RESTORED_WAITS, RESTORING_BYTES, WRITE_WAITS};
 ghost use Rattle.real_devices.specs.declared.watch.TheConstants.{SILENT_SECONDS};
 
-/// A client may keep its replies waiting for a hundred waits, and gets ten back for each 65,536 bytes. One that says no command
-/// for 600 seconds may have to go. A call is made again after 999 interruptions.
+/// A client may keep its replies waiting for 100 waits, and gets 10 back for each 65,536 bytes. A client that sends no
+/// command for 600 seconds may be disconnected. The 1,000th interruption of a call makes it fail.
 pub fn limits()
     ensures waits { WRITE_WAITS ≡ 100 }
     ensures restored { RESTORED_WAITS ≡ 10 }

@@ -4,17 +4,18 @@ use std::fs;
 use std::io::{Error, ErrorKind};
 use std::rt::Files;
 
-/// The file in which Linux tells the limits of the process that reads it.
+/// The file with the limits of the process that reads it.
 const LIMITS: &str = "/proc/self/limits";
 
-/// How the line of the limit on the size of a file begins. The number of bytes follows, or another word if there is none.
+/// The beginning of the line with the limit on the size of a file. The number of bytes follows, or another word if
+/// there is no limit.
 const FILE_SIZE: &str = "Max file size";
 
 /// Linux's number of the error of a write beyond the limit.
 const FILE_TOO_LARGE: i32 = 27;
 
-/// Returns how many bytes a file of this process may have, if that is limited and the system tells it. Beyond this size the
-/// system ends a process that writes, by a signal.
+/// Returns the most bytes that a file of this process may have, if that is limited and known. A process that writes
+/// beyond this size is ended by a signal.
 pub(crate) fn largest_file<R: Files + AllocGlobal>(rt: &R) -> Option<u64> {
     let limits = fs::read_to_string(rt, LIMITS).ok()?;
     for line in limits.lines() {
@@ -32,12 +33,12 @@ pub(crate) struct FileRoom {
 }
 
 impl FileRoom {
-    /// Returns the room of an empty file that may have this many bytes, if that is limited.
+    /// Returns the room of an empty file that may have `largest` bytes, if that is limited.
     pub(crate) const fn new(largest: Option<u64>) -> FileRoom {
         FileRoom { left: largest }
     }
 
-    /// Fails if the file takes no more bytes. The system takes as many of a piece as there is room for.
+    /// Fails if the file can take no more bytes. Of a piece that does not fit, the system writes what fits.
     pub(crate) fn check(&self) -> Result<(), Error> {
         match self.left {
             Some(0) => Err(Error::from_raw_os_error(FILE_TOO_LARGE)),

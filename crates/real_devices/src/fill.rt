@@ -1,4 +1,4 @@
-//! When it is said how full the journal of the history is.
+//! When the fill level of the history's journal is reported.
 ghost use Rattle.std.specs.Prelude.{◌≡◌, ◌<◌, ◌↔◌, IsTrue};
 ghost use Rattle.real_devices.specs.declared.fill.Level.TheVariants.{Low};
 ghost use Rattle.real_devices.specs.inner.Fill.{IsLevel, Notes, rank};
@@ -10,7 +10,7 @@ pub(crate) enum Level {
     Low,
     /// It holds nine tenths of its limit or more, and is not full.
     NineTenths,
-    /// It holds its limit.
+    /// It holds as many commands as its limit.
     Full,
 }
 
@@ -27,7 +27,7 @@ impl Level {
     }
 }
 
-/// How full a journal was when it was last said.
+/// The fill level of a journal when it was last reported.
 #[derive(Clone, Copy, Debug, PartialEq, Eq)]
 pub(crate) struct Fill {
     /// The most commands of the journal.
@@ -36,7 +36,7 @@ pub(crate) struct Fill {
 }
 
 impl Fill {
-    /// Returns a journal of at most `limit` commands, of which nothing was said.
+    /// Returns the fill of a journal of at most `limit` commands, of which nothing was reported.
     pub(crate) const fn new(limit: u32) -> Fill
         ensures { result ≡ record { limit = limit; said = Low } }
     {
@@ -53,8 +53,8 @@ impl Fill {
         self.limit
     }
 
-    /// Notes that the journal holds this many commands, and returns what is to be said: how full it is, if it is fuller than
-    /// when that was last said. So each level is said once at most.
+    /// Notes that the journal holds `commands` commands, and returns its level if that is fuller than the one that was
+    /// last reported. So each level is reported once at most.
     pub(crate) fn note(&mut self, commands: u32) -> Option<Level>
         ensures { Notes result commands self.old self.new }
     {
@@ -67,7 +67,7 @@ impl Fill {
     }
 }
 
-/// Returns how full a journal is that may hold `limit` commands and holds `commands`.
+/// Returns the level of a journal that holds `commands` of at most `limit` commands.
 fn level_of(limit: u32, commands: u32) -> Level
     ensures { IsLevel limit commands result }
 {

@@ -1,14 +1,14 @@
-//! What was read of a connection and not handed on yet.
+//! Bytes that were read from a connection and not handed on yet.
 ghost use Rattle.std.specs.Prelude.{◌≡◌, ◌↔◌, ◌<◌, ◌≤◌, ◌++◌, [], length, take, IsTrue, MatchResult};
 ghost use Rattle.std.specs.Io.KnownBytes.{Consumes, IsAtEnd, Keeps};
 
 use std::io::{self, Read};
 use std::marker::Model;
 
-/// How many bytes are read of a connection at once, at most.
+/// The most bytes that are read from a connection at once.
 const ROOM: usize = 4_096;
 
-/// Bytes that were read of a connection, and are handed on line by line. Contracts see those that are left.
+/// Bytes that were read from a connection, and are handed on line by line. Contracts see those that are left.
 #[derive(Drop)]
 pub(crate) struct HeldBytes {
     bytes: [u8; ROOM],
@@ -27,7 +27,7 @@ impl Model for HeldBytes {
 }
 
 impl HeldBytes {
-    /// Holds nothing.
+    /// Returns no bytes.
     pub(crate) const fn new() -> HeldBytes
         ensures { result ≡ [] }
     {
@@ -45,14 +45,14 @@ impl HeldBytes {
         self.at == self.end
     }
 
-    /// Returns what is left.
+    /// Returns the bytes that are left.
     pub(crate) fn as_slice(&self) -> &[u8]
         ensures { result.now ≡ self.now }
     {
         &self.bytes[self.at..self.end]
     }
 
-    /// Reads a piece in place of what was held, and returns how many bytes it has.
+    /// Reads a piece from the stream in place of what was held, and returns how many bytes it has.
     pub(crate) fn fill<S: Read>(&mut self, stream: &mut S) -> io::Result<usize>
         ensures read { MatchResult result
             (λ count. (count ≡ length self.new) × Consumes (S.remaining stream.old) (S.remaining stream.new) self.new
@@ -66,8 +66,8 @@ impl HeldBytes {
         Ok(count)
     }
 
-    /// Hands on the bytes of the first line, with its LF, or as many of them as have room, or all if no line ends. Returns how
-    /// many.
+    /// Hands on the first line with its LF, or as much of it as fits in `buf`, or all bytes if no line ends. Returns
+    /// how many bytes these are.
     pub(crate) fn give_line(&mut self, buf: &mut [u8]) -> usize
         ensures fits { result ≤ length buf.old }
         ensures some { 0 < length buf.old → 0 < length self.old → 0 < result }
@@ -82,7 +82,7 @@ impl HeldBytes {
     }
 }
 
-/// Returns how many bytes the first line has with its LF, or all bytes if no line ends.
+/// Returns how many bytes the first line has with its LF, or how many there are if no line ends.
 fn first_line(bytes: &[u8]) -> usize
     ensures fits { result ≤ length bytes.now }
     ensures some { 0 < length bytes.now → 0 < result }

@@ -1,4 +1,4 @@
-//! A runtime whose standard error nobody waits for.
+//! A runtime that never waits for the reader of standard error.
 use crate::error_lines::ErrorLines;
 use std::alloc::{Allocator, Global};
 use std::env::{Env, FillError};
@@ -15,7 +15,7 @@ use std::sync::Wait;
 use std::thread::Threads;
 use std::time::{Clock, Duration};
 
-/// A runtime that says its lines by a thread of their own, and does all else as the one that it stands for.
+/// A runtime that writes standard error by a thread of its own, and does all else as `rt`.
 #[derive(Clone, Copy)]
 pub struct Host<'a, R> {
     rt: R,
@@ -23,7 +23,7 @@ pub struct Host<'a, R> {
 }
 
 impl<'a, R> Host<'a, R> {
-    /// Returns a runtime that says its lines so.
+    /// Returns a runtime over `rt` that writes standard error through `lines`.
     pub fn new(rt: R, lines: &'a ErrorLines) -> Host<'a, R> {
         Host { rt, lines }
     }

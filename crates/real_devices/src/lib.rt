@@ -1,9 +1,11 @@
 //! The real devices of a server: connections over TCP, a clock that keeps to wall time, and files.
 //!
-//! Each device makes the real call, meets its trait of `play_outside`, and says on standard error why a call failed. It
-//! counts its faults, and the looks that found nothing yet, and does not tell what was read, written or given. `ready`
-//! makes all devices that a configuration names, and `finish` ends them. The output of a named pipe, or one that listens, is live: a
-//! thread of its own hands its frames to readers that come and go.
+//! Each device makes the real calls, implements its trait of `play_outside`, and reports on standard error why a call
+//! failed. Its state counts faults and calls that found nothing yet; what was read, written or given back is not in it.
+//! `ready` makes all devices that a configuration names, and `finish` ends them. The log is synced to the disk while it
+//! is written, and removed once the history is whole. A signal that was blocked at the start closes the clock. An
+//! output that is a named pipe, or that listens, is live: a thread of its own hands its frames to readers that come and
+//! go.
 #![tactic(auto)]
 
 mod complaint;
@@ -18,6 +20,7 @@ mod held_bytes;
 mod host;
 mod journal_names;
 mod live;
+mod log_file;
 mod open_line;
 mod output;
 mod outs;
@@ -26,6 +29,8 @@ mod patience;
 mod place;
 mod rate_clock;
 mod schedule;
+mod signal_clock;
+mod signals;
 mod stall;
 mod tcp_door;
 mod tcp_link;
@@ -39,9 +44,11 @@ pub use error_lines::ErrorLines;
 pub use file_sink::FileSink;
 pub use host::Host;
 pub use live::LiveRuntime;
+pub use log_file::Synced;
 pub use patience::{INTERRUPTIONS, RESTORED_WAITS, RESTORING_BYTES, WRITE_WAITS};
 pub use place::Place;
 pub use rate_clock::RateClock;
+pub use signal_clock::SignalClock;
 pub use tcp_door::TcpDoor;
 pub use tcp_link::TcpLink;
 pub use thread_trial::{start_threads, try_threads};

@@ -1,8 +1,9 @@
-//! Outputs that are live: their readers come and go, and no channel waits for them.
+//! Live outputs: their readers come and go, and no channel waits for them.
 
 mod door;
 mod listener;
 mod pipe;
+mod rhythm;
 mod shared;
 mod sink;
 mod starting;

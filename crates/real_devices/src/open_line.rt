@@ -5,7 +5,7 @@ ghost use Rattle.real_devices.specs.inner.OpenLine.{ends_word, is_line_end, is_w
 
 use std::mem;
 
-/// What has come of a line that has not ended.
+/// The bytes so far of a line that has not ended: whether they have a word.
 #[derive(Clone, Copy)]
 pub(crate) struct OpenLine {
     has_word: bool,
@@ -45,7 +45,7 @@ fn after_last_end(bytes: &[u8]) -> Option<usize>
     bytes.iter().rev().position(|byte| *byte == b'\n')
 }
 
-/// Returns whether a byte of a word is among these.
+/// Returns whether some byte is one of a word.
 fn has_word(bytes: &[u8]) -> bool
     ensures { result ≡ list_any is_word_byte bytes.now }
 {

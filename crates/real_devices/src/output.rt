@@ -1,4 +1,4 @@
-//! What an output knows besides its file: its name, its room, and how long its reader has kept it waiting.
+//! What an output has besides its file: its name, its room, and how long it has waited for its reader.
 ghost use Rattle.std.specs.Prelude.{◌<◌, ◌≤◌, length, take, IfOk, MatchResult};
 ghost use Rattle.std.specs.Io.KnownBytes.{Appends, Keeps};
 
@@ -15,19 +15,20 @@ use std::time::{Clock, Duration, Instant};
 /// Why an output is given up at the end of a run.
 const NOT_READ: &str = "its reader kept the end of the run waiting for ten seconds";
 
-/// The name of an output for standard error, how many bytes it may still take, and how long it has waited for its reader.
+/// The name of an output for standard error, how many bytes it may still take, and how long it has waited for its
+/// reader.
 #[derive(Drop)]
 pub(crate) struct Output<E> {
     name: String,
     errors: E,
     room: FileRoom,
     stall: Stall,
-    /// What tells whether the run has ended, if the output is one of a run.
+    /// The doors that show whether the run has ended, if the output is one of a run.
     group: Option<DoorGroup>,
 }
 
 impl<E: Clock + Eprint + Drop> Output<E> {
-    /// Returns an output of this name, with as much room as it wants, which waits for its reader as long as it takes.
+    /// Returns an output of this name, whose file is not limited and which waits for its reader for any time.
     pub(crate) fn new(name: String, errors: E) -> Output<E> {
         Output {
             name,
@@ -38,7 +39,7 @@ impl<E: Clock + Eprint + Drop> Output<E> {
         }
     }
 
-    /// Returns the output with this room, as one of the run that these doors serve.
+    /// Returns the output with this room, as one of the run that the doors of `group` serve.
     pub(crate) fn of_run(self, room: FileRoom, group: DoorGroup) -> Output<E> {
         Output {
             room,
@@ -47,24 +48,24 @@ impl<E: Clock + Eprint + Drop> Output<E> {
         }
     }
 
-    /// Where its lines are said.
+    /// Returns where its lines on standard error are written.
     pub(crate) fn errors(&self) -> &E {
         &self.errors
     }
 
-    /// Its name for standard error.
+    /// Returns its name for standard error.
     pub(crate) fn name(&self) -> &str {
         self.name.as_str()
     }
 
-    /// Says what is wrong with it.
+    /// Reports what is wrong with it.
     pub(crate) fn complain<D: Display>(&self, why: &D) {
         complain(&self.errors, self.name.as_str(), why);
     }
 
-    /// Writes a prefix of the piece to its file, and waits if a reader takes nothing. It waits until the reader takes
-    /// something, but at the end of a run for ten seconds together. After a second it says that it waits. An interrupted
-    /// write is made again, but for the last of `INTERRUPTIONS` interruptions.
+    /// Writes a prefix of the piece to its file. While the reader takes nothing it waits: without a limit while the run
+    /// goes on, and for ten seconds in all at its end. After a second it reports the wait. An interrupted write is made
+    /// again, but for the last of `INTERRUPTIONS` interruptions.
     pub(crate) fn write<W: Write>(&mut self, file: &mut W, piece: &[u8]) -> io::Result<usize>
         requires { 0 < length piece.now }
         ensures count { IfOk result (λ count. (0 < count) × (count ≤ length piece.now)) }
@@ -86,13 +87,13 @@ impl<E: Clock + Eprint + Drop> Output<E> {
         Err(Error::from(ErrorKind::TimedOut))
     }
 
-    /// Notes that its file took this many bytes.
+    /// Notes that its file took `count` bytes.
     fn take(&mut self, count: usize) {
         self.stall.take();
         self.room.take(count);
     }
 
-    /// Lets some time pass after this many tries of a write, of which the reader took nothing. It fails if it has waited for
+    /// Pauses after `tries` tries of a write of which the reader took nothing. It fails if the output has waited for
     /// long enough.
     fn wait(&mut self, tries: u64) -> io::Result<()> {
         let Some(pause) = pause_after(tries) else {
@@ -113,7 +114,7 @@ impl<E: Clock + Eprint + Drop> Output<E> {
         }
     }
 
-    /// Returns whether the run waits for nothing but its outputs, as far as it is known.
+    /// Returns whether, as far as is known, the run waits for nothing but its outputs.
     fn is_ending(&self) -> bool {
         match &self.group {
             Some(group) => group.is_quiet(),
@@ -122,7 +123,7 @@ impl<E: Clock + Eprint + Drop> Output<E> {
     }
 }
 
-/// Returns the nanoseconds of a time, and the most that there are if they are more.
+/// Returns the nanoseconds of a time, or `u64::MAX` if they are more.
 fn nanos_of(time: Duration) -> u64 {
     u64::try_from(time.as_nanos()).unwrap_or(u64::MAX)
 }

@@ -26,9 +26,9 @@ use std::time::Clock;
 /// What the outputs of a run share while they are made.
 #[derive(Drop)]
 pub(crate) struct RunFiles {
-    /// The files that have a use already.
+    /// The files that are in use already.
     pub(crate) used: UsedFiles,
-    /// How many bytes a file may have, if that is limited.
+    /// The most bytes of a file, if that is limited.
     pub(crate) largest: Option<u64>,
     /// The doors that serve the run.
     pub(crate) group: DoorGroup,
@@ -36,7 +36,7 @@ pub(crate) struct RunFiles {
     pub(crate) firsts: FirstReaders,
 }
 
-/// Makes the output of each channel. That of channel 1 has the mark 1.
+/// Makes the output of each channel. The output of channel 1 has the mark 1.
 fn make_outs<
     R: Net<Listener = TcpListener, Stream = TcpStream>
         + Files<File = File>
@@ -67,8 +67,8 @@ fn make_outs<
     Ok(outs)
 }
 
-/// Makes the output of each channel, and empties it if it is a regular file, once all are made. None of them may have the
-/// file that the history gets when it is whole.
+/// Makes the output of each channel, and empties those that are regular files once all are made. None of them may be
+/// the file at `history`.
 pub(crate) fn make_empty_outs<
     R: Net<Listener = TcpListener, Stream = TcpStream>
         + Files<File = File>
@@ -96,7 +96,7 @@ pub(crate) fn make_empty_outs<
     Ok(outs)
 }
 
-/// Makes the output of a channel, with this mark. It is live if it listens, or a named pipe has its path.
+/// Makes the output of a channel, with this mark. It is live if it listens, or if its path is of a named pipe.
 fn make_out<
     R: Net<Listener = TcpListener, Stream = TcpStream>
         + Files<File = File>
@@ -152,7 +152,7 @@ fn listen<R: Net<Listener = TcpListener, Stream = TcpStream> + Eprint>(
     Ok(listener)
 }
 
-/// Opens a named pipe. It fails if the pipe has a use already, and has one from then on.
+/// Opens a named pipe and adds it to the files in use. It fails if the pipe is in use already.
 fn open_unused<R: Files<File = File> + Eprint>(
     rt: &R,
     alloc: Global,
@@ -169,7 +169,7 @@ fn open_unused<R: Files<File = File> + Eprint>(
     Ok(OpenPipe { path, end, found })
 }
 
-/// Fails if a file has a use already, and says which.
+/// Fails if a file is in use already, and reports its use.
 pub(crate) fn refuse_used<R: Files + Eprint>(
     rt: &R,
     path: &str,
@@ -187,8 +187,9 @@ pub(crate) fn refuse_used<R: Files + Eprint>(
     }
 }
 
-/// Makes a file, or opens it and leaves what it holds, for a sink with this mark. It fails if the file has a use already,
-/// and has one from then on. If a named pipe has this path, it waits until somebody reads it, and standard error says so.
+/// Opens a file without emptying it, or makes it, for a sink with this mark, and adds it to the files in use. It fails
+/// if the file is in use already. If the path is of a named pipe, the call waits until somebody reads it, and standard
+/// error says so.
 pub(crate) fn make_sink<R: Files<File = File> + Clock + Eprint + Copy + Drop>(
     rt: R,
     alloc: Global,
@@ -215,8 +216,8 @@ pub(crate) fn make_sink<R: Files<File = File> + Clock + Eprint + Copy + Drop>(
     Ok(FileSink::new(name, Some(file), rt, mark).of_run(room, group))
 }
 
-/// Opens a file to write, and makes it if there is none. Returns it with what the system tells of it. If it is no regular
-/// file, no write to it waits.
+/// Opens a file to write, or makes it, and returns it with its metadata. If it is no regular file, no write to it
+/// waits.
 fn open<R: Files<File = File>>(rt: &R, path: &str) -> io::Result<(File, Metadata)> {
     let mut how = OpenOptions::new();
     let file = how.write(true).create(true).open(rt, path)?;
@@ -252,7 +253,7 @@ fn empty(file: Option<&File>) -> io::Result<()> {
     Ok(())
 }
 
-/// Says why a device was not made, and returns the fault of that.
+/// Reports why a device was not made, and returns the fault.
 pub(crate) fn not_made<E: Eprint>(errors: &E, of: &str, why: &io::Error) -> FileFault {
     complain(errors, of, why);
     match why.kind() {

@@ -1,15 +1,15 @@
-//! How often lines of one kind come on standard error.
+//! How often lines of one kind are written to standard error.
 use std::fmt::{self, Display, Formatter, Write};
 use std::sync::atomic::{AtomicU64, Ordering};
 use std::time::Clock;
 
-/// For how many milliseconds after a line no other of its kind is written.
+/// For how many milliseconds after a line no other line of its kind is written.
 const PAUSE_MILLIS: u64 = 1_000;
 
 /// When the next line of a kind may be written, and how many were left out since the last one. Threads share it.
 #[derive(Drop)]
 pub(crate) struct Pace {
-    /// The millisecond of the clock from which on a line is written.
+    /// The millisecond of the clock from which on a line may be written.
     due: AtomicU64,
     left_out: AtomicU64,
 }
@@ -26,7 +26,7 @@ impl LeftOut {
 }
 
 impl Display for LeftOut {
-    /// Writes the end of a line, which is empty if none was left out.
+    /// Writes the end of a line, which is empty if no line was left out.
     fn fmt<W: Write>(&self, f: &mut Formatter<W>) -> fmt::Result {
         match self.0 {
             0 => Ok(()),
@@ -37,7 +37,7 @@ impl Display for LeftOut {
 }
 
 impl Pace {
-    /// Returns a kind of which no line was written.
+    /// Returns the pace of a kind of which no line was written.
     pub(crate) const fn new() -> Pace {
         Pace {
             due: AtomicU64::new(0),
@@ -45,8 +45,8 @@ impl Pace {
         }
     }
 
-    /// Returns how many lines were left out, if one may be written now, and begins to count anew. Else this one is left
-    /// out.
+    /// Returns how many lines were left out if one may be written now, and resets the count. Else this line is left
+    /// out, and `None` returned.
     pub(crate) fn next<T: Clock>(&self, time: &T) -> Option<LeftOut> {
         let now = millis(time);
         let due = self.due.load(Ordering::SeqCst);
@@ -57,12 +57,12 @@ impl Pace {
         None
     }
 
-    /// Returns how many lines were left out, and begins to count anew.
+    /// Returns how many lines were left out, and resets the count.
     pub(crate) fn take(&self) -> LeftOut {
         LeftOut(self.left_out.swap(0, Ordering::SeqCst))
     }
 
-    /// Sets when the next line is due, unless another thread has set it.
+    /// Sets when the next line is due, unless another thread has set it. Returns whether it did.
     fn is_first(&self, due: u64, next: u64) -> bool {
         self.due
             .compare_exchange(due, next, Ordering::SeqCst, Ordering::SeqCst)
@@ -70,7 +70,7 @@ impl Pace {
     }
 }
 
-/// Returns the milliseconds of the clock, and the most that there are if it cannot be read, so that all is said then.
+/// Returns the milliseconds of the clock, or `u64::MAX` if it cannot be read, so that each line is due then.
 pub(crate) fn millis<T: Clock>(time: &T) -> u64 {
     match time.monotonic() {
         Ok(since) => u64::try_from(since.as_millis()).unwrap_or(u64::MAX),

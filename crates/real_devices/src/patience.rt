@@ -5,28 +5,28 @@ ghost use Rattle.real_devices.specs.inner.Patience.{Counts, Restores};
 
 use std::io::{self, Error, ErrorKind, Write};
 
-/// The interruption of this number in one call counts as a failure.
+/// How many interruptions of one call make it fail.
 pub const INTERRUPTIONS: u32 = 1_000;
 
-/// For how many waits, of a tenth of a second each, a client may keep the replies between two of its reads waiting.
+/// How many waits, of a tenth of a second each, the writes to a client may take between two of its reads.
 pub const WRITE_WAITS: u32 = 100;
 
-/// How many bytes that a client takes give `RESTORED_WAITS` back to it.
+/// How many bytes a client takes for `RESTORED_WAITS` waits to be restored.
 pub const RESTORING_BYTES: u32 = 65_536;
 
-/// How many waits a client gets back for `RESTORING_BYTES` that it takes.
+/// How many waits are restored for `RESTORING_BYTES` bytes that a client takes.
 pub const RESTORED_WAITS: u32 = 10;
 
-/// How often writes may still wait.
+/// How many more times writes may wait.
 #[derive(Clone, Copy, Debug, PartialEq, Eq)]
 pub(crate) struct Patience {
     waits: u32,
-    /// How many bytes were taken since the last ones that gave waits back.
+    /// How many bytes were taken since waits were last restored.
     taken: u32,
 }
 
 impl Patience {
-    /// For a file, of which no call is made again after a wait.
+    /// For a file: a call that would have to wait fails at once.
     pub(crate) const FILE: Patience = Patience { waits: 1, taken: 0 };
 
     /// For a client, which may take nothing for ten seconds.
@@ -52,7 +52,7 @@ impl Patience {
         self.waits = self.waits.saturating_sub(u32::from(count < asked));
     }
 
-    /// Gives waits back for bytes that were taken.
+    /// Restores waits for `count` bytes that were taken.
     fn restore(&mut self, count: usize)
         ensures { Restores count self.old self.new }
     {
@@ -70,8 +70,8 @@ impl Patience {
     }
 }
 
-/// Writes a prefix of the piece, at least one byte, and returns how many bytes were taken. The write is made again after
-/// interruptions, and after waits as far as the patience allows.
+/// Writes a prefix of the piece, at least one byte, and returns how many bytes were taken. The write is made again
+/// after interruptions, and after waits as far as `patience` allows.
 pub(crate) fn write_some<W: Write>(
     output: &mut W,
     piece: &[u8],

@@ -9,12 +9,12 @@ use std::sync::atomic::{AtomicU64, Ordering};
 /// The state of a place whose door waits for a connection.
 pub(crate) const FREE: u64 = u64::MAX;
 
-/// The state of a place that is not free and has no silent client: its door was not asked for a connection yet, or what its client
-/// said is being answered. A smaller state is the moment since which its client has said no command.
+/// The state of a place that is not free and has no silent client: its door was not asked for a connection yet, or a
+/// command of its client is being answered. A smaller state is the moment since which its client has sent no command.
 pub(crate) const BUSY: u64 = u64::MAX - 1;
 
-/// One of the places of a group: that of a door, and of the client that came by it. What a place is, free, busy or with a silent
-/// client, is one number that is set as a whole, so that no place can be counted twice.
+/// One of the places of a group: that of a door, and of the client that came by it. Whether a place is free, busy or
+/// has a silent client is one atomic number, so that no place can be counted twice.
 #[derive(Drop)]
 pub struct Place {
     group: DoorGroup,
@@ -22,12 +22,12 @@ pub struct Place {
 }
 
 impl Place {
-    /// Returns the place with this number of a group that has it.
+    /// Returns the place at index `at` of a group that has it.
     pub(crate) fn new(group: DoorGroup, at: usize) -> Place {
         Place { group, at }
     }
 
-    /// Returns the same place, for a link. It takes no memory.
+    /// Returns another handle of this place, for a link.
     pub fn try_clone(&self) -> io::Result<Place> {
         Ok(Place {
             group: self.group.try_clone()?,
@@ -61,9 +61,9 @@ impl Place {
         }
     }
 
-    /// Makes the place free, if no other is and no other client has said no command for longer than the one here, which has said
-    /// none since this moment. Returns whether it did. Of clients that ask at once one alone goes, since each but that of the
-    /// longest silence stays for another.
+    /// Makes the place free, unless another one is free or another client has sent no command for longer than the one
+    /// here, which has sent none since `since`. Returns whether it did. Of clients that ask at the same time only one
+    /// goes: each but the one of the longest silence stays.
     fn frees_first(&self, since: u64) -> bool {
         let silent = Silent { at: self.at, since };
         for (other, state) in self.group.places().iter().enumerate() {
@@ -80,7 +80,7 @@ impl Place {
     }
 }
 
-/// The client at place `at`, which has said no command since a moment.
+/// The client at place `at`, which has sent no command since the moment `since`.
 #[derive(Clone, Copy)]
 struct Silent {
     at: usize,
@@ -88,8 +88,8 @@ struct Silent {
 }
 
 impl Silent {
-    /// Returns whether the client stays for another place in a state: if that is free, or its client has said no command for longer, or
-    /// for as long at a lower place.
+    /// Returns whether the client keeps its place because of the place `other` in this state: that is free, or its
+    /// client has sent no command for longer, or for as long at a lower index.
     fn stays_for(self, other: usize, state: u64) -> bool
         ensures { IsTrue result ↔ StaysFor self other state }
     {
@@ -97,13 +97,13 @@ impl Silent {
     }
 }
 
-/// A client at a place. When it is dropped without having made the place free, nobody is silent there any more.
+/// A client at a place. When it is dropped and has not freed the place, the place is busy.
 pub(crate) struct Seat {
     place: Place,
 }
 
 impl Seat {
-    /// Takes the place, for a client that has said no command since a moment.
+    /// Takes the place, for a client that has sent no command since `since`.
     pub(crate) fn take(place: Place, since: u64) -> Seat {
         let seat = Seat { place };
         seat.be_silent(since);
@@ -115,18 +115,18 @@ impl Seat {
         self.place.group()
     }
 
-    /// Notes that what the client said is being answered.
+    /// Notes that a command of the client is being answered.
     pub(crate) fn be_busy(&self) {
         self.place.set(BUSY);
     }
 
-    /// Notes that the client has said no command since a moment.
+    /// Notes that the client has sent no command since `since`.
     pub(crate) fn be_silent(&self, since: u64) {
         self.place.set(since.min(BUSY - 1));
     }
 
-    /// Frees the place for another client, if it is this client that goes, which has said no command since a moment. Returns whether it
-    /// is.
+    /// Frees the place for another client if this is the client that goes, which has sent no command since `since`.
+    /// Returns whether it is.
     pub(crate) fn gives_way(&self, since: u64) -> bool {
         self.place.frees_first(since.min(BUSY - 1))
     }

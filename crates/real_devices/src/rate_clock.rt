@@ -9,11 +9,11 @@ use crate::schedule::{Schedule, Step};
 use play_outside::{Beat, Clock};
 use std::io::{self, Eprint, ErrorKind};
 use std::thread;
-use std::time::{self, Instant};
+use std::time::{self, Duration, Instant};
 
-/// Gives `rate` pulses in each second of wall time, from its first call on, and never closes. It says on standard error
-/// why a call failed, how many pulses it passed over, and once each that the journal of the history holds nine tenths of
-/// its limit, and that it is full. It does not tell how many pulses it gave.
+/// Gives `rate` pulses in each second of wall time, from its first call on, and never closes. It reports on standard
+/// error why a call failed, how many pulses it passed over, and, once each, that the journal of the history holds nine
+/// tenths of its limit and that it is full. Its state does not count the pulses.
 #[derive(Drop)]
 pub struct RateClock<R> {
     rt: R,
@@ -28,8 +28,8 @@ pub struct RateClock<R> {
 impl<R: time::Clock + Eprint + Drop> RateClock<R> {
     ghost use Rattle.real_devices.specs.State.{clock_state};
 
-    /// Returns a clock of `rate` pulses in a second, beside a journal of at most `journal_limit` commands. No call of it was
-    /// made yet.
+    /// Returns a clock of `rate` pulses a second, beside a journal of at most `journal_limit` commands. No call of it
+    /// was made yet.
     pub fn new(rt: R, rate: u32, journal_limit: u32) -> RateClock<R>
         requires { 0 < rate }
         ensures { clock_state result ≡ quiet_clock }
@@ -43,8 +43,19 @@ impl<R: time::Clock + Eprint + Drop> RateClock<R> {
         }
     }
 
-    /// Waits until the next pulse is due. One that is late comes at once. If it is late by more than a second, the
-    /// pulses begin anew from now, and it is said how many were passed over.
+    /// Returns how long it is until the next pulse is due, if that is known. If no call was made before, the pulses
+    /// begin with this one.
+    pub(crate) fn left(&mut self) -> Option<Duration>
+        ensures { clock_state self.new ≡ clock_state self.old }
+    {
+        let now = Instant::now(&self.rt).ok()?;
+        let schedule = self.schedule.unwrap_or(Schedule::begin(now));
+        self.schedule = Some(schedule);
+        schedule.left(now, self.rate)
+    }
+
+    /// Waits until the next pulse is due, or not at all if it is late. If it is more than a second late, the pulses
+    /// begin anew from now, and the number that was passed over is reported.
     fn wait(&mut self) -> io::Result<()>
         ensures { self.new.faults ≡ self.old.faults }
     {
@@ -65,7 +76,7 @@ impl<R: time::Clock + Eprint + Drop + Send> Clock for RateClock<R> {
 
     ghost state = { clock_state };
 
-    /// Sleeps until the next pulse is due. It never answers `Closed`.
+    /// Sleeps until the next pulse is due. It never returns `Closed`.
     fn next(&mut self) -> Beat
         ensures beats { Beats result (clock_state self.old) (clock_state self.new) }
         ensures goes_on { result ≢ Beat.Closed }
@@ -80,7 +91,7 @@ impl<R: time::Clock + Eprint + Drop + Send> Clock for RateClock<R> {
         }
     }
 
-    /// Says that the journal holds nine tenths of its limit, and once it is full, that. Each of the two is said once at most.
+    /// Reports that the journal holds nine tenths of its limit, or that it is full, each once at most.
     fn holds(&mut self, commands: u32)
         ensures { clock_state self.new ≡ clock_state self.old }
     {

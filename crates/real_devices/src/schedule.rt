@@ -6,7 +6,7 @@ ghost use Rattle.real_devices.specs.inner.Schedule.{Advances, AreIn, IsDue};
 
 use std::time::{Duration, Instant};
 
-/// A pulse that is late by more than so many seconds ends the schedule, and a new one begins.
+/// A pulse that is late by more than this many seconds ends the schedule, and a new one begins.
 const STALL_SECONDS: u64 = 1;
 
 /// The nanoseconds of a second.
@@ -15,13 +15,13 @@ const SECOND: u128 = 1_000_000_000;
 /// What a clock does for its next pulse.
 #[derive(Clone, Copy, Debug, PartialEq, Eq)]
 pub(crate) enum Step {
-    /// It waits for so long. No time is left to wait if the pulse is late.
+    /// It waits for this time, which is 0 if the pulse is late.
     Wait(Duration),
-    /// It gives the pulse, and passes over this many more that were due by then.
+    /// It gives the pulse at once, and passes over this many more that were due by then.
     PassOver(u128),
 }
 
-/// Pulses that are due evenly, from a beginning on.
+/// Pulses that are due at even distances, from a beginning on.
 #[derive(Clone, Copy)]
 pub(crate) struct Schedule {
     begun: Instant,
@@ -39,8 +39,8 @@ impl Schedule {
         }
     }
 
-    /// Takes the next pulse, at `rate` pulses in a second. If it is late by more than a second, a new schedule begins
-    /// now. It returns `None` if the pulse is due at a time that no clock reads, and changes nothing then.
+    /// Takes the next pulse, at `rate` pulses a second. If it is more than a second late, a new schedule begins now. If
+    /// the pulse is due at a time that no clock reads, this returns `None` and changes nothing.
     pub(crate) fn next(&mut self, now: Instant, rate: u32) -> Option<Step>
         requires { 0 < rate }
         ensures { Advances result rate now self.old self.new }
@@ -55,7 +55,14 @@ impl Schedule {
         Some(Step::Wait(due.duration_since(now)))
     }
 
-    /// Returns when the next pulse is due.
+    /// Returns how long it is until the next pulse is due, or `None` if it is due at a time that no clock reads.
+    pub(crate) fn left(&self, now: Instant, rate: u32) -> Option<Duration>
+        requires { 0 < rate }
+    {
+        Some(self.due(rate)?.duration_since(now))
+    }
+
+    /// Returns when the next pulse is due, or `None` if no clock reads that time.
     fn due(&self, rate: u32) -> Option<Instant>
         requires { 0 < rate }
         ensures { IfSome result (λ due. IsDue rate self.now (instant_nanos due)) }
@@ -66,7 +73,7 @@ impl Schedule {
     }
 }
 
-/// Returns how many nanoseconds after the beginning the pulse behind `given` pulses is due.
+/// Returns how many nanoseconds after the beginning the pulse after the first `given` ones is due.
 #[tactic(auto, using(crate::proofs::Pulses::quotient_fits, crate::proofs::Pulses::one_more_is_beyond))]
 fn nanos_before_next(given: u64, rate: u32) -> u128
     requires { 0 < rate }

@@ -4,19 +4,19 @@ ghost use Rattle.real_devices.specs.inner.Stall.{Waits};
 
 use std::time::Duration;
 
-/// After how many nanoseconds without a byte taken it is said that an output waits.
+/// After how many nanoseconds in which no byte was taken the wait of an output is reported.
 const SAID_NANOS: u64 = 1_000_000_000;
 
 /// For how many nanoseconds an output may keep the end of a run waiting.
 const END_NANOS: u64 = 10_000_000_000;
 
-/// How many tries of a write come without a pause.
+/// How many tries of a write come one after the other without a pause.
 const BUSY_TRIES: u64 = 50;
 
-/// By how many microseconds each further pause is longer than the one before.
+/// By how many microseconds each further pause is longer than the one before it.
 const PAUSE_MICROS: u64 = 50;
 
-/// How long a pause is at most, in microseconds.
+/// The longest pause, in microseconds.
 const MOST_PAUSE_MICROS: u64 = 5_000;
 
 /// What an output does whose reader keeps it waiting.
@@ -24,7 +24,7 @@ const MOST_PAUSE_MICROS: u64 = 5_000;
 pub(crate) enum StallStep {
     /// It waits on.
     GoOn,
-    /// It says that it waits, and waits on.
+    /// It reports the wait, and waits on.
     Say,
     /// It waits no longer.
     GiveUp,
@@ -35,14 +35,14 @@ pub(crate) enum StallStep {
 pub(crate) struct Stall {
     /// For how many nanoseconds the reader has taken nothing.
     idle: u64,
-    /// Whether that was said.
+    /// Whether that was reported.
     is_said: bool,
     /// For how many nanoseconds the output has kept the end of the run waiting.
     at_end: u64,
 }
 
 impl Stall {
-    /// Returns an output that has not waited.
+    /// Returns the stall of an output that has not waited.
     pub(crate) const fn new() -> Stall
         ensures { result ≡ record { idle = 0; is_said = false; at_end = 0 } }
     {
@@ -61,8 +61,8 @@ impl Stall {
         self.is_said = false;
     }
 
-    /// Counts a wait of `nanos` nanoseconds, during which the reader took nothing, and returns what to do. `is_ending` is
-    /// whether the run waits for nothing else.
+    /// Counts a wait of `nanos` nanoseconds, during which the reader took nothing, and returns what to do. `is_ending`
+    /// is whether the run waits for nothing but its outputs.
     pub(crate) fn wait(&mut self, nanos: u64, is_ending: bool) -> StallStep
         ensures { Waits result nanos is_ending self.old self.new }
     {
@@ -83,7 +83,7 @@ impl Stall {
     }
 }
 
-/// Returns how long to wait after this many tries of a write, if at all: the longer the more tries there were.
+/// Returns how long to pause after `tries` tries of a write, if at all: the longer the more tries there were.
 pub(crate) fn pause_after(tries: u64) -> Option<Duration> {
     let pauses = tries.checked_sub(BUSY_TRIES)?;
     let micros = pauses.saturating_mul(PAUSE_MICROS).min(MOST_PAUSE_MICROS);

@@ -1,4 +1,4 @@
-//! A place where connections over TCP come.
+//! A listening socket for connections over TCP.
 ghost use Rattle.std.specs.Prelude.{◌≡◌, ◌↔◌, ◌<◌, IfOk, IsTrue};
 ghost use Rattle.std.specs.IoError.{raw_os_error};
 ghost use Rattle.play_outside.specs.Listener.{Arrives, IfCame};
@@ -33,8 +33,8 @@ const INVALID_ARGUMENT: i32 = 22;
 
 const NOT_A_SOCKET: i32 = 88;
 
-/// A listening socket, which doors may share. It says on standard error why a call failed. It does not tell what was
-/// given back.
+/// A listening socket, which doors may share. It reports on standard error why a call failed. Its state does not hold
+/// what was given back.
 #[derive(Drop)]
 pub struct TcpDoor<R> {
     listener: TcpListener,
@@ -47,9 +47,9 @@ pub struct TcpDoor<R> {
 }
 
 impl<R: Clock + Eprint + Copy + Drop> TcpDoor<R> {
-    /// Takes a listening socket, in whose calls it waits for a second from then on. The door takes a place of this
-    /// group, in which all doors of the socket are. It has this mark, and no call of it was made yet. An error of the system is
-    /// handed on.
+    /// Takes a listening socket, whose calls wait for a second at most from then on. The door takes a place of `group`,
+    /// which all doors of the socket share. It has this mark, and no call of it was made yet. Fails with the error of
+    /// the system, or if the group has no place left.
     pub fn new(listener: TcpListener, rt: R, group: DoorGroup, mark: u64) -> io::Result<TcpDoor<R>>
         ensures { IfOk result (λ door. door_state door ≡ quiet_door mark) }
     {
@@ -71,7 +71,7 @@ impl<R: Clock + Eprint + Copy + Drop> TcpDoor<R> {
         self.listener.local_addr()
     }
 
-    /// Says how many lines about the doors of the group and their connections were left out since the last ones.
+    /// Reports how many lines about the doors of the group and their connections were left out since the last ones.
     pub fn say_left_out(&self) {
         say_left_out(&self.rt, "connections", self.place.group().clients().take());
         say_left_out(
@@ -91,7 +91,7 @@ impl<R: Clock + Eprint + Copy + Drop> TcpDoor<R> {
         TcpLink::new(stream, client, self.rt, self.place.try_clone()?, self.mark)
     }
 
-    /// Takes a connection that waits, if one comes within a second. The door is free until its link is made.
+    /// Accepts a connection, if one comes within a second. The door is free until its link is made.
     fn look(&mut self) -> Arrival<TcpLink<TcpStream, R>>
         requires { self.old.away < MOST_AWAY }
         ensures arrives { Arrives result (door_state self.old) (door_state self.new) }
@@ -123,7 +123,8 @@ impl<R: Clock + Eprint + Copy + Drop> TcpDoor<R> {
         }
     }
 
-    /// Says what is wrong with the socket, and lets some time pass, if it is more than that no connection has come.
+    /// Reports what is wrong with the socket, and sleeps for a moment, unless the error only means that no connection
+    /// has come.
     fn wait_after(&self, error: &io::Error) {
         if is_pause(error.kind()) || is_of_client(error.kind()) {
             return;
@@ -138,8 +139,8 @@ impl<R: Clock + Eprint + Copy + Drop + Send> Listener for TcpDoor<R> {
 
     ghost state = { door_state };
 
-    /// Takes a connection that waits. If none comes within a second there is none yet. Nor is there one if the
-    /// client has ended it before it was taken, or the system is short of something that may come back.
+    /// Accepts a connection. It returns `Again` if none comes within a second, if the client ends it before it is
+    /// accepted, or if the system is short of something that may come back.
     fn next(&mut self) -> Arrival<TcpLink<TcpStream, R>> {
         self.place.group().begin_call();
         let arrival = self.look();
@@ -157,7 +158,7 @@ impl<R: Clock + Eprint + Copy + Drop + Send> Listener for TcpDoor<R> {
     }
 }
 
-/// Limits how long a call of `accept` waits. The system has one limit for the reads of a stream and the calls of a
+/// Limits how long a call of `accept` waits. The system has one limit for the reads of a stream and for the calls of a
 /// listening socket.
 fn limit_wait(listener: &TcpListener) -> io::Result<()> {
     let socket = OwnedFd::from(listener.try_clone()?);
@@ -165,8 +166,8 @@ fn limit_wait(listener: &TcpListener) -> io::Result<()> {
     TcpStream::from(socket).set_read_timeout(Some(wait))
 }
 
-/// Returns whether an error of the listening socket is one that does not pass. All others may: too many open files, want
-/// of memory, what a firewall forbids, and what is wrong with the network or a single connection.
+/// Returns whether an error of the listening socket does not pass. All others may: too many open files, lack of memory,
+/// what a firewall forbids, and faults of the network or of a single connection.
 fn has_failed(error: &io::Error) -> bool
     ensures { IsTrue result ↔ HasFailed (raw_os_error error.now) }
 {
@@ -179,7 +180,7 @@ fn has_failed(error: &io::Error) -> bool
     }
 }
 
-/// Returns whether an error of the listening socket says that the client of a connection has gone.
+/// Returns whether an error of the listening socket means that the client of a connection has gone.
 fn is_of_client(kind: ErrorKind) -> bool {
     matches!(
         kind,

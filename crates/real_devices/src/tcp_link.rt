@@ -16,30 +16,31 @@ use std::io::{self, Eprint, Error, ErrorKind, Read, Write};
 use std::net::{OpenStream, Shutdown, SocketAddr};
 use std::time::{Clock, Duration, Instant};
 
-/// For how many milliseconds a single call of the system waits for a client.
+/// For how many milliseconds one call of the system waits for a client.
 const WAIT_MILLIS: u64 = 100;
 
-/// For how many milliseconds what a client still sends is read and dropped, before its connection is closed. The last
-/// read may add `WAIT_MILLIS`.
+/// For how many milliseconds input of a client is read and dropped before its connection is closed. The last read may
+/// add `WAIT_MILLIS`.
 const FAREWELL_MILLIS: u64 = 400;
 
-/// How many pieces of what a client still sends are read and dropped at most.
+/// The most pieces of input that are read and dropped then.
 const FAREWELL_PIECES: u32 = 256;
 
-/// Why a connection is ended of which the client takes too little.
+/// Why a connection is ended whose client takes too little.
 const SLOW: &str = "kept its replies waiting for ten seconds";
 
 /// Why a connection is ended for another client.
 const SILENT: &str = "said no command for ten minutes while no connection was free";
 
-/// A connection to a client. It says on standard error why a call failed. It does not tell what was read or taken.
+/// A connection to a client. It reports on standard error why a call failed. Its state does not hold what was read or
+/// taken.
 #[derive(Drop)]
 pub struct TcpLink<S, R> {
     stream: S,
     client: SocketAddr,
     rt: R,
     seat: Seat,
-    /// What was read and not handed on yet.
+    /// Bytes that were read and not handed on yet.
     held: HeldBytes,
     /// How long the replies to what was read last may still wait.
     patience: Patience,
@@ -50,9 +51,9 @@ pub struct TcpLink<S, R> {
 }
 
 impl<S: Read + Write + OpenStream + Drop, R: Clock + Eprint + Drop> TcpLink<S, R> {
-    /// Takes a connection, whose calls wait for the client a tenth of a second each. It takes this place, which is
-    /// free no longer. The link has this mark, and no call of it was made yet. An error of the system is handed on, and leaves the place
-    /// as it is.
+    /// Takes a connection, whose calls wait for the client for a tenth of a second each. The link takes `place`, which
+    /// is no longer free, and has this mark. No call of it was made yet. An error of the system is returned, and leaves
+    /// the place as it is.
     pub fn new(
         stream: S,
         client: SocketAddr,
@@ -81,8 +82,9 @@ impl<S: Read + Write + OpenStream + Drop, R: Clock + Eprint + Drop> TcpLink<S, R
         })
     }
 
-    /// Ends the connection. If no call has failed, the client is told the end, and what it still sends is read and
-    /// dropped for a moment, since the system takes back what the client has not read yet if bytes are left unread.
+    /// Ends the connection. If no call has failed, its writing side is shut down first, and input of the client is read
+    /// and dropped for a moment: if input is left unread at the close, the system discards replies that the client has
+    /// not read yet.
     pub(crate) fn close<T: Clock>(self, time: &T) {
         let mut stream = self.stream;
         if self.faults == 0 && stream.shutdown(Shutdown::Write).is_ok() {
@@ -102,8 +104,8 @@ impl<S: Read + Write + OpenStream + Drop, R: Clock + Eprint + Drop> TcpLink<S, R
         LinkStep::Again
     }
 
-    /// Finds nothing; or fails, if the client has said no command for ten minutes, no place is free, and no other client has said
-    /// none for longer.
+    /// Finds nothing; or fails, if the client has sent no command for ten minutes, no place is free, and no other
+    /// client has sent none for longer.
     fn rest(&mut self, now: u64) -> LinkStep
         ensures reads { (buffer : List ℕ) → LinkReads result buffer (link_state self.old) (link_state self.new) }
         ensures stream { (buffer : List ℕ)
@@ -116,7 +118,7 @@ impl<S: Read + Write + OpenStream + Drop, R: Clock + Eprint + Drop> TcpLink<S, R
         self.find_nothing(now)
     }
 
-    /// Makes a read that does not look at the stream. If the last read brought a command, more may wait.
+    /// Makes a read that skips the stream. It cannot fail if the last read brought a command, since more may wait.
     fn pass_over(&mut self, now: u64) -> LinkStep
         ensures reads { (buffer : List ℕ) → LinkReads result buffer (link_state self.old) (link_state self.new) }
         ensures stream { (buffer : List ℕ)
@@ -128,7 +130,7 @@ impl<S: Read + Write + OpenStream + Drop, R: Clock + Eprint + Drop> TcpLink<S, R
         self.rest(now)
     }
 
-    /// Notes what was read of the stream. While a command is being answered its client is not silent.
+    /// Notes what was read from the stream. While a command is being answered its client does not count as silent.
     fn hear(&mut self, now: u64)
         ensures state { link_state self.new ≡ link_state self.old }
         ensures stream { stream_of self.new ≡ stream_of self.old }
@@ -202,7 +204,7 @@ impl<S: Read + Write + OpenStream + Drop, R: Clock + Eprint + Drop> TcpLink<S, R
         }
     }
 
-    /// Hands on the first line of what is held.
+    /// Hands on the first line of the bytes that are held.
     fn hand_on(&mut self, buf: &mut [u8]) -> LinkStep
         requires room { 0 < length buf.old }
         requires some { 0 < length (held_of self.old) }
@@ -212,7 +214,7 @@ impl<S: Read + Write + OpenStream + Drop, R: Clock + Eprint + Drop> TcpLink<S, R
         LinkStep::Got(self.held.give_line(buf))
     }
 
-    /// Counts a failed call, and says why it failed.
+    /// Counts a failed call, and reports why it failed.
     fn fail(&mut self, error: &Error)
         ensures state { link_state self.new ≡ after_failed_read (link_state self.old) }
         ensures stream { stream_of self.new ≡ stream_of self.old }
@@ -243,7 +245,7 @@ fn drop_input<S: Read, T: Clock>(stream: &mut S, time: &T) {
     }
 }
 
-/// Returns whether an error says that nothing has come yet.
+/// Returns whether an error means that nothing has come yet.
 pub(crate) fn is_pause(kind: ErrorKind) -> bool {
     matches!(
         kind,
@@ -256,7 +258,7 @@ impl<S: Read + Write + OpenStream + Drop, R: Clock + Eprint + Drop> Sink for Tcp
 
     /// Writes a prefix of the piece. An interrupted write is made again, but for the last of `INTERRUPTIONS`
     /// interruptions, and so is one of which the client took nothing in its time. Between two reads the writes wait
-    /// `WRITE_WAITS` times at most, and `RESTORED_WAITS` times more for each `RESTORING_BYTES` that were taken.
+    /// `WRITE_WAITS` times at most, and `RESTORED_WAITS` times more for each `RESTORING_BYTES` bytes that were taken.
     fn write(&mut self, piece: &[u8]) -> WriteStep
         requires { 0 < length piece.now }
         ensures writes { Writes result piece.now (link_state self.old) (link_state self.new) }
@@ -271,10 +273,11 @@ impl<S: Read + Write + OpenStream + Drop, R: Clock + Eprint + Drop> Sink for Tcp
 
 impl<S: Read + Write + OpenStream + Drop + Send, R: Clock + Eprint + Drop + Send> Link
     for TcpLink<S, R> {
-    /// Reads the next line of what has come, or the beginning of one that has not ended, and waits a tenth of a second if nothing has. A wait that ends and an interruption are no
-    /// failure. Once a second it says that nothing has come yet without a look at the stream. If the client has said no command for
-    /// `SILENT_SECONDS`, no place is free, and no other client has said none for longer, the read fails: where it finds nothing, or
-    /// where it does not look at the stream and the last read brought no command.
+    /// Reads the next line of what has come, or the beginning of one that has not ended, and waits for a tenth of a
+    /// second if nothing has come. The end of that wait and an interruption are no failures: the read returns `Again`.
+    /// Once a second it returns `Again` without reading the stream. If the client has sent no command for
+    /// `SILENT_SECONDS`, no place is free, and no other client has sent none for longer, the read fails when it finds
+    /// nothing, or when it skips the stream and the last read brought no command.
     fn read(&mut self, buf: &mut [u8]) -> LinkStep
         requires { 0 < length buf.old }
         ensures reads { LinkReads result buf.new (link_state self.old) (link_state self.new) }

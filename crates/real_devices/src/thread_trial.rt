@@ -9,21 +9,22 @@ use std::sync::Arc;
 use std::sync::atomic::{AtomicBool, AtomicUsize, Ordering};
 use std::thread::{self, Builder, Threads};
 
-/// How often a thread of a trial looks whether it may end, before it ends anyway.
+/// How often a thread of a trial looks whether the trial is over before it ends anyway.
 const LOOKS: u32 = 1_000_000;
 
-/// Finds out whether the system has a thread for each connection of a configuration, for each of its outputs that is live, and one more,
-/// besides the one of the caller: beside the connections ticks are made, and frames are made and written. Threads are started for a trial, and have ended when this
-/// returns.
+/// Finds out whether the system has enough threads besides that of the caller: one for each connection of a
+/// configuration, one for each live output, and two more, since beside the connections ticks are made, frames are made
+/// and written, and the log is kept. Threads are started for a trial, and have ended when this returns.
 ///
-/// It fails as if memory ran out if some could not be started, and standard error says how many were; or if memory ran out.
+/// It fails if memory ran out, or, with the same error, if some threads could not be started; then standard error says
+/// how many were.
 pub fn try_threads<R: Threads + Files + Eprint>(
     rt: &R,
     alloc: Global,
     config: &Config,
 ) -> Result<(), AllocError> {
     let live = count_live(rt, config);
-    let wanted = config.connections().saturating_add(live).saturating_add(1);
+    let wanted = config.connections().saturating_add(live).saturating_add(2);
     let started = start_threads(rt, alloc, wanted)?;
     if started < wanted as usize {
         say_few_threads(rt, started, wanted);
@@ -40,7 +41,7 @@ struct Trial {
     is_over: AtomicBool,
 }
 
-/// Starts this many threads, all beside one another, and ends them. Returns how many could be started, as they counted themselves.
+/// Starts `count` threads that run at once, and ends them. Returns how many have begun.
 pub fn start_threads<R: Threads>(rt: &R, alloc: Global, count: u32) -> Result<usize, AllocError> {
     let trial = Arc::new(
         alloc,

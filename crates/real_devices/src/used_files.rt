@@ -1,4 +1,4 @@
-//! Which files have a use already.
+//! Which files are in use already.
 
 use crate::outs::not_made;
 use play_outside::FileFault;
@@ -10,7 +10,7 @@ use std::io::{Eprint, ErrorKind};
 use std::os::unix::fs::{FileTypeExt, MetadataExt};
 use std::rt::Files;
 
-/// How the name of a clip's file ends, in upper or lower case.
+/// The end of the name of a clip's file, in upper or lower case.
 const CLIP_ENDING: &[u8] = b".rclp";
 
 /// What a file is used for.
@@ -25,7 +25,7 @@ pub(crate) enum Use {
 }
 
 impl Display for Use {
-    /// Writes why nothing else is written to such a file.
+    /// Writes why no output may write to such a file.
     fn fmt<W: Write>(&self, f: &mut Formatter<W>) -> fmt::Result {
         match self {
             Use::Config => f.write_str("this file is the configuration"),
@@ -35,12 +35,12 @@ impl Display for Use {
     }
 }
 
-/// Returns whether two answers of the system are of one file.
+/// Returns whether two metadata are of one file.
 pub(crate) fn is_same_file(one: &Metadata, other: &Metadata) -> bool {
     one.dev() == other.dev() && one.ino() == other.ino()
 }
 
-/// A file of the system, by the device that it is on and its number there. All paths and links to it have the same.
+/// A file, by its device and its inode number, which all paths and links to it share.
 #[derive(Clone, Copy)]
 struct UsedFile {
     device: u64,
@@ -48,7 +48,7 @@ struct UsedFile {
     has: Use,
 }
 
-/// The files that have a use, which no further output may have.
+/// The files in use, which no further output may have.
 #[derive(Drop)]
 pub(crate) struct UsedFiles {
     files: Vec<UsedFile>,
@@ -62,7 +62,7 @@ impl UsedFiles {
         }
     }
 
-    /// Adds a file with its use, unless it is a character device: anything may be written to the null device.
+    /// Adds a file with its use, unless it is a character device: any number of outputs may write to the null device.
     pub(crate) fn add(&mut self, found: &Metadata, has: Use) -> Result<(), AllocError> {
         if found.file_type().is_char_device() {
             return Ok(());
@@ -78,7 +78,7 @@ impl UsedFiles {
         }
     }
 
-    /// Returns the use that a file has, if it has one.
+    /// Returns the use of a file, if it is in use.
     pub(crate) fn find(&self, found: &Metadata) -> Option<Use> {
         for file in &self.files {
             if file.device == found.dev() && file.number == found.ino() {
@@ -90,8 +90,8 @@ impl UsedFiles {
 }
 
 /// Returns the files that no output may have: the configuration and the clips of its media folder, as far as the system
-/// tells them. `Failed` comes if the folder is there and cannot be listed, which standard error says: any output might be a
-/// clip then.
+/// finds them. `Failed` comes if the folder exists and cannot be listed, since any output might be a clip then;
+/// standard error says so.
 pub(crate) fn files_in_use<R: Files<File = File> + Eprint + AllocGlobal + Copy + Drop>(
     rt: R,
     alloc: Global,
@@ -108,7 +108,7 @@ pub(crate) fn files_in_use<R: Files<File = File> + Eprint + AllocGlobal + Copy +
     Ok(used)
 }
 
-/// Adds the clips of a folder, if there is one. A name that is not UTF-8 is none of a clip.
+/// Adds the clips of a folder, if there is one. An entry whose name is not UTF-8 is no clip.
 fn add_clips<R: Files<File = File> + Eprint + AllocGlobal + Copy + Drop>(
     rt: R,
     folder: &str,

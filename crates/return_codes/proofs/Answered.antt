@@ -1,4 +1,4 @@
--- The replies that tell the stage's answers to commands and batches.
+-- The replies with the stage's answers to commands and batches.
 use Rattle.std.proofs.Common.{◌≡◌, Bool, true, false, List, length, subst, arith, inl}
 use Rattle.play_types.specs.Config.{ConfigView}
 use Rattle.play_types.specs.Commands.{answer_reply, command_name}
@@ -30,12 +30,12 @@ pub answered_batch : (setup : Setup) (history : List Event) (tag : Tag) (command
 unfolding answer
 answered_batch setup history tag commands found is = same_answer (outcome_of (is_refused history (event.Batch tag commands))) found is
 
--- done and refused are told by replies of every configuration
+-- the replies for done and refused can be sent with every configuration
 outcome_fits : (config : ConfigView) (asked : Name) (refused : Bool) → IsReplyTo config (answer_reply asked (outcome_of refused))
 outcome_fits config asked true = inl (omega arith, omega arith)
 outcome_fits config asked false = tt
 
--- what may be answered to a command is told by a reply of a configuration with the channels of the stage
+-- the reply with an answer to a command can be sent with a configuration with the channels of the stage
 command_fits : (config : ConfigView) (setup : Setup) (history : List Event) (refused : Bool) (command : Cmd) → length setup.channels ≡ length config.channels
     → IsReplyTo config (answer_reply (command_name command) (command_answer setup history refused command))
 command_fits config setup history refused (Load place take) many = outcome_fits config name.Load refused
@@ -58,14 +58,14 @@ command_fits config setup history refused (RemoveFile channel) many = outcome_fi
 command_fits config setup history refused (Value place prop) many = tt
 command_fits config setup history refused Info many = many
 
--- the answer to a command is told so
+-- the reply with the answer to a command can be sent so
 pub told_command : (config : ConfigView) (setup : Setup) (history : List Event) (tag : Tag) (command : Cmd) (found : Answer) → length setup.channels ≡ length config.channels
     → answer setup history (event.Do tag command) ≡ Answered found → IsReplyTo config (answer_reply (command_name command) found)
 told_command config setup history tag command found many is =
     subst (λ (a : Answer). IsReplyTo config (answer_reply (command_name command) a)) (answered_command setup history tag command found is)
     (command_fits config setup history (is_refused history (event.Do tag command)) command many)
 
--- and that to a batch by a reply of every configuration
+-- and the reply with that to a batch with every configuration
 pub told_batch : (config : ConfigView) (setup : Setup) (history : List Event) (tag : Tag) (commands : List Cmd) (found : Answer)
     → answer setup history (event.Batch tag commands) ≡ Answered found → IsReplyTo config (answer_reply name.Commit found)
 told_batch config setup history tag commands found is =

@@ -35,11 +35,11 @@ pub numbers_text-parts : (clip : MediaNameView)
 unfolding numbers_text size_text
 numbers_text-parts clip = simp (append_assoc, append-nil)
 
--- a line is what stands before it, the line itself, and what ends it
+-- a line is its beginning, the line itself, and its end
 pub styled-parts : (style : LineStyle) (line : List ℕ) → styled style line ≡ head_of style ++ (line ++ style.after.now)
 styled-parts style line = append_assoc (head_of style) line style.after.now
 
--- the line of a clip is what stands before it, the name, what follows the name, and what ends the line
+-- the line of a clip is its beginning, the name, what follows the name, and its end
 pub media_line-parts : (style : LineStyle) (clip : MediaNameView)
     → styled style (media_line clip) ≡ head_of style ++ (encode_utf8_all (quoted clip.name) ++ ((codes " " ++ clip_text clip) ++ style.after.now))
 unfolding media_line
@@ -80,7 +80,7 @@ later_lines : (style : LineStyle) (lines : List (List ℕ))
 later_lines style lines =
     ap (λ (head : List ℕ). flat_map (wrapped head style.after.now) lines) (append-nil (flat_map (λ part. part.now) style.before.now))
 
--- the lines of a reply are its lines with the token before the first, each with what stands before it and what ends it
+-- the lines of a reply are its lines with the token before the first, each with the parts before it and its end
 pub lines_of_style : (style : LineStyle) (lines : List (List ℕ))
     → styled_lines style lines ≡ flat_map (wrapped (flat_map (λ part. part.now) style.before.now) style.after.now) (with_token (token_of style) lines)
 lines_of_style style [] = refl

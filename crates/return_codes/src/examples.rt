@@ -37,7 +37,7 @@ pub fn lists()
         ≡ codes "200 CLS OK" ∷ codes "\"BAD\" UNREADABLE" ∷ (34 ∷ 195 ∷ 137 ∷ codes " \\\"B\\\\C\\nD\" 320x180 1000000 4096") ∷ [] ∷ [] }
 {}
 
-/// A token stands before the first line alone, and a 500 has none.
+/// The first line alone has the token, and a 500 has none.
 pub fn tokens()
     ensures one_line { token_lines (codes "a1") (Refused 503 name.Play) ≡ codes "RES a1 503 PLAY FAILED" ∷ [] }
     ensures two_lines { token_lines (codes "d") (Unknown (codes "REQ d REQ e INFO"))

@@ -12,8 +12,8 @@ ghost use Rattle.history_model.specs.pictures.Media.{Setup};
 ghost use Rattle.history_model.specs.stage.Answer.{Answered, answer};
 ghost use Rattle.history_model.specs.text.Replies.{IsReplyTo};
 
-/// The reply that tells the answer to a command, or to a batch, is one that a server gives whose configuration has as many
-/// channels as the stage.
+/// The reply with the answer to a command, or to a batch, can be sent by a server whose configuration has as many channels as
+/// the stage.
 pub fn answers_are_told()
     ensures command { (config : ConfigView) (setup : Setup) (history : List Event) (tag : Tag) (command : Cmd) (found : Answer) →
         length setup.channels ≡ length config.channels → answer setup history (Do tag command) ≡ Answered found

@@ -13,8 +13,7 @@ const GATHERED: usize = 4_096;
 /// The text of a reply, which is gathered before it is written: one of at most 4,096 bytes is one write.
 pub(crate) type Text = Gather<GATHERED>;
 
-/// How lines are written: the parts that stand before each line, the token that stands after these in the first line, and what
-/// ends each line.
+/// How lines are written: the parts before each line, the token after these parts in the first line, and the end of each line.
 #[derive(Clone, Copy)]
 pub(crate) struct LineStyle<'a, 't> {
     pub(crate) before: &'a [&'a [u8]],
@@ -36,7 +35,7 @@ impl LineStyle<'_, '_> {
         }
     }
 
-    /// Adds what stands before a line.
+    /// Adds the beginning of a line: the parts before it, and the token.
     pub(crate) fn add_head<K: Sink>(&self, text: &mut Text, to: &mut K) -> Sent
         ensures { Adds result (text.old ++ head_of self.now) text.new (K.state to.old) (K.state to.new) }
     {
@@ -54,7 +53,7 @@ impl LineStyle<'_, '_> {
         }
     }
 
-    /// Adds a line, which is given in parts, with what stands before it and what ends it.
+    /// Adds a line, which is given in parts, with its beginning and its end.
     pub(crate) fn add_line<K: Sink>(&self, parts: &[&[u8]], text: &mut Text, to: &mut K) -> Sent
         ensures { Adds result (text.old ++ styled self.now (flat_map (λ part. part.now) parts.now)) text.new (K.state to.old) (K.state to.new) }
     {

@@ -15,8 +15,8 @@ use itoa::Buffer;
 use play_outside::{Sent, Sink};
 use play_types::{ChannelList, Config, MediaNames, Name, Reply, StatusList};
 
-/// Writes the lines of the reply to a line with this token, or without one, each ended by CR LF. It takes no memory, and lines of
-/// at most 4,096 bytes together are one write.
+/// Writes the lines of the reply to a line with this token, or without one, each ended by CR LF. Lines of at most 4,096 bytes
+/// together are one write.
 ///
 /// The first line begins with `RES `, the token and a space, if there is a token. A `NoMemory` has none.
 ///
@@ -39,7 +39,7 @@ pub fn send_reply<K: Sink>(
 }
 
 /// Writes the lines of the reply to a line with this token, or without one, each with the parts of `before` before it and ended
-/// by `after`. It takes no memory.
+/// by `after`.
 ///
 /// The reply is one that `send_reply` takes, and the result is `Failed` only if `to` failed.
 pub fn send_reply_lines<'a, K: Sink>(
@@ -67,7 +67,7 @@ pub fn send_reply_lines<'a, K: Sink>(
     text.finish(to)
 }
 
-/// Returns the token that the reply to a line with this token has: `NoMemory` has none.
+/// Returns the token of the reply to a line with this token: `NoMemory` has none.
 fn reply_token<'a>(reply: &Reply, token: Option<&'a ReqToken>) -> Option<&'a ReqToken>
     ensures { option_map (λ token. token.now) result
         ≡ reply_token (option_map (λ token. token.now) token.entry) reply.now }
@@ -112,7 +112,7 @@ fn add_reply<K: Sink>(
     }
 }
 
-/// Adds the line of a code, the name of a command, and the word that says what became of the command.
+/// Adds the line of a code, the name of a command, and its result: `OK`, `ERROR` or `FAILED`.
 fn add_code<K: Sink>(
     code: u16,
     name: Name,

@@ -18,7 +18,7 @@ abbrev pub showing : PlaceView → Picture → Pictures → Pictures
 showing place picture pictures =
     λ other. if (other.channel == place.channel) && (other.layer == place.layer) then Some picture else pictures other
 
--- the ticks once a place shows a picture at the last one: if there is none, this begins the first
+-- the ticks after a place shows a picture at the last one: if there is none, this begins the first
 abbrev pub with_show : PlaceView → Picture → List Pictures → List Pictures
 with_show place picture [] = showing place picture no_pictures ∷ []
 with_show place picture (pictures ∷ before) = showing place picture pictures ∷ before
@@ -58,7 +58,7 @@ pictures_of foregrounds = λ place. option_map foreground_picture (foregrounds p
 abbrev pub KeepsForegrounds : ℕ → Option (List ShownLayers) → Option (PlaceView → Option Foreground) → Type 0
 KeepsForegrounds channels tick foregrounds = KeepsTick channels tick (option_map pictures_of foregrounds)
 
--- a producer is no route to a place of another channel than the first `channels`
+-- the producer is no route to a layer of a channel beyond the first `channels`
 abbrev pub LeadsWithin : ℕ → Spec → Type 0
 LeadsWithin channels (Clip id) = Unit {0}
 LeadsWithin channels (Colour value) = Unit {0}

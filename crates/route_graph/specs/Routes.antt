@@ -1,4 +1,4 @@
--- What contracts see of a route table, and what its calls make of it.
+-- What contracts see of a route table, and what its calls do to it.
 use Rattle.std.specs.Prelude.{ℕ, ◌≤◌, [], List, Option, Some, None, length, replicate, unwrap_or}
 use Rattle.play_types.specs.Place.{PlaceView}
 use Rattle.play_types.specs.declared.place.TheConstants.{MAX_LIVE_LAYERS}
@@ -37,7 +37,7 @@ abbrev pub after_show : PlaceView → Picture → RoutesView → RoutesView
 after_show place picture routes =
     record { channels = routes.channels; past = routes.past; present = Some (with_picture place picture (last_tick routes)) }
 
--- no more places of a channel show something at the last tick than may be live
+-- at most MAX_LIVE_LAYERS places of the channel show something at the last tick
 abbrev pub HasFewPlaces : ℕ → RoutesView → Type 0
 HasFewPlaces channel routes = length (layers_of channel (last_tick routes)) ≤ MAX_LIVE_LAYERS
 

@@ -17,7 +17,7 @@ Pictures = PlaceView → Option Picture
 abbrev pub ShownLayers : Type 0
 ShownLayers = List (ℕ × Picture)
 
--- the layers where one shows this picture, in place of the one that it showed
+-- the layers after one shows this picture, in place of the one that it showed
 abbrev pub with_shown : ℕ → Picture → ShownLayers → ShownLayers
 with_shown layer picture [] = (layer, picture) ∷ []
 with_shown layer picture (shown ∷ more) =
@@ -32,7 +32,7 @@ shown_on layers layer = option_map (λ (shown : ℕ × Picture). shown.1) (find 
 abbrev pub layers_of : ℕ → List ShownLayers → ShownLayers
 layers_of channel tick = channel_item channel tick []
 
--- a tick at which a place shows this picture, in place of the one that it showed
+-- a tick after a place shows this picture, in place of the one that it showed
 abbrev pub with_picture : PlaceView → Picture → List ShownLayers → List ShownLayers
 with_picture place picture tick =
     with_channel_item place.channel (with_shown place.layer picture (layers_of place.channel tick)) tick

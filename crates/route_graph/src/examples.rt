@@ -21,8 +21,8 @@ pub fn routes_to_places()
         ≡ still.Colour 255 }
 {}
 
-/// A route to a channel shows its frame of the tick before, and nothing at the first tick. A show before the first tick begins
-/// that.
+/// A route to a channel shows its frame of the tick before, and nothing at the first tick. A picture that is shown before any
+/// tick has begun begins the first.
 pub fn routes_to_channels()
     ensures none { shows first (RouteChannel 2) ≡ still.Nothing }
     ensures first { shows (next_tick first) (RouteChannel 2) ≡ still.Nothing }

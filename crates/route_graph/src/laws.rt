@@ -8,8 +8,8 @@ ghost use Rattle.route_graph.specs.Past.{KeepsForegrounds, LeadsWithin};
 ghost use Rattle.route_graph.specs.Routes.{still_by};
 ghost use Rattle.route_graph.specs.Shown.{Picture, ShownLayers, shown_at, shown_on, with_shown};
 
-/// Once a layer shows a picture, it shows that, and the other layers show what they showed. A layer that showed nothing is
-/// added at the end of the list.
+/// After `with_shown` the layer shows the picture, and the other layers show what they showed before. A layer that showed
+/// nothing is added at the end of the list.
 pub fn layers_after_a_show()
     ensures same { (layer : ℕ) (picture : Picture) (layers : ShownLayers) →
         shown_on (with_shown layer picture layers) layer ≡ Some picture }
@@ -19,8 +19,8 @@ pub fn layers_after_a_show()
         with_shown layer picture layers ≡ layers ++ (layer, picture) ∷ [] }
 {}
 
-/// If a tick keeps what foregrounds showed on the channels, a producer that leads to none but these shows by that tick
-/// what it shows by the foregrounds.
+/// If a tick keeps what foregrounds showed on the channels, a producer that is no route to a layer of another channel shows
+/// by that tick what it shows by the foregrounds.
 pub fn sources_by_a_tick()
     ensures { (channels : ℕ) (tick : Option (List ShownLayers)) (foregrounds : Option (PlaceView → Option Foreground))
         (producer : Spec) (frame : ℕ) → KeepsForegrounds channels tick foregrounds → LeadsWithin channels producer

@@ -7,8 +7,8 @@ use play_types::{MAX_LIVE_LAYERS, Spec};
 use std::alloc::{AllocError, Global};
 use std::marker::Model;
 
-/// The layers of a channel that show something at a tick, each once, with its producer and the frame of that. They have
-/// room for 64.
+/// The layers of a channel that show something at a tick, each once, with its producer and the frame of it. There is room
+/// for 64.
 #[derive(Debug, Drop)]
 pub(crate) struct LayerList {
     layers: Vec<(u16, (Spec, u32))>,
@@ -28,7 +28,7 @@ impl Model for LayerList {
 }
 
 impl LayerList {
-    /// Returns a list without layers. The memory for 64 is taken.
+    /// Returns a list without layers, with memory for 64.
     pub(crate) fn new(alloc: Global) -> Result<LayerList, AllocError>
         ensures { IfOk result (λ layers. layers ≡ []) }
     {
@@ -44,7 +44,7 @@ impl LayerList {
         self.layers.clear();
     }
 
-    /// Lets a layer show a picture, in place of the one that it showed. Then there are at most 64 layers.
+    /// Sets the picture of a layer, in place of the one that it showed. There are at most 64 layers afterwards.
     pub(crate) fn show(&mut self, layer: u16, picture: (Spec, u32))
         requires { length (with_shown layer picture self.old) ≤ MAX_LIVE_LAYERS }
         ensures { self.new ≡ with_shown layer picture self.old }
@@ -55,7 +55,7 @@ impl LayerList {
         }
     }
 
-    /// Returns where a layer stands in the list, `None` exactly if it shows nothing.
+    /// Returns the position of a layer in the list, `None` exactly if it shows nothing.
     fn find(&self, layer: u16) -> Option<usize>
         ensures { result ≡ position (λ shown. shown.0 == layer) self.now }
     {

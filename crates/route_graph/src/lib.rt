@@ -1,8 +1,8 @@
 //! What routes show: the pictures of the tick before.
 //!
-//! [`Routes`] is given what each place shows, tick by tick, and answers which still a producer is by what was shown at the
-//! tick before. It keeps the two last ticks, and no others. So a route to a place shows what stood there one tick earlier,
-//! and a route to a channel shows the frame that the channel had then. Only [`Routes::new`] takes memory.
+//! [`Routes`] is given what each place shows, tick by tick, and returns which still a producer shows, by what was shown at
+//! the tick before. It keeps the last two ticks, and no others. So a route to a place shows what the place showed one tick
+//! earlier, and a route to a channel shows the frame that the channel had then.
 #![tactic(auto)]
 
 pub mod examples;

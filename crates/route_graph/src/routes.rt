@@ -15,9 +15,9 @@ use std::mem;
 
 /// What the places of channels showed at the tick before, and what they show at the tick that has begun.
 ///
-/// A table represents the ticks so far, each with what every place showed at it, if it keeps the two last of them. A new
+/// A table represents the ticks so far, each with what every place showed at it, if it keeps the last two of them. A new
 /// table represents no ticks. [`Routes::begin_tick`] adds a tick at which nothing is shown, and [`Routes::show`] adds to the
-/// last one. No call takes longer for the number of ticks before, and only [`Routes::new`] takes memory.
+/// last one. How long a call takes does not depend on the number of ticks.
 #[derive(Debug, Drop)]
 pub struct Routes {
     past: ShownTick,
@@ -36,8 +36,8 @@ impl Model for Routes {
 }
 
 impl Routes {
-    /// Creates a table before the first tick, for the channels from 1 to `channels`. All memory is taken: the room for 64
-    /// places of each channel, at each of two ticks.
+    /// Creates a table before the first tick, for the channels from 1 to `channels`, with memory for 64 places of each
+    /// channel at each of two ticks.
     pub fn new(alloc: Global, channels: u8) -> Result<Routes, AllocError>
         ensures value { IfOk result (λ routes. routes ≡ no_ticks channels) }
         ensures past { IfOk result (λ routes. Represents routes []) }

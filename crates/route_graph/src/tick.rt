@@ -29,8 +29,7 @@ impl Model for ShownTick {
 }
 
 impl ShownTick {
-    /// Returns a tick of the channels from 1 to `channels` that has not begun. The memory for the places of all channels is
-    /// taken.
+    /// Returns a tick of the channels from 1 to `channels` that has not begun, with memory for 64 places of each channel.
     pub(crate) fn new(alloc: Global, channels: u8) -> Result<ShownTick, AllocError>
         ensures { IfOk result (λ tick. tick ≡ record { channels = channels; shown = None }) }
     {
@@ -62,8 +61,8 @@ impl ShownTick {
         self.begun
     }
 
-    /// Lets a place show a picture, in place of the one that it showed. If the tick has not begun, it begins. The place is
-    /// one of a channel of the tick, and then the channel has at most 64 places that show something.
+    /// Sets the picture of a place, instead of the one that it showed. If the tick has not begun, it begins. The place is
+    /// one of a channel of the tick, and afterwards at most 64 places of this channel show something.
     pub(crate) fn show(&mut self, place: Place, picture: (Spec, u32))
         requires channel { place.channel ≤ self.old.channels }
         requires few { length (layers_of place.channel (with_picture place picture (shown_so_far self.old))) ≤ MAX_LIVE_LAYERS }

@@ -1,4 +1,4 @@
--- Layers that nothing below is seen through.
+-- Layers that hide all layers below them.
 use Rattle.std.proofs.Common.{◌≡◌, ℕ, ◌+◌, ◌<◌, ◌≤◌, Bool, false, List, [], ◌∷◌, ◌++◌, length, take, drop, get_or, reverse, refl, sym, ap, ◌∙◌, arith, if◌then◌else◌, ℤ, pos, nat_abs}
 use Rattle.std.specs.Prelude.{Some}
 use Rattle.std.proofs.lemmas.List.{drop_more, reverse-append, take-append-drop}

@@ -19,8 +19,8 @@ use lane_blend::{fill_row, key_row, over_row};
 use pixel_math::Pixel;
 use play_types::{Drawn, Scene};
 
-/// Writes the row of a scene: its layers over one another, each keyed by the keyer right below it. `spare` is four rows of the same
-/// length for the time of the call.
+/// Writes the row of a scene: its layers over one another, each keyed by the keyer right below it. `spare` is scratch space for four
+/// rows.
 pub(crate) fn compose_row(
     view: &View,
     scene: &Scene,
@@ -41,8 +41,7 @@ pub(crate) fn compose_row(
     lay_layers(view, &layers[hidden..], row, spare, kept);
 }
 
-/// Writes the row of layers over one another, each keyed by the keyer right below it. `spare` is four rows of the same length for
-/// the time of the call.
+/// Writes the row of layers over one another, each keyed by the keyer right below it. `spare` is scratch space for four rows.
 fn lay_layers(view: &View, layers: &[Drawn], row: &mut [u8], spare: &mut [u8], kept: &mut Kept)
     requires line { view.now.y < view.now.size.height }
     requires range { All IsDrawn layers.now }
@@ -88,9 +87,9 @@ fn clear_blank(row: &mut [u8], blank: bool)
     }
 }
 
-/// Lays the row of a layer over a row of the layers below, keyed by the row of keys if it is keyed. If the row is not written yet
-/// it is written there. The row of a keyer becomes the row of keys instead, and a layer that shows nothing there leaves the row.
-/// Returns whether the row is still not written. `spare` is three rows of the same length for the time of the call.
+/// Lays the row of a layer over the row of the layers below, keyed by the row of keys if it is keyed. If the row is not written yet,
+/// the layer's row is written there. The row of a keyer becomes the row of keys instead, and a layer that shows nothing in the row
+/// leaves it as it is. Returns whether the row is still not written. `spare` is scratch space for three rows.
 fn lay_layer(
     view: &View,
     layer: &Drawn,
@@ -134,8 +133,8 @@ fn lay_layer(
     false
 }
 
-/// Lays the columns from `from` up to before `to` of the row `upper` over those of a row, keyed by the row of keys if it is
-/// keyed. If the other columns of `upper` are transparent, all of it is laid so.
+/// Lays the columns from `from` up to before `to` of the row `upper` over those of a row, keyed by the row of keys if `keyed` is
+/// true. If the other columns of `upper` are transparent, all of `upper` is laid over the row so.
 fn lay_columns(from: u16, to: u16, upper: &mut [u8], keys: &[u8], keyed: bool, row: &mut [u8])
     requires order { from ≤ to }
     requires inside { 4 * to ≤ length row.old }
@@ -154,7 +153,7 @@ fn lay_columns(from: u16, to: u16, upper: &mut [u8], keys: &[u8], keyed: bool, r
     over_row(&upper[from..to], &mut row[from..to]);
 }
 
-/// Keys a row by the red of a row of keys if it is keyed.
+/// Keys a row by the red of a row of keys if `keyed` is true.
 fn key_by(row: &mut [u8], keys: &[u8], keyed: bool)
     requires lengths { length keys.now ≡ length row.old }
     requires whole { length row.old % 4 ≡ 0 }

@@ -1,4 +1,4 @@
-//! Layers that nothing below is seen through.
+//! Layers that hide all layers below them.
 ghost use Rattle.std.specs.Prelude.{◌≡◌, ℕ, ◌<◌, ◌≤◌, Some, false, true, length, drop, reverse, All};
 ghost use Rattle.play_types.specs.Scene.{IsDrawn};
 ghost use Rattle.history_model.specs.pictures.Frame.{composed_pixel, layer_pixel, scene_pixel};

@@ -1,4 +1,4 @@
-//! What is found for opacities and for steps of mixes, and rows that were scaled, kept from row to row.
+//! Fades, mixes and scaled rows, kept from row to row.
 ghost use Rattle.std.specs.Prelude.{◌≡◌, ℕ, ◌+◌, ◌<◌, ◌≤◌, ◌%◌, length};
 ghost use Rattle.pixel_math.specs.Arithmetic.{fade, mix};
 ghost use Rattle.lane_blend.specs.Rows.{AreLowered, IsRow, pixel_at, width_of};
@@ -18,8 +18,8 @@ const PLACES: usize = 61;
 /// How many scaled rows are kept at most.
 const SCALED_ROWS: usize = 8;
 
-/// Fades and mixes that rows were made with, and scaled rows, each in the place that its numbers give. Another one with the
-/// same place replaces it. Only [`Kept::new`] takes memory.
+/// Fades and mixes that rows were made with, and scaled rows, each at the index that its numbers give. Another one with the same
+/// index replaces it. Only [`Kept::new`] allocates.
 #[derive(Drop)]
 pub(crate) struct Kept {
     fades: Vec<Option<RowFade>>,
@@ -39,7 +39,7 @@ impl Model for Kept {
 }
 
 impl Kept {
-    /// Creates room for fades and mixes, and for scaled rows of up to `width` pixels, with none of them.
+    /// Creates empty room for fades and mixes, and for scaled rows of up to `width` pixels.
     pub(crate) fn new(alloc: Global, width: u16) -> Result<Kept, AllocError> {
         let mut fades = Vec::with_capacity(alloc, PLACES)?;
         fades.resize_with(PLACES, || None)?;
@@ -123,7 +123,7 @@ impl Kept {
     }
 }
 
-/// Returns the place of the scaled rows of a still.
+/// Returns the index of the scaled row of a still.
 fn place_of(still: Still) -> usize
     ensures { result < SCALED_ROWS }
 {

@@ -39,9 +39,8 @@ pub(crate) fn shows_nothing(view: &View, layer: &Drawn) -> bool
     line.is_none()
 }
 
-/// Writes the row of a layer, laid into the frame: the row of its raster that its fill brings there, at its opacity, and
-/// transparent if its clip does not keep the place or its fill does not reach it. `spare` is two rows of the same length for
-/// the time of the call.
+/// Writes the row of a layer, laid into the frame: the row of its raster that its fill brings there, at its opacity, and transparent
+/// where its clip does not keep the place or its fill does not reach it. `spare` is scratch space for two rows.
 pub(crate) fn layer_row(
     view: &View,
     layer: &Drawn,

@@ -1,8 +1,8 @@
 //! One row of the picture of a channel.
 //!
-//! [`render_row`] writes a row of the picture that `play_scene::pixel` composes pixel by pixel. It makes the row of each layer
-//! once, with its transition, its fill, its clip and its opacity, and lays whole rows over one another. It takes no memory:
-//! what it needs besides the row lies in a [`RowRoom`], which is made once.
+//! [`render_row`] writes a row of the picture that `play_scene::pixel` composes pixel by pixel. It makes the row of each layer once,
+//! with its transition, its fill, its clip and its opacity, and lays whole rows over one another. It does not allocate: its scratch
+//! space is a [`RowRoom`], which is made once.
 #![tactic(auto)]
 
 mod columns;

@@ -48,7 +48,7 @@ pub(crate) fn shown_columns(layer: &Drawn, width: u16) -> (u16, u16)
     }
 }
 
-/// Lays the row of a raster into the row of the frame by the columns of a layer's fill and clip. If they show no column the row
+/// Lays the row of a raster into the row of the frame by a layer's fill and clip. Where they show no column of the raster, the row
 /// is transparent.
 pub(crate) fn place_row(layer: &Drawn, raster: &[u8], width: u16, row: &mut [u8])
     requires range { IsDrawn layer.now }
@@ -65,8 +65,8 @@ pub(crate) fn place_row(layer: &Drawn, raster: &[u8], width: u16, row: &mut [u8]
     }
 }
 
-/// Lays the row of a raster into the row of the frame if the width of the layer's fill is above 0: a run of columns, found by
-/// adding.
+/// Lays the row of a raster into the row of the frame if the width of the layer's fill is above 0: a run of columns, whose raster
+/// columns are found by adding.
 fn place_run(layer: &Drawn, raster: &[u8], width: u16, row: &mut [u8])
     requires range { IsDrawn layer.now }
     requires upright { pos 0 <ℤ number_at layer.now.fill 2 }

@@ -30,8 +30,8 @@ pub(crate) fn is_clear_raster(layer: &Drawn) -> bool
     layer.step >= layer.trans.duration() || is_clear(layer.old)
 }
 
-/// Writes row `y` of the raster of a layer: that of its new picture, or, while the transition runs, what it shows of its new
-/// and of its old picture. `other` is a row of the same length for the time of the call.
+/// Writes row `y` of the raster of a layer: that of its new picture, or, while the transition runs, what it shows of its new and of
+/// its old picture. `other` is scratch space for one row.
 pub(crate) fn raster_row(
     view: &View,
     layer: &Drawn,

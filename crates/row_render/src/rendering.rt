@@ -17,8 +17,8 @@ use play_scene::Frames;
 use play_types::{Geometry, Scene};
 
 /// Writes row `y` of a frame of this size that shows a scene, by the frames of the tick before and the clips: at each column the
-/// pixel that `play_scene::pixel` composes. No colour byte of the row is above its alpha. The room was made for at least the
-/// width, `out` has four bytes a column, and the channels whose frames the scene shows are configured. It takes no memory.
+/// pixel that `play_scene::pixel` composes. No colour byte of the row is above its alpha. The room was made for at least the width,
+/// `out` has four bytes a column, and the channels whose frames the scene shows are configured.
 pub fn render_row(
     scene: &Scene,
     size: Geometry,
@@ -46,7 +46,7 @@ pub fn render_row(
     compose_with(&view, scene, out, &mut room.rows, &mut room.kept);
 }
 
-/// Writes the row of a scene, with the first bytes of the spare rows for the time of the call.
+/// Writes the row of a scene, with the first bytes of the spare rows as scratch space.
 fn compose_with(view: &View, scene: &Scene, row: &mut [u8], rows: &mut SpareRows, kept: &mut Kept)
     requires line { view.now.y < view.now.size.height }
     requires names { All (NamesConfigured (length view.now.prev.now)) scene.now }

@@ -5,7 +5,7 @@ use crate::kept::Kept;
 use std::alloc::{AllocError, Global};
 use std::marker::Model;
 
-/// Room for making rows of pixels up to a width. Only [`RowRoom::new`] takes memory.
+/// Scratch space for making rows of pixels up to a width. Only [`RowRoom::new`] allocates.
 #[derive(Drop)]
 pub struct RowRoom {
     pub(crate) rows: SpareRows,

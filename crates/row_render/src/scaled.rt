@@ -8,14 +8,14 @@ use crate::scaling::scale_columns;
 use std::alloc::{AllocError, Global};
 use std::marker::Model;
 
-/// The row of a picture that was scaled last, and what it became at the width of a raster. Contracts see the row of the picture
-/// and the width. Only [`ScaledRow::new`] takes memory.
+/// The row of a picture that was scaled last, and the row that it was scaled to. Contracts see the row of the picture and the width.
+/// Only [`ScaledRow::new`] allocates.
 #[derive(Drop)]
 pub(crate) struct ScaledRow {
     // The first `count` bytes are the row of the picture.
     source: Vec<u8>,
     count: usize,
-    // The first `width` pixels are what it became.
+    // The first `width` pixels are the scaled row.
     row: Vec<u8>,
     width: u16,
 }
@@ -35,7 +35,7 @@ impl Model for ScaledRow {
 }
 
 impl ScaledRow {
-    /// Creates room for rows of up to `width` pixels, with a row that has none.
+    /// Creates room for rows of up to `width` pixels, with an empty row.
     pub(crate) fn new(alloc: Global, width: u16) -> Result<ScaledRow, AllocError> {
         let bytes = 4 * usize::from(width);
         Ok(ScaledRow {
@@ -84,7 +84,7 @@ impl ScaledRow {
         source.len() <= self.source.len() && 4 * usize::from(width) <= self.row.len()
     }
 
-    /// Keeps the row of a picture, and nothing that it became.
+    /// Keeps the row of a picture, not scaled yet.
     fn keep(&mut self, source: &[u8])
         requires { length source.now ≤ self.old.room }
         ensures source { self.new.source ≡ source.now }
@@ -109,7 +109,7 @@ impl ScaledRow {
         self.width = width;
     }
 
-    /// Copies the columns from `first` on.
+    /// Copies the columns of the scaled row from `first` on.
     fn copy_columns(&self, first: u16, row: &mut [u8])
         requires whole { length row.old % 4 ≡ 0 }
         requires fits { first + width_of row.old ≤ self.now.width }

@@ -29,8 +29,7 @@ pub(crate) fn scale_columns(source: &[u8], width: u16, first: u16, row: &mut [u8
     }
 }
 
-/// Writes at each column, from column 0 on, the pixel of a row whose column is a quotient, rounded down: that of `number`, and
-/// of a number greater by `step` at each further column, by `divisor`.
+/// Writes at each column `i` the pixel of `source` at column `(number + i * step) / divisor`, rounded down.
 pub(crate) fn gather_row(source: &[u8], number: u64, step: u64, divisor: u64, row: &mut [u8])
     requires some { 0 < divisor }
     requires divisor { divisor < 2 ^ 60 }

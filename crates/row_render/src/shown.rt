@@ -4,8 +4,8 @@ ghost use Rattle.play_types.specs.Setting.{IsWide};
 ghost use Rattle.history_model.specs.pictures.Placing.{twice_middle, twice_part};
 ghost use Rattle.row_render.specs.inner.Shown.{IsShownRun, column_by};
 
-/// Columns of the frame that show columns of a raster, from column `from` up to before `to`. The column that is shown is a
-/// quotient by `divisor`, rounded down: that of `number` at `from`, and of a number greater by 2,000,000 at each further column.
+/// Columns of the frame that show columns of a raster, from column `from` up to before `to`. Column `from + i` shows column `(number
+/// + i * 2_000_000) / divisor`, rounded down.
 #[derive(Clone, Copy, Drop)]
 pub(crate) struct ShownRun {
     pub(crate) from: u16,

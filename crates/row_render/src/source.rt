@@ -25,7 +25,7 @@ pub(crate) fn plain_pixel(still: Still) -> Pixel
     }
 }
 
-/// Returns whether a still is transparent at each column and row: it is no picture, or a colour whose alpha is 0.
+/// Returns whether a still is known to be transparent at each column and row: it is nothing, or a colour whose alpha is 0.
 pub(crate) fn is_clear(still: Still) -> bool
     ensures { result ≡ true → (pictures : Pictures) (size : GeometryView) (x y : ℕ) → still_pixel pictures size still x y ≡ transparent }
 {
@@ -36,8 +36,8 @@ pub(crate) fn is_clear(still: Still) -> bool
     }
 }
 
-/// Returns the row of a still that row `y` of the raster shows: the row of its clip or of the frame of its channel. It returns
-/// `None` if it has no such row and each column shows the plain pixel.
+/// Returns the row of a still that row `y` of the raster shows: the row of its clip or of the frame of its channel. Returns `None`
+/// if there is no such row; each column then shows the plain pixel.
 pub(crate) fn source_row<'a>(view: &View<'a>, still: Still, y: u16) -> Option<&'a [u8]>
     requires row { y < view.now.size.height }
     requires names { ShowsConfigured (length view.now.prev.now) still }

@@ -10,9 +10,9 @@ use Rattle.clip_format.specs.Decoding.{clip_of}
 use Rattle.clip_format.specs.Preparing.{straight_clip}
 use Rattle.server_setup.specs.declared.fault.RunFault.TheVariants as faults
 use Rattle.run_script.specs.declared.converting.TheConstants.{MAX_CLIP_BYTES}
-use Rattle.run_script.specs.Run.{Streams}
+use Rattle.script_player.specs.Run.{Streams}
 use Rattle.run_script.specs.Converting.{Converts}
-use Rattle.run_script.specs.inner.Reading.{ReadsInput}
+use Rattle.script_player.specs.Reading.{ReadsInput}
 
 -- a write of the clip that was read failed
 pub clip_failed : (held : Vec ℕ) (before : Streams) (after : SourceState) (clip made : ClipView) (out : SinkState) → ReadsInput MAX_CLIP_BYTES (Ok held) before.input after

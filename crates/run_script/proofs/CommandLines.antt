@@ -1,22 +1,24 @@
--- What a command line does, over the outside before and after.
+-- What a command line does, by what is outside before and after.
 use Rattle.std.proofs.Common.{◌≡◌, ◌≢◌, inl, inr, ℕ, ◌≤◌, List, refl, sym, ap, ◌∙◌, subst, arith}
 use Rattle.std.specs.Prelude.{Option, Some, None, Result, Ok, Err, IfSome, MatchOption}
 use Rattle.std.proofs.lemmas.Option.{none-some}
 use Rattle.play_outside.specs.Faults.{Rose}
 use Rattle.play_outside.specs.FolderState.{FolderState, Files}
-use Rattle.run_script.specs.declared.ending.Ending.{Ending}
-use Rattle.run_script.specs.declared.ending.Ending.TheVariants.{Finished, Stopped, BadLine, TooLong, ReadFault, WriteFault}
-use Rattle.run_script.specs.declared.ending.Ending.TheVariants as ending
+use Rattle.script_player.specs.declared.ending.Ending.{Ending}
+use Rattle.script_player.specs.declared.ending.Ending.TheVariants.{Finished, Stopped, BadLine, TooLong, ReadFault, WriteFault}
+use Rattle.script_player.specs.declared.ending.Ending.TheVariants as ending
 use Rattle.server_setup.specs.declared.setup.ServerSetup.{ServerSetup}
 use Rattle.server_setup.specs.declared.fault.RunFault.{RunFault}
 use Rattle.server_setup.specs.declared.fault.RunFault.TheVariants.{Usage, ConfigText, ConfigKey, InputTooLong, MediaTwice, MediaTotal, Device, OutOfMemory}
 use Rattle.server_setup.specs.declared.fault.RunFault.TheVariants as faults
-use Rattle.run_script.specs.Ending.{status_of}
+use Rattle.script_player.specs.Ending.{status_of}
 use Rattle.run_script.specs.CommandLine.{CommandLine, Plain, Configured, Generated, Converted, Planned, Recorded, command_line_of}
-use Rattle.run_script.specs.Program.{Outside, film_of, streams_of, SaysUsage, RunsCommandLine, PlaysToEnd, DeviceFails, MeetsFault, MeetsFirstFault, SucceedsIfValid, PlaysScript, plain_playout, playout_of}
+use Rattle.run_script.specs.Program.{Outside, streams_of, SaysUsage, RunsCommandLine, PlaysToEnd, DeviceFails, MeetsFault, MeetsFirstFault, SucceedsIfValid, PlaysScript}
+use Rattle.script_film.specs.Recording.{film_of}
+use Rattle.script_player.specs.Playouts.{plain_playout, playout_of}
 use Rattle.server_setup.specs.Setup.{SetsUp, TellsFirst, fault_of_files}
 use Rattle.server_setup.specs.Fault as setup
-use Rattle.run_script.specs.Shown.{Frames}
+use Rattle.script_player.specs.Shown.{Frames}
 use Rattle.run_script.proofs.Complete.{completes_run, device_of_run, is_played}
 use Rattle.run_script.proofs.Conversions.{clip_known, converted_complete, converted_device, converted_finished, converted_status}
 use Rattle.run_script.proofs.Plans.{plan_complete, plan_device, plan_finished, plan_status}
@@ -53,7 +55,7 @@ of_fault path (MediaTotal total) before after sets = (omega arith, λ e. omega (
 of_fault path Device before after sets = (omega arith, λ e. omega (arith, e))
 of_fault path OutOfMemory before after sets = (omega arith, λ e. omega (arith, e))
 
--- a run has not the status of clips
+-- the status of a run of a script is not that of faulty clips
 no_clips : (ending : Ending) → status_of ending ≡ 3 → ⊥
 no_clips Finished e = omega (arith, e)
 no_clips Stopped e = omega (arith, e)
@@ -63,7 +65,7 @@ no_clips ReadFault e = omega (arith, e)
 no_clips WriteFault e = omega (arith, e)
 no_clips ending.Memory e = omega (arith, e)
 
--- the status of a fault is none of a run that ended well
+-- no fault has the status 0
 not_well : (fault : RunFault) → setup.status_of fault ≡ 0 → ⊥
 not_well ConfigText e = omega (arith, e)
 not_well (ConfigKey name) e = omega (arith, e)
@@ -79,7 +81,7 @@ not_well faults.PlanEnd e = omega (arith, e)
 not_well (faults.Record name) e = omega (arith, e)
 not_well InputTooLong e = omega (arith, e)
 
--- only a device has its status
+-- only the fault of a device has status 4
 is_device : (fault : RunFault) → setup.status_of fault ≡ 4 → fault ≡ Device
 is_device ConfigText e = absurd (let no : 2 ≡ 4 = e in omega (arith, no))
 is_device (ConfigKey name) e = absurd (let no : 2 ≡ 4 = e in omega (arith, no))
@@ -96,7 +98,7 @@ is_device (faults.Record name) e = absurd (let no : 2 ≡ 4 = e in omega (arith,
 is_device InputTooLong e = absurd (let no : 2 ≡ 4 = e in omega (arith, no))
 
 module _ (before after : Outside) where
-  -- no status of a run is above 5, and none is that of words that are no command line
+  -- no status of a command line is above 5, and none is 1
   pub run_status : (line : CommandLine) (status : ℕ) → RunsCommandLine line status before after → IsRunStatus status
   run_status (Plain size) status runs = subst IsRunStatus (sym runs.1.outcome) (of_ending runs.1.ending)
   run_status (Configured shown path digests) status runs =
@@ -159,7 +161,7 @@ module _ (before after : Outside) where
         )
       ]
 
-  -- a refusal by a device raises the count of faults of the folder
+  -- a refusal for a failed read raises the count of faults of the folder
   refusal_rose : (path : List ℕ) (fault : RunFault) → SetsUp path (Err fault) before.media after.media → fault ≡ Device → Rose before.media.faults after.media.faults
   refusal_rose path fault sets is = (subst (λ (f : RunFault). SetsUp path (Err f) before.media after.media) is sets).1
 
@@ -230,7 +232,7 @@ module _ (before after : Outside) where
         | inr recorded ↦ kept_but_device path (Ok recorded.setup) before.media after.media recorded.set_up ok_no_device
       ]
 
-  -- what has no fault is refused out of memory alone, if no read fails
+  -- files without a fault are refused only out of memory, if no read fails
   not_refused : (path : List ℕ) (first : Option RunFault) → first ≡ None → (fault : RunFault) → SetsUp path (Err fault) before.media after.media
       → TellsFirst (Err fault) first → (Rose before.media.faults after.media.faults → ⊥) → setup.status_of fault ≡ 5
   not_refused path first none ConfigText sets tells well = absurd (none-some _ (sym none ∙ tells))
@@ -357,7 +359,7 @@ line_played words line status before after is runs =
       media = λ well. run_media before after line status runs well;
     }
 
--- the words are no command line, and the output says so
+-- the words are no command line, and the line of this fault was written
 pub usage_said : (words : List (List ℕ)) (before after : Outside) → command_line_of words ≡ None → SaysUsage before after → PlaysScript words 1 before after
 usage_said words before after is says =
     let by_line : (P : CommandLine → Type 0) → IfSome (command_line_of words) P = λ P. subst (λ o. IfSome o P) (sym is) tt in

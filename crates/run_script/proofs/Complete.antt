@@ -18,24 +18,26 @@ use Rattle.history_model.specs.declared.limits.TheConstants.{MAX_INPUT_BYTES}
 use Rattle.history_model.specs.scripts.Line.{ScriptLine, Rejected, until_stop}
 use Rattle.history_model.specs.scripts.History.{Playout, PlayedLine}
 use Rattle.history_model.specs.scripts.Input.{ended_lines, received}
-use Rattle.run_script.specs.Shown.{Shown}
-use Rattle.run_script.proofs.Shown.{shown_output-ended, shown_output-snoc}
+use Rattle.script_player.specs.Shown.{Shown}
+use Rattle.script_player.proofs.Shown.{shown_output-ended, shown_output-snoc}
+use Rattle.script_player.proofs.FailedWrites.{fails_rose}
 use Rattle.history_model.proofs.Parts.{ended_lines-more}
-use Rattle.run_script.specs.declared.ending.Ending.{Ending}
-use Rattle.run_script.specs.declared.ending.Ending.TheVariants.{Finished, Stopped, BadLine, TooLong, ReadFault, WriteFault, Memory}
-use Rattle.run_script.specs.Ending.{status_of, fault_line}
-use Rattle.run_script.specs.Script.{Reading, meanings, played_meanings, IsAtLast}
-use Rattle.run_script.specs.Run.{Streams, IsPrefix, RunsScript}
-use Rattle.run_script.specs.Program.{WritesFaultLine, EndsRun, IsValid, IsPlayed, PlaysInput, is_accepted}
-use Rattle.run_script.proofs.Growth.{reading_of}
-use Rattle.run_script.proofs.Stops.{received_prefix, stop_ended, unplayed, said-later, rejected_line}
+use Rattle.script_player.specs.declared.ending.Ending.{Ending}
+use Rattle.script_player.specs.declared.ending.Ending.TheVariants.{Finished, Stopped, BadLine, TooLong, ReadFault, WriteFault, Memory}
+use Rattle.script_player.specs.Ending.{status_of, fault_line}
+use Rattle.script_player.specs.Script.{Reading, meanings, played_meanings, IsAtLast}
+use Rattle.script_player.specs.Run.{Streams, IsPrefix, RunsScript}
+use Rattle.run_script.specs.Program.{WritesFaultLine, EndsRun, IsValid, IsPlayed, PlaysInput}
+use Rattle.script_player.specs.Script.{is_accepted}
+use Rattle.script_player.proofs.Growth.{reading_of}
+use Rattle.script_player.proofs.Stops.{received_prefix, stop_ended, unplayed, said-later, rejected_line}
 
 -- what was read is a prefix of what the input had, and the rest of it is left
 pub given_prefix : (read : List ℕ) (left : Option (List ℕ)) (input : List ℕ) → Gives read (Some input) left → (rest : List ℕ) × (input ≡ read ++ rest) × (left ≡ Some rest)
 given_prefix read None input gives = absurd (none-some input (sym gives))
 given_prefix read (Some rest) input gives = (rest, same_Some input (read ++ rest) gives, refl)
 
--- all that was read is a part without the end of the input, and the rest
+-- the whole reading is a part without the end of the input, and the rest
 part_rest : (whole : Reading) (bytes : List ℕ) → (part : IsPrefix whole (reading_of bytes false)) → whole.bytes ≡ bytes ++ (part.rest ++ drop MAX_INPUT_BYTES whole.bytes)
 part_rest whole bytes part =
     sym (take-append-drop MAX_INPUT_BYTES whole.bytes) ∙ ap (λ (l : List ℕ). l ++ drop MAX_INPUT_BYTES whole.bytes) part.parts ∙ append_assoc bytes part.rest (drop MAX_INPUT_BYTES whole.bytes)
@@ -57,7 +59,7 @@ part_of whole part rest input parts at_end prefix = by_end part.ended refl
       λ e. absurd (false≢true (sym is ∙ e)),
     )
 
--- what was said up to the last line that was played stands first in what the input says
+-- the meanings of the lines up to the last that was played are the first of the meanings of the input
 pub found_at : (playout : Playout) (part : Reading) (more input : List ℕ) → input ≡ part.bytes ++ more → (part.ended ≡ true → more ≡ [])
     → (at : IsAtLast playout part) → (rest : List ScriptLine) × (meanings (lines input) ≡ played_meanings (at.before ++ at.last ∷ []) ++ rest)
 found_at playout part more input parts whole at = by_end part.ended refl
@@ -96,10 +98,6 @@ written_line sent.Failed text before after fails = inr fails
 pub nothing_written : (before after : SinkState) → WritesFaultLine [] before after → after ≡ before
 nothing_written before after said = elim said [ inl all ↦ all ∙ after_taking-nil before | inr fails ↦ absurd (let none : fails.count < 0 = fails.some_left in omega (arith, none)) ]
 
--- a failed write raises the count of faults
-pub fails_rose : (text : List ℕ) (before after : SinkState) → Fails text before after → Rose before.faults after.faults
-fails_rose text before after fails = (let is = ap (λ (s : SinkState). s.faults) fails.stopped in omega (arith, is))
-
 -- the input was read to the end of the line at which the run ends
 pub read_past : (playout : Playout) (whole part : Reading) (rest : List ℕ) → IsPrefix whole part → (whole.ended ≡ true → rest ≡ [])
     → (at : IsAtLast playout part) → at.last.line ≢ Rejected → (rest ≡ []) ⊎ (length at.before < length (ended_lines whole.bytes))
@@ -129,7 +127,7 @@ module _ (shown : Shown) (playout : Playout) (before after : Streams) (between :
   given : (read : List ℕ) → Gives read before.input.left after.input.left → (rest : List ℕ) × (input ≡ read ++ rest) × (after.input.left ≡ Some rest)
   given read gives = given_prefix read after.input.left input (subst (λ l. Gives read l after.input.left) known gives)
 
-  -- nothing is left at the end
+  -- at its end nothing is left of the input
   none_left : (rest : List ℕ) → after.input.left ≡ Some rest → IsAtEnd after.input → rest ≡ []
   none_left rest left at_end = subst (λ (l : Option (List ℕ)). IfSome l (λ r. r ≡ [])) left at_end
 
@@ -214,7 +212,7 @@ completes_run shown playout status before after run valid read_well wrote_well =
     subst (λ s. (s ≡ 0) ⊎ (s ≡ 5)) (sym run.outcome)
     (completes shown playout before after run.between valid.0 valid.1 run.ending run.run run.said valid.2 valid.3 read_well wrote_well)
 
--- a run fails only if a read or a write of it failed
+-- the status is 4 only if a read or a write failed
 fails_by : (shown : Shown) (playout : Playout) (before after : Streams) (between : SinkState) (ending : Ending) → status_of ending ≡ 4 → RunsScript shown playout ending before (record { input = after.input; out = between })
     → between.faults ≤ after.out.faults → Rose before.input.faults after.input.faults ⊎ Rose before.out.faults after.out.faults
 fails_by shown playout before after between Finished bad run said = absurd (let no : 0 ≡ 4 = bad in omega (arith, no))
@@ -244,7 +242,7 @@ quiet shown playout before after between ReadFault good run said = absurd (let n
 quiet shown playout before after between WriteFault good run said = absurd (let no : 4 ≡ 0 = good in omega (arith, no))
 quiet shown playout before after between Memory good run said = absurd (let no : 5 ≡ 0 = good in omega (arith, no))
 
--- and it played the input, if that is known
+-- and it played the input, if its bytes are known
 pub is_played : (shown : Shown) (playout : Playout) (status : ℕ) (before after : Streams) → EndsRun shown playout status before after → status ≡ 0 → IsPlayed shown playout before after
 is_played shown playout status before after run good =
     let ended_well = sym run.outcome ∙ good in

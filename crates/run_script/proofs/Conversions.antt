@@ -1,4 +1,4 @@
--- What a conversion does, over the outside before and after.
+-- What a conversion does, by what is outside before and after.
 use Rattle.std.proofs.Common.{◌≡◌, ◌≢◌, inl, inr, ℕ, ◌≤◌, List, [], ◌++◌, length, refl, sym, ap, ◌∙◌, subst, arith, append-nil, length-append}
 use Rattle.std.specs.Prelude.{◌⊎◌, Option, Some, None, Ok, Err, IfSome}
 use Rattle.std.proofs.lemmas.Option.{none-some}
@@ -16,11 +16,12 @@ use Rattle.server_setup.specs.declared.fault.RunFault.{RunFault}
 use Rattle.server_setup.specs.declared.fault.RunFault.TheVariants.{Usage, ConfigText, ConfigKey, BadLine, InputTooLong, Plan, PlanEnd, Record, Clip, MediaTwice, MediaTotal, Device, OutOfMemory}
 use Rattle.server_setup.specs.Fault.{clip_status}
 use Rattle.run_script.specs.declared.converting.TheConstants.{MAX_CLIP_BYTES}
-use Rattle.run_script.specs.Ending.{exit_status, last_line}
-use Rattle.run_script.specs.Run.{Streams}
+use Rattle.script_player.specs.Ending.{exit_status, last_line}
+use Rattle.script_player.specs.Run.{Streams}
 use Rattle.run_script.specs.Converting.{ConvertEnds}
 use Rattle.run_script.specs.Program.{EndsConverted, IsClipInput, IsConverted, Outside, WritesFaultLine, WritesStraight, streams_of}
-use Rattle.run_script.proofs.Complete.{fails_rose, line_count, nothing_written}
+use Rattle.script_player.proofs.FailedWrites.{fails_rose}
+use Rattle.run_script.proofs.Complete.{line_count, nothing_written}
 
 -- the status of a refused clip
 pub clip_known : (fault : ClipFault) → (clip_status fault ≡ 2) ⊎ (clip_status fault ≡ 5)
@@ -97,7 +98,7 @@ device_by (Some (Record name)) bytes before after ends bad = absurd ends
 device_by (Some (MediaTwice name)) bytes before after ends bad = absurd ends
 device_by (Some (MediaTotal sum)) bytes before after ends bad = absurd ends
 
--- what was read of an input that is known
+-- what was read of an input whose bytes are known
 pub record IsRead (input bytes : List ℕ) (after : Option (List ℕ)) : Type 0 where
   pub rest : List ℕ
   pub left : after ≡ Some rest
@@ -110,7 +111,7 @@ read_by input bytes before (Some rest) known gives = record { rest = rest; left 
     same : Some input ≡ Some (bytes ++ rest) → input ≡ bytes ++ rest
     same e = cc
 
--- all of it was read at its end
+-- all of the input was read at its end
 pub all_read : (input bytes : List ℕ) (after : SourceState) → IsRead input bytes after.left → IsAtEnd after → (input ≡ bytes) × (after.left ≡ Some [])
 all_read input bytes after read at_end =
     let none : read.rest ≡ [] = subst (λ l. IfSome l (λ (r : List ℕ). r ≡ [])) read.left at_end in
@@ -151,7 +152,7 @@ module _ (status : ℕ) (before after : Outside) (ends : EndsConverted status be
   pub converted_status : IsStatus status
   converted_status = subst IsStatus (sym ends.outcome) (status_by ends.fault ends.made.bytes (streams_of before) middle ends.made.ends)
 
-  -- the count of faults of the output does not fall after that
+  -- the count of faults of the output does not fall with the line of the fault
   wrote : ends.between.faults ≤ after.out.faults
   wrote = line_count ends.between after.out (last_line ends.fault) ends.said
 

@@ -7,12 +7,12 @@ use Rattle.history_model.specs.scripts.Memory.{HasMemory, HasMemoryAfter, Unless
 use Rattle.history_model.proofs.Outputs.{first_goes_on}
 use Rattle.history_model.proofs.Replied.{script_events-ended}
 use Rattle.run_script.specs.Program.{EndsAtLine}
-use Rattle.run_script.specs.Recording.{IsPlayedOut, IsStoppedScript, IsWholeScript}
-use Rattle.run_script.specs.Script.{Reading, meanings, played_meanings}
+use Rattle.script_film.specs.Recording.{IsPlayedOut, IsStoppedScript, IsWholeScript}
+use Rattle.script_player.specs.Script.{Reading, meanings, played_meanings}
 use Rattle.run_script.proofs.Complete.{found_at, part_of, read_past}
-use Rattle.run_script.proofs.Stops.{said-later, unplayed}
+use Rattle.script_player.proofs.Stops.{said-later, unplayed}
 
--- what follows a line at which the run ends is not replied that memory ran out
+-- the lines after the one at which the run ends have no replies that report out of memory
 HasMemoryAfter-later : (playout : Playout) (before lines : List PlayedLine) (line : PlayedLine) (rest : List PlayedLine)
     → goes_on_after playout before lines ≡ true → ends_at playout (before ++ lines) line line.line ≡ true
     → HasMemoryAfter playout before (lines ++ line ∷ []) → HasMemoryAfter playout before (lines ++ line ∷ rest)

@@ -6,15 +6,16 @@ use Rattle.history_model.specs.scripts.History.{Playout}
 use Rattle.server_setup.specs.declared.fault.RunFault.{RunFault}
 use Rattle.server_setup.specs.declared.fault.RunFault.TheVariants.{OutOfMemory}
 use Rattle.server_setup.specs.Setup.{SetsUp}
-use Rattle.run_script.specs.declared.ending.Ending.{Ending}
-use Rattle.run_script.specs.declared.ending.Ending.TheVariants.{Memory}
-use Rattle.run_script.specs.Ending.{exit_status, fault_in, fault_of, last_line}
+use Rattle.script_player.specs.declared.ending.Ending.{Ending}
+use Rattle.script_player.specs.declared.ending.Ending.TheVariants.{Memory}
+use Rattle.script_player.specs.Ending.{exit_status, fault_in, fault_of, last_line}
 use Rattle.run_script.specs.CommandLine.{CommandLine, Plain, Configured, Generated, Converted, Planned, Recorded}
-use Rattle.run_script.specs.Run.{Streams, RunsScript}
-use Rattle.run_script.specs.Shown.{Shown, Frames}
-use Rattle.run_script.specs.Program.{Outside, EndsRun, RunsCommandLine, WritesFaultLine, plain_playout, playout_of, streams_of}
+use Rattle.script_player.specs.Run.{Streams, RunsScript}
+use Rattle.script_player.specs.Shown.{Shown, Frames}
+use Rattle.run_script.specs.Program.{Outside, EndsRun, RunsCommandLine, WritesFaultLine, streams_of}
+use Rattle.script_player.specs.Playouts.{plain_playout, playout_of}
 use Rattle.run_script.specs.inner.Outcome.{HasRun, PlaysCommandLine, RefusesPath}
-use Rattle.run_script.proofs.Progress.{nothing_read}
+use Rattle.script_player.proofs.Progress.{nothing_read}
 
 -- a script was run, and then the line of its fault was written
 run_ended : (shown : Shown) (playout : Playout) (outcome : Result (Unit {0}) RunFault) (before between : Streams) (after : SinkState) → HasRun shown playout outcome before between
@@ -28,25 +29,25 @@ run_ended shown playout outcome before between after ran said = record {
   said = subst (λ f. WritesFaultLine (last_line f) between.out after) ran.fault said;
 }
 
--- a script was run on what is played
+-- a script was run on an equal playout
 pub ran_on : (shown : Shown) (setup playout : Playout) (outcome : Result (Unit {0}) RunFault) (ending : Ending) (before after : Streams) → setup ≡ playout
     → fault_in outcome ≡ fault_of ending → RunsScript shown setup ending before after → HasRun shown playout outcome before after
 ran_on shown setup playout outcome ending before after same fault run =
     record { ending = ending; fault = fault; run = subst (λ (p : Playout). RunsScript shown p ending before after) same run }
 
--- the run is out of memory before anything was read
+-- memory ran out before anything was read
 pub out_of_memory : (shown : Shown) (playout : Playout) (outcome : Result (Unit {0}) RunFault) (before : Streams) → IsErrAnd outcome (λ fault. fault ≡ OutOfMemory) → HasRun shown playout outcome before before
 out_of_memory shown playout (Ok done) before is = absurd is
 out_of_memory shown playout (Err fault) before is = record { ending = Memory; fault = ap Some is; run = nothing_read shown playout before }
 
--- the fault of what could not be set up is the outcome
+-- the outcome is the fault for which nothing was set up
 pub path_refused : (path : List ℕ) (fault : RunFault) (outcome : Result (Unit {0}) RunFault) (before after : Outside) → SetsUp path (Err fault) before.media after.media
     → after.input ≡ before.input → after.out ≡ before.out → IsErrAnd outcome (λ other. other ≡ fault) → RefusesPath path outcome before after
 path_refused path fault (Ok done) before after sets unread unwritten is = absurd is
 path_refused path fault (Err other) before after sets unread unwritten is =
     (subst (λ (f : RunFault). SetsUp path (Err f) before.media after.media) (sym is) sets, unread, unwritten)
 
--- a command line was done, and then the line of its fault was written
+-- a command line was executed, and then the line of its fault was written
 line_ended : (line : CommandLine) (outcome : Result (Unit {0}) RunFault) (before between : Outside) (after : SinkState) → PlaysCommandLine line outcome before between
     → WritesFaultLine (last_line (fault_in outcome)) between.out after
     → RunsCommandLine line (exit_status (fault_in outcome)) before (record between { out = after })

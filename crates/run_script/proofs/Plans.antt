@@ -12,11 +12,12 @@ use Rattle.play_schedule.specs.SheetView.{SheetView}
 use Rattle.play_schedule.specs.Sheet.{sheet_of}
 use Rattle.server_setup.specs.declared.fault.RunFault.{RunFault}
 use Rattle.server_setup.specs.declared.fault.RunFault.TheVariants.{Usage, ConfigText, ConfigKey, BadLine, InputTooLong, Plan, PlanEnd, Record, Clip, MediaTwice, MediaTotal, Device, OutOfMemory}
-use Rattle.run_script.specs.Ending.{exit_status, last_line}
-use Rattle.run_script.specs.Run.{Streams}
-use Rattle.run_script.specs.Planning.{PlanEnds, PlaysSheet}
+use Rattle.script_player.specs.Ending.{exit_status, last_line}
+use Rattle.script_player.specs.Run.{Streams}
+use Rattle.cue_player.specs.Planning.{PlanEnds, PlaysSheet}
 use Rattle.run_script.specs.Program.{EndsPlan, IsSheetPlayed, PlaysSheetInput, WritesFaultLine}
-use Rattle.run_script.proofs.Complete.{fails_rose, line_count, nothing_written}
+use Rattle.script_player.proofs.FailedWrites.{fails_rose}
+use Rattle.run_script.proofs.Complete.{line_count, nothing_written}
 use Rattle.run_script.proofs.Conversions.{IsRead, IsStatus, all_read, read_by}
 
 module _ (playout : Playout) where
@@ -82,7 +83,7 @@ module _ (playout : Playout) where
       differ : Ok found ≡ Err fault → ⊥
       differ e = cc
 
-  -- a sheet is refused for no reason
+  -- a valid sheet is not refused
   not_refused : (input bytes : List ℕ) (found : SheetView) (fault : SheetFault) → input ≡ bytes → sheet_of playout.config.rate input ≡ Ok found
       → sheet_of playout.config.rate bytes ≡ Err fault → ⊥
   not_refused input bytes found fault same one other = not_both input found fault one (ap (sheet_of playout.config.rate) same ∙ other)
@@ -120,7 +121,7 @@ module _ (playout : Playout) (status : ℕ) (before after : Streams) (ends : End
   pub plan_status : IsStatus status
   plan_status = subst IsStatus (sym ends.outcome) (status_by playout ends.fault ends.plan.bytes before middle ends.plan.ends)
 
-  -- the count of faults of the output does not fall after that
+  -- the count of faults of the output does not fall with the line of the fault
   wrote : ends.between.faults ≤ after.out.faults
   wrote = line_count ends.between after.out (last_line ends.fault) ends.said
 

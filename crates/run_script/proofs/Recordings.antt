@@ -12,12 +12,14 @@ use Rattle.history_model.specs.scripts.History.{setup_of}
 use Rattle.history_model.specs.scripts.Line.{until_stop}
 use Rattle.server_setup.specs.declared.fault.RunFault.{RunFault}
 use Rattle.server_setup.specs.declared.fault.RunFault.TheVariants.{Usage, ConfigText, ConfigKey, BadLine, InputTooLong, Plan, PlanEnd, Record, Clip, MediaTwice, MediaTotal, Device, OutOfMemory}
-use Rattle.run_script.specs.Ending.{exit_status, last_line}
-use Rattle.run_script.specs.Run.{Streams}
-use Rattle.run_script.specs.Recording.{FilmRequest, HasNoFilm, RecordEnds}
-use Rattle.run_script.specs.Script.{Reading, meanings}
-use Rattle.run_script.specs.Program.{AlwaysHasFilm, EndsRecord, IsFilmWritten, WritesFaultLine, WritesFilmOf, is_accepted}
-use Rattle.run_script.proofs.Complete.{fails_rose, line_count, nothing_written, part_of, rejected_early}
+use Rattle.script_player.specs.Ending.{exit_status, last_line}
+use Rattle.script_player.specs.Run.{Streams}
+use Rattle.script_film.specs.Recording.{FilmRequest, HasNoFilm, RecordEnds}
+use Rattle.script_player.specs.Script.{Reading, meanings}
+use Rattle.run_script.specs.Program.{AlwaysHasFilm, EndsRecord, IsFilmWritten, WritesFaultLine, WritesFilmOf}
+use Rattle.script_player.specs.Script.{is_accepted}
+use Rattle.script_player.proofs.FailedWrites.{fails_rose}
+use Rattle.run_script.proofs.Complete.{line_count, nothing_written, part_of, rejected_early}
 use Rattle.run_script.proofs.Conversions.{IsRead, IsStatus, read_by}
 use Rattle.run_script.proofs.FilmInputs.{input_played}
 
@@ -122,7 +124,7 @@ module _ (request : FilmRequest) (status : ℕ) (before after : Streams) (ends :
   pub record_status : IsStatus status
   record_status = subst IsStatus (sym ends.outcome) (status_by request reading before middle ends.fault ends.recording.ends)
 
-  -- the count of faults of the output does not fall after that
+  -- the count of faults of the output does not fall with the line of the fault
   wrote : ends.between.faults ≤ after.out.faults
   wrote = line_count ends.between after.out (last_line ends.fault) ends.said
 
@@ -133,7 +135,7 @@ module _ (request : FilmRequest) (status : ℕ) (before after : Streams) (ends :
         | inr write ↦ inr (Rose-then before.out.faults ends.between.faults after.out.faults write wrote)
       ]
 
-  -- what is left of an input that is known
+  -- what is left of an input whose bytes are known
   rest_of : (input : List ℕ) → before.input.left ≡ Some input → IsRead input reading.bytes after.input.left
   rest_of input known = read_by input reading.bytes before.input.left after.input.left known ends.recording.gives
 

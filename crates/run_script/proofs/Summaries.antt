@@ -1,4 +1,4 @@
--- What a made script does, over the outside before and after.
+-- What a generated script does, by what is outside before and after.
 use Rattle.std.proofs.Common.{◌≡◌, ◌≢◌, inl, inr, ℕ, ◌≤◌, [], refl, ◌∙◌, subst, arith}
 use Rattle.std.specs.Prelude.{◌⊎◌, Option, Some, None}
 use Rattle.play_outside.specs.SinkState.{SinkState, after_taking}
@@ -7,12 +7,13 @@ use Rattle.play_outside.proofs.Counting.{Rose-then}
 use Rattle.history_model.specs.scripts.Generator.{generator_output}
 use Rattle.server_setup.specs.declared.fault.RunFault.{RunFault}
 use Rattle.server_setup.specs.declared.fault.RunFault.TheVariants.{Usage, ConfigText, ConfigKey, BadLine, InputTooLong, Plan, PlanEnd, Record, Clip, MediaTwice, MediaTotal, Device, OutOfMemory}
-use Rattle.run_script.specs.Ending.{exit_status, last_line}
-use Rattle.run_script.specs.Generating.{Generates}
+use Rattle.script_player.specs.Ending.{exit_status, last_line}
+use Rattle.made_script.specs.Generating.{Generates}
 use Rattle.run_script.specs.Program.{EndsGenerated, Outside, WritesFaultLine, WritesSummary}
-use Rattle.run_script.proofs.Complete.{fails_rose, line_count, nothing_written}
+use Rattle.script_player.proofs.FailedWrites.{fails_rose}
+use Rattle.run_script.proofs.Complete.{line_count, nothing_written}
 
--- how it ends: well, with a failed write, or out of memory
+-- how the generation ends: well, with a failed write, or out of memory
 record EndsSo (fault : Option RunFault) (seed steps : ℕ) (before between : SinkState) : Type 0 where
   cases : ((exit_status fault ≡ 0) × (between ≡ after_taking before (generator_output seed steps)) × (last_line fault ≡ []))
       ⊎ (((exit_status fault ≡ 4) × Rose before.faults between.faults) ⊎ (exit_status fault ≡ 5))

@@ -10,15 +10,15 @@ use Rattle.clip_format.specs.Preparing.{straight_clip}
 use Rattle.server_setup.specs.declared.fault.RunFault.{RunFault}
 use Rattle.server_setup.specs.declared.fault.RunFault.TheVariants as faults
 use Rattle.run_script.specs.declared.converting.TheConstants.{MAX_CLIP_BYTES}
-use Rattle.run_script.specs.Run.{Streams, IsWholeInput}
+use Rattle.script_player.specs.Run.{Streams, IsWholeInput}
 
 -- the bytes are a clip file
 pub record IsClipFileOf (bytes : List ℕ) (clip : ClipView) (before after : Streams) : Type 0 where
   pub whole : IsWholeInput MAX_CLIP_BYTES bytes before after
   pub reads : clip_of bytes ≡ Ok clip
 
--- how it ends after these bytes were read: the clip was written in version 2, and nothing else; or the bytes are one more than a
--- clip may have; or they are no clip, for this reason; or a read or a write failed; or memory ran out
+-- how a conversion ends after these bytes were read: the clip was written in version 2, and nothing else; or the bytes are one more than
+-- a clip may have; or they are no clip, for this reason; or a read or a write failed; or memory ran out
 abbrev pub ConvertEnds : Option RunFault → List ℕ → Streams → Streams → Type 0
 ConvertEnds None bytes before after =
     (clip : ClipView) × IsClipFileOf bytes clip before after × (after.out ≡ after_taking before.out (clip_bytes (straight_clip clip)))
@@ -42,7 +42,7 @@ ConvertEnds (Some (faults.Record name)) bytes before after = ⊥
 ConvertEnds (Some (faults.MediaTwice name)) bytes before after = ⊥
 ConvertEnds (Some (faults.MediaTotal sum)) bytes before after = ⊥
 
--- what was read of the input, and how it ended
+-- what was read of the input, and how the conversion ended
 pub record Converts (fault : Option RunFault) (before after : Streams) : Type 0 where
   pub bytes : List ℕ
   pub gives : Gives bytes before.input.left after.input.left

@@ -1,11 +1,4 @@
 pub mod CommandLine
-pub mod Ending
-pub mod Shown
-pub mod Script
-pub mod Run
-pub mod Generating
 pub mod Converting
-pub mod Planning
-pub mod Recording
 pub mod Program
 pub mod inner

@@ -1,5 +1,5 @@
--- What the program promises of a run.
-use Rattle.std.specs.Prelude.{◌≡◌, ◌≢◌, ◌↔◌, ℕ, ◌<◌, ◌≤◌, ◌⊎◌, Bool, true, false, Option, Some, None, Ok, Err, List, [], ◌∷◌, ◌++◌, length, IfSome, MatchOption}
+-- What `run_main` promises of a run.
+use Rattle.std.specs.Prelude.{◌≡◌, ◌≢◌, ◌↔◌, ℕ, ◌<◌, ◌≤◌, ◌⊎◌, Bool, true, Option, Some, None, Ok, Err, List, [], ◌∷◌, ◌++◌, length, IfSome, MatchOption}
 use Rattle.std.specs.List.{list_all}
 use Rattle.std.specs.Str.Lines.{lines}
 use Rattle.play_outside.specs.Faults.{Rose}
@@ -8,17 +8,15 @@ use Rattle.play_outside.specs.SourceState.{SourceState}
 use Rattle.play_outside.specs.SinkState.{SinkState, after_taking}
 use Rattle.play_outside.specs.Sink.{Fails}
 use Rattle.history_model.specs.declared.limits.TheConstants.{MAX_INPUT_BYTES}
-use Rattle.history_model.specs.scripts.Line.{ScriptLine, Comment, Ticks, Said, Stop, Rejected, until_stop}
+use Rattle.history_model.specs.scripts.Line.{Rejected, until_stop}
 use Rattle.history_model.specs.recordings.Film.{film, film_span}
 use Rattle.history_model.specs.scripts.History.{Playout, PlayedLine, ends_at, goes_on, script_events, setup_of}
 use Rattle.history_model.specs.scripts.Input.{ended_lines}
 use Rattle.history_model.specs.scripts.Memory.{HasMemory}
-use Rattle.history_model.specs.scripts.Output.{plain_config}
 use Rattle.history_model.specs.scripts.Generator.{generator_output}
 use Rattle.play_types.specs.declared.geometry.Geometry.{Geometry}
-use Rattle.play_scene.specs.Picture.{clips_of}
-use Rattle.run_script.specs.declared.ending.Ending.{Ending}
-use Rattle.run_script.specs.Ending.{exit_status, last_line, status_of, fault_line}
+use Rattle.script_player.specs.declared.ending.Ending.{Ending}
+use Rattle.script_player.specs.Ending.{exit_status, last_line, status_of, fault_line}
 use Rattle.server_setup.specs.declared.setup.ServerSetup.{ServerSetup}
 use Rattle.server_setup.specs.declared.fault.RunFault.{RunFault}
 use Rattle.server_setup.specs.declared.fault.RunFault.TheVariants.{Usage}
@@ -27,18 +25,19 @@ use Rattle.play_types.specs.ClipFile.{ClipView, clip_bytes}
 use Rattle.clip_format.specs.Decoding.{clip_of}
 use Rattle.clip_format.specs.Preparing.{straight_clip}
 use Rattle.run_script.specs.declared.converting.TheConstants.{MAX_CLIP_BYTES}
-use Rattle.run_script.specs.Generating.{Generates}
+use Rattle.made_script.specs.Generating.{Generates}
 use Rattle.run_script.specs.Converting.{Converts}
-use Rattle.run_script.specs.Planning.{PlaysPlan, PlaysSheet}
-use Rattle.run_script.specs.Recording.{FilmRequest, RecordsFilm}
+use Rattle.cue_player.specs.Planning.{PlaysPlan, PlaysSheet}
+use Rattle.script_film.specs.Recording.{FilmRequest, RecordsFilm, film_of}
 use Rattle.play_schedule.specs.declared.limits.TheConstants.{MAX_SHEET_BYTES}
 use Rattle.play_schedule.specs.SheetView.{SheetView}
 use Rattle.play_schedule.specs.Sheet.{sheet_of}
-use Rattle.run_script.specs.Script.{meanings, played_meanings}
+use Rattle.script_player.specs.Playouts.{plain_playout, playout_of}
+use Rattle.script_player.specs.Script.{is_accepted, meanings, played_meanings}
 use Rattle.server_setup.specs.Setup.{SetsUp, fault_of_files}
 use Rattle.server_setup.specs.Fault as table
-use Rattle.run_script.specs.Run.{Streams, RunsScript}
-use Rattle.run_script.specs.Shown.{Shown, Frames, shown_output}
+use Rattle.script_player.specs.Run.{Streams, RunsScript}
+use Rattle.script_player.specs.Shown.{Shown, Frames, shown_output}
 
 -- all that `run_main` reads and writes: the folder of configurations and clips, the input and the output
 pub record Outside : Type 0 where
@@ -46,20 +45,20 @@ pub record Outside : Type 0 where
   pub input : SourceState
   pub out : SinkState
 
--- its input and its output
+-- the input and the output of these
 abbrev pub streams_of : Outside → Streams
 streams_of outside = record { input = outside.input; out = outside.out }
 
--- the line was written, or a write failed after a part of it
+-- the line of a fault was written, or a write failed after a part of it
 abbrev pub WritesFaultLine : List ℕ → SinkState → SinkState → Type 0
 WritesFaultLine line before after = (after ≡ after_taking before line) ⊎ Fails line before after
 
--- words that are no command line: nothing is read, and the output says so
+-- the words are no command line: nothing is read, and the line of this fault is written
 abbrev pub SaysUsage : Outside → Outside → Type 0
 SaysUsage before after =
     (after.media ≡ before.media) × (after.input ≡ before.input) × WritesFaultLine (table.fault_line Usage) before.out after.out
 
--- a script was run, and then the output says what went wrong, if something did
+-- a script was run, and then the line of its fault was written, if it has one
 pub record EndsRun (shown : Shown) (playout : Playout) (status : ℕ) (before after : Streams) : Type 0 where
   pub ending : Ending
   pub outcome : status ≡ status_of ending
@@ -68,17 +67,7 @@ pub record EndsRun (shown : Shown) (playout : Playout) (status : ℕ) (before af
   pub run : RunsScript shown playout ending before (record { input = after.input; out = between })
   pub said : WritesFaultLine (fault_line ending) between after.out
 
--- what a script is played on if the words name a size alone: one channel, without clips, whose frames are written in
--- hexadecimal
-abbrev pub plain_playout : Geometry → Playout
-plain_playout size = record { config = plain_config size.width size.height; names = []; clips = []; digests = false }
-
--- what a script is played on that was set up
-abbrev pub playout_of : ServerSetup → Bool → Playout
-playout_of setup digests =
-    record { config = setup.config; names = setup.names; clips = clips_of setup.media; digests = digests }
-
--- nothing was set up from the configuration of this path: nothing of the input is read, and the output says why
+-- nothing was set up from the configuration of this path: nothing of the input is read, and the line of the fault is written
 pub record IsRefused (path : List ℕ) (status : ℕ) (before after : Outside) : Type 0 where
   pub fault : RunFault
   pub outcome : status ≡ table.status_of fault
@@ -92,7 +81,7 @@ pub record IsConfigured (shown : Shown) (path : List ℕ) (digests : Bool) (stat
   pub set_up : SetsUp path (Ok setup) before.media after.media
   pub run : EndsRun shown (playout_of setup digests) status (streams_of before) (streams_of after)
 
--- the summary of a made script was written, or the output says why not; nothing is read
+-- the summary of a generated script was written, or the line of a fault; nothing is read
 pub record EndsGenerated (seed steps status : ℕ) (before after : Outside) : Type 0 where
   pub fault : Option RunFault
   pub outcome : status ≡ exit_status fault
@@ -103,7 +92,7 @@ pub record EndsGenerated (seed steps status : ℕ) (before after : Outside) : Ty
   pub media : after.media ≡ before.media
   pub unread : after.input ≡ before.input
 
--- the clip of the input was written with straight alpha, or the output says why not
+-- the clip of the input was written with straight alpha, or the line of a fault was
 pub record EndsConverted (status : ℕ) (before after : Outside) : Type 0 where
   pub fault : Option RunFault
   pub outcome : status ≡ exit_status fault
@@ -113,7 +102,7 @@ pub record EndsConverted (status : ℕ) (before after : Outside) : Type 0 where
   pub said : WritesFaultLine (last_line fault) between after.out
   pub media : after.media ≡ before.media
 
--- the cue sheet of the input was played, or the output says why not
+-- the cue sheet of the input was played, or the line of a fault was written
 pub record EndsPlan (playout : Playout) (status : ℕ) (before after : Streams) : Type 0 where
   pub fault : Option RunFault
   pub outcome : status ≡ exit_status fault
@@ -128,7 +117,7 @@ pub record IsPlanned (path : List ℕ) (digests : Bool) (status : ℕ) (before a
   pub set_up : SetsUp path (Ok setup) before.media after.media
   pub run : EndsPlan (playout_of setup digests) status (streams_of before) (streams_of after)
 
--- the film of the script of the input was written, or the output says why not
+-- the film of the script of the input was written, or the line of a fault was
 pub record EndsRecord (request : FilmRequest) (status : ℕ) (before after : Streams) : Type 0 where
   pub fault : Option RunFault
   pub outcome : status ≡ exit_status fault
@@ -137,17 +126,13 @@ pub record EndsRecord (request : FilmRequest) (status : ℕ) (before after : Str
   pub recording : RecordsFilm request fault before (record { input = after.input; out = between })
   pub said : WritesFaultLine (last_line fault) between after.out
 
--- the film of a name in the history of a script on what was set up
-abbrev pub film_of : ServerSetup → List ℕ → FilmRequest
-film_of setup name = record { playout = playout_of setup false; name = name }
-
 -- a script was played for a film on the configuration of this path and the clips of its folder
 pub record IsRecorded (path name : List ℕ) (status : ℕ) (before after : Outside) : Type 0 where
   pub setup : ServerSetup
   pub set_up : SetsUp path (Ok setup) before.media after.media
   pub run : EndsRecord (film_of setup name) status (streams_of before) (streams_of after)
 
--- what a command line does
+-- what was read and written for a command line, with this status
 abbrev pub RunsCommandLine : CommandLine → ℕ → Outside → Outside → Type 0
 RunsCommandLine (Plain size) status before after =
     (after.media ≡ before.media) × EndsRun Frames (plain_playout size) status (streams_of before) (streams_of after)
@@ -171,8 +156,8 @@ pub record EndsAtLine (playout : Playout) (played : List PlayedLine) (read rest 
   pub ends : ends_at playout before last last.line ≡ true
   pub whole : (rest ≡ []) ⊎ (length before < length (ended_lines read))
 
--- the output of the lines of an input was written, and nothing else, if the sessions gave up some of the lines out of memory;
--- the input was read to its end, or to a line at which the run ends
+-- the output of the lines of an input was written, and nothing else, for some choice of the lines for which there was no memory; the
+-- input was read to its end, or to a line at which the run ends
 pub record PlaysInput (shown : Shown) (playout : Playout) (input : List ℕ) (before after : Streams) : Type 0 where
   pub read : List ℕ
   pub rest : List ℕ
@@ -189,7 +174,7 @@ IsPlayed shown playout before after =
     IfSome before.input.left (λ input. PlaysInput shown playout input before after)
     × (after.input.faults ≡ before.input.faults) × (after.out.faults ≡ before.out.faults)
 
--- the four lines of the summary of a made script were written, and nothing else, and nothing was read
+-- the four lines of the summary of a generated script were written, and nothing else, and nothing was read
 pub record WritesSummary (seed steps : ℕ) (before after : Outside) : Type 0 where
   pub written : after.out ≡ after_taking before.out (generator_output seed steps)
   pub media : after.media ≡ before.media
@@ -242,8 +227,8 @@ IsFilmWritten request before after =
     IfSome before.input.left (λ input. WritesFilmOf request input before after)
     × (after.input.faults ≡ before.input.faults) × (after.out.faults ≡ before.out.faults)
 
--- the input was played on what the command line names, or the script that it names was made and played, or the clip of the
--- input was converted, or its cue sheet was played, or its film was written
+-- what the command line asks for was done: the input was played, or a script was generated and played, or the clip of the input was
+-- converted, or its cue sheet was played, or its film was written
 abbrev pub PlaysToEnd : CommandLine → Outside → Outside → Type 0
 PlaysToEnd (Plain size) before after =
     (after.media ≡ before.media) × IsPlayed Frames (plain_playout size) (streams_of before) (streams_of after)
@@ -263,19 +248,19 @@ PlaysToEnd (Recorded path name) before after =
 abbrev pub StreamsFail : Outside → Outside → Type 0
 StreamsFail before after = Rose before.input.faults after.input.faults ⊎ Rose before.out.faults after.out.faults
 
--- a read of the folder, or one of these, failed
+-- a read of the folder, or a read or a write of the input or of the output failed
 abbrev pub DeviceFails : Outside → Outside → Type 0
 DeviceFails before after = Rose before.media.faults after.media.faults ⊎ StreamsFail before after
 
--- if the files have a first fault, nothing of the input is read, and the status is that of the fault, unless the run was out
--- of memory or a read of the folder failed before; if they have none, the status is not that of clips
+-- if the files have a first fault, nothing of the input is read, and the status is that of the fault, unless memory ran out or a read of
+-- the folder failed before; if they have none, the status is not 3, that of faulty clips
 abbrev pub MeetsFault : Option RunFault → ℕ → Outside → Outside → Type 0
 MeetsFault None status before after = status ≢ 3
 MeetsFault (Some fault) status before after =
     ((status ≡ table.status_of fault) ⊎ ((status ≡ 5) ⊎ ((status ≡ 4) × Rose before.media.faults after.media.faults)))
     × (after.input ≡ before.input)
 
--- the first fault of the files that the command line names is met, if the files are known
+-- the first fault of the files of the command line is met, if the files are known; without a configuration the status is not 3
 abbrev pub MeetsFirstFault : CommandLine → ℕ → Outside → Outside → Type 0
 MeetsFirstFault (Plain size) status before after = status ≢ 3
 MeetsFirstFault (Configured shown path digests) status before after =
@@ -287,8 +272,7 @@ MeetsFirstFault (Planned path digests) status before after =
 MeetsFirstFault (Recorded path name) status before after =
     IfSome before.media.files (λ files. MeetsFault (fault_of_files path files) status before after)
 
--- what the command line names can be set up: with a configuration, if the files are known and have no fault, and no read of
--- the folder fails
+-- the command line can be set up: with a configuration, if the files are known and have no fault, and no read of the folder fails
 abbrev pub CanBeSetUp : CommandLine → Outside → Outside → Type 0
 CanBeSetUp (Plain size) before after = Unit {0}
 CanBeSetUp (Configured shown path digests) before after =
@@ -303,14 +287,6 @@ CanBeSetUp (Recorded path name) before after =
     (files : Files) × (before.media.files ≡ Some files) × (fault_of_files path files ≡ None)
     × (Rose before.media.faults after.media.faults → ⊥)
 
--- whether a line is one that a script may have
-abbrev pub is_accepted : ScriptLine → Bool
-is_accepted Comment = true
-is_accepted (Ticks count) = true
-is_accepted (Said tag text) = true
-is_accepted Stop = true
-is_accepted Rejected = false
-
 -- the bytes of the input are known, it is not too long, and none of its lines up to the first stop is rejected
 abbrev pub IsValid : SourceState → Type 0
 IsValid input =
@@ -322,7 +298,7 @@ abbrev pub IsClipInput : SourceState → Type 0
 IsClipInput input =
     (bytes : List ℕ) × (input.left ≡ Some bytes) × (length bytes ≤ MAX_CLIP_BYTES) × (clip : ClipView) × (clip_of bytes ≡ Ok clip)
 
--- the bytes of the input are known, they are not too many for a cue sheet, and they are one at the rate of the configuration of
+-- the bytes of the input are known, they are not too many for a cue sheet, and they are a cue sheet at the rate of the configuration of
 -- this path
 abbrev pub IsSheetInput : List ℕ → Outside → Outside → Type 0
 IsSheetInput path before after =
@@ -342,7 +318,7 @@ IsFilmInput path name before after =
     (valid : IsValid before.input)
     × ((setup : ServerSetup) → SetsUp path (Ok setup) before.media after.media → AlwaysHasFilm (film_of setup name) valid.0)
 
--- the input is what the command line takes: a made script takes none
+-- the input is what the command line needs; a generated script needs none
 abbrev pub TakesInput : CommandLine → Outside → Outside → Type 0
 TakesInput (Plain size) before after = IsValid before.input
 TakesInput (Configured shown path digests) before after = IsValid before.input
@@ -351,16 +327,16 @@ TakesInput Converted before after = IsClipInput before.input
 TakesInput (Planned path digests) before after = IsSheetInput path before after
 TakesInput (Recorded path name) before after = IsFilmInput path name before after
 
--- what the input and the words ask for was done, with no fault of a device: only memory could run out
+-- what the command line asks for succeeds, or memory runs out, if it can be set up, its input is valid, and no read or write fails
 abbrev pub SucceedsIfValid : CommandLine → ℕ → Outside → Outside → Type 0
 SucceedsIfValid line status before after =
     CanBeSetUp line before after → TakesInput line before after → (StreamsFail before after → ⊥) → (status ≡ 0) ⊎ (status ≡ 5)
 
--- what `run_main` promises of these words, its exit status, and the outside before and after the call
+-- what `run_main` promises of these words, with its exit status, and what is outside before and after the call
 pub record PlaysScript (words : List (List ℕ)) (status : ℕ) (before after : Outside) : Type 0 where
-  -- status 1 comes exactly if the words are no command line
+  -- the status is 1 exactly if the words are no command line
   pub usage : (status ≡ 1) ↔ (command_line_of words ≡ None)
-  -- no other status comes than those of the table
+  -- the status is one of the table
   pub statuses : status ≤ 5
   -- what was read and written, with each status
   pub run : MatchOption (command_line_of words) (SaysUsage before after) (λ line. RunsCommandLine line status before after)
@@ -368,10 +344,10 @@ pub record PlaysScript (words : List (List ℕ)) (status : ℕ) (before after : 
   pub finished : status ≡ 0 → IfSome (command_line_of words) (λ line. PlaysToEnd line before after)
   -- status 4 comes only if a device failed
   pub device : status ≡ 4 → DeviceFails before after
-  -- the first fault of the configuration and of the clips decides
+  -- the first fault of the configuration and of the clips decides the status
   pub refused : IfSome (command_line_of words) (λ line. MeetsFirstFault line status before after)
-  -- what is valid succeeds
+  -- with valid files and a valid input the status is 0, or 5 if memory runs out
   pub complete : IfSome (command_line_of words) (λ line. SucceedsIfValid line status before after)
-  -- nothing is written to the folder, and but for a fault of it nothing of its state changes
+  -- nothing is written to the folder, and without a failed read of it nothing of its state changes
   pub files : after.media.files ≡ before.media.files
   pub media : status ≢ 4 → after.media ≡ before.media

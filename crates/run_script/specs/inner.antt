@@ -1,12 +1,1 @@
-pub mod Halt
-pub mod Line
-pub mod Clients
-pub mod Player
-pub mod Taken
 pub mod Outcome
-pub mod Ticks
-pub mod Generator
-pub mod Made
-pub mod Reading
-pub mod Planned
-pub mod Recorded

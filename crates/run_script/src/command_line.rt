@@ -6,18 +6,16 @@ ghost use Rattle.run_script.specs.CommandLine.{IsInRange, command_line_of, comma
 ghost use Rattle.run_script.specs.declared.command_line.TheConstants.{MAX_SEED, MAX_WORKERS};
 
 use amcp_text::number_within;
+use made_script::MAX_STEPS;
 use play_types::{Geometry, MAX_SIDE, RecName};
 
 /// The most workers that the words may name.
 const MAX_WORKERS: u32 = 64;
 
-/// The greatest seed of a made script.
+/// The greatest seed of a generated script.
 const MAX_SEED: u64 = u64::MAX;
 
-/// The most steps of a made script.
-pub const MAX_STEPS: u32 = 100_000;
-
-/// What the words of a command line name.
+/// A command line that was read.
 #[derive(Clone, Copy, Debug)]
 pub enum CommandLine<'a> {
     /// One channel of this size, without sound and without clips.
@@ -31,16 +29,16 @@ pub enum CommandLine<'a> {
         /// The number of threads that make the frames, 1 to 64.
         workers: u32,
     },
-    /// A script that is made.
+    /// A generated script.
     Generated {
-        /// Where the generator begins.
+        /// The seed of the generator.
         seed: u64,
         /// The number of steps, 1 to 100,000.
         steps: u32,
     },
     /// A clip that is converted.
     Converted,
-    /// A cue sheet on the channels and the clips of a configuration.
+    /// A cue sheet, played on the channels and the clips of a configuration.
     Planned {
         /// The path of the configuration.
         path: &'a str,
@@ -49,7 +47,7 @@ pub enum CommandLine<'a> {
         /// The number of threads that make the frames, 1 to 64.
         workers: u32,
     },
-    /// A script on the channels and the clips of a configuration, with the status of all channels in place of frames.
+    /// A script on the channels and the clips of a configuration, for which the status of all channels is written in place of frames.
     Reported {
         /// The path of the configuration.
         path: &'a str,
@@ -66,12 +64,12 @@ pub enum CommandLine<'a> {
 }
 
 impl CommandLine<'_> {
-    /// Returns what the words name: `run W H`, each number from 1 to 4,096; or `run --config PATH`, after which
-    /// `--workers N`, a whole number from 1 to 64, and then `--digest` may follow; or `gen SEED N`, a whole number of 64
-    /// bits and one from 1 to 100,000; or `convert`; or `plan --config PATH`, followed by what may follow `run --config PATH`;
-    /// or `osc --config PATH`; or `record --config PATH NAME`, the name of a recording, after which `--workers N` may follow.
+    /// Reads a command line: `run W H`, each number from 1 to 4,096; or `run --config PATH`, after which `--workers N`, a whole number
+    /// from 1 to 64, and then `--digest` may follow; or `gen SEED N`, a whole number of 64 bits and one from 1 to 100,000; or `convert`;
+    /// or `plan --config PATH`, followed by what may follow `run --config PATH`; or `osc --config PATH`; or `record --config PATH NAME`,
+    /// the name of a recording, after which `--workers N` may follow.
     ///
-    /// `None` comes exactly if the words are no command line. Without `--workers` there is one worker.
+    /// Returns `None` exactly if the words are none of these. Without `--workers` there is one worker.
     pub fn read(words: &[String]) -> Option<CommandLine<'_>>
         ensures value { option_map command_line_view result ≡ command_line_of (map string_bytes words.now) }
         ensures range { IfSome result IsInRange }
@@ -89,7 +87,7 @@ impl CommandLine<'_> {
     }
 }
 
-/// Returns what the words after `run` name: a size, or a configuration and how it is played.
+/// Returns the command line of the words after `run`: a size, or a configuration and its options.
 fn run_of(words: &[String]) -> Option<CommandLine<'_>>
     ensures value { option_map command_line_view result ≡ run_of (map string_bytes words.now) }
     ensures range { IfSome result IsInRange }
@@ -110,7 +108,7 @@ fn run_of(words: &[String]) -> Option<CommandLine<'_>>
     }
 }
 
-/// Returns the size that the words `W H` name.
+/// Returns the size of the words `W H`.
 fn size_of(words: &[String]) -> Option<Geometry>
     ensures value { result ≡ size_of (map string_bytes words.now) }
     ensures range { IfSome result (λ size. IsSize size.width size.height 0) }
@@ -129,7 +127,7 @@ fn size_of(words: &[String]) -> Option<Geometry>
     }
 }
 
-/// Returns whether the words that follow a path ask for digests.
+/// Returns whether the words after a path ask for digests, and `None` if they are not valid options.
 fn options_of(words: &[String]) -> Option<bool>
     ensures { result ≡ options_of (map string_bytes words.now) }
 {
@@ -145,7 +143,7 @@ fn options_of(words: &[String]) -> Option<bool>
     }
 }
 
-/// Returns the number of workers that the words after a path name, and 1 if they name none.
+/// Returns the number of workers in the words after a path, and 1 if they have none.
 fn workers_of(words: &[String]) -> u32
     ensures value { result ≡ workers_of (map string_bytes words.now) }
     ensures some { 1 ≤ result }
@@ -162,7 +160,7 @@ fn workers_of(words: &[String]) -> u32
     }
 }
 
-/// Returns whether the last words ask for digests.
+/// Returns whether the last words ask for digests, and `None` if they are anything else.
 fn digests_of(words: &[String]) -> Option<bool>
     ensures { result ≡ digests_of (map string_bytes words.now) }
 {
@@ -173,7 +171,7 @@ fn digests_of(words: &[String]) -> Option<bool>
     }
 }
 
-/// Returns the script that the words after `gen` name.
+/// Returns the command line of the words after `gen`: a seed and a number of steps.
 fn generated_of(words: &[String]) -> Option<CommandLine<'_>>
     ensures value { option_map command_line_view result ≡ generated_of (map string_bytes words.now) }
     ensures range { IfSome result IsInRange }
@@ -188,7 +186,7 @@ fn generated_of(words: &[String]) -> Option<CommandLine<'_>>
     }
 }
 
-/// Returns the number of 64 bits that a word writes, in digits alone.
+/// Returns the number that a word writes in digits alone, or `None` if it is not a number of 64 bits.
 fn seed_of(word: &str) -> Option<u64>
     ensures { result ≡ number_within 0 MAX_SEED word.now }
 {
@@ -198,7 +196,7 @@ fn seed_of(word: &str) -> Option<u64>
     }
 }
 
-/// Returns what the words after `convert` name: there are none.
+/// Returns the command line of the words after `convert`, of which there may be none.
 fn converted_of(words: &[String]) -> Option<CommandLine<'_>>
     ensures value { option_map command_line_view result ≡ converted_of (map string_bytes words.now) }
     ensures range { IfSome result IsInRange }
@@ -206,7 +204,7 @@ fn converted_of(words: &[String]) -> Option<CommandLine<'_>>
     words.is_empty().then_some(CommandLine::Converted)
 }
 
-/// Returns the cue sheet that the words after `plan` name: `--config`, a path and options.
+/// Returns the command line of the words after `plan`: `--config`, a path and options.
 fn planned_of(words: &[String]) -> Option<CommandLine<'_>>
     ensures value { option_map command_line_view result ≡ planned_of (map string_bytes words.now) }
     ensures range { IfSome result IsInRange }
@@ -224,7 +222,7 @@ fn planned_of(words: &[String]) -> Option<CommandLine<'_>>
     }
 }
 
-/// Returns the script that the words after `osc` name: `--config` and a path.
+/// Returns the command line of the words after `osc`: `--config` and a path.
 fn reported_of(words: &[String]) -> Option<CommandLine<'_>>
     ensures value { option_map command_line_view result ≡ reported_of (map string_bytes words.now) }
     ensures range { IfSome result IsInRange }
@@ -237,7 +235,7 @@ fn reported_of(words: &[String]) -> Option<CommandLine<'_>>
     }
 }
 
-/// Returns the film that the words after `record` name: `--config`, a path and the name of a recording, after which `--workers N` may
+/// Returns the command line of the words after `record`: `--config`, a path and the name of a recording, after which `--workers N` may
 /// follow.
 fn recorded_of(words: &[String]) -> Option<CommandLine<'_>>
     ensures value { option_map command_line_view result ≡ recorded_of (map string_bytes words.now) }
@@ -257,7 +255,7 @@ fn recorded_of(words: &[String]) -> Option<CommandLine<'_>>
     }
 }
 
-/// Returns the number of workers that the last words name, and 1 if there are none.
+/// Returns the number of workers in the last words, 1 if there are no words, and `None` if they are anything but `--workers N`.
 fn last_workers(words: &[String]) -> Option<u32>
     ensures value { result ≡ last_workers (map string_bytes words.now) }
     ensures some { IfSome result (λ count. 1 ≤ count) }

@@ -1,17 +1,18 @@
-//! A clip that is read and written with straight alpha.
+//! The conversion of a clip to one with straight alpha.
 ghost use Rattle.run_script.specs.Converting.{Converts};
-ghost use Rattle.run_script.specs.Ending.{fault_in};
+ghost use Rattle.script_player.specs.Ending.{fault_in};
 
-use crate::reading::read_all;
 use clip_format::{decode, encode, straight_clip};
 use play_outside::{Sent, Sink, Source};
+use script_player::read_all;
 use server_setup::RunFault;
 use std::alloc::Global;
 
-/// The most bytes that a clip may have that is converted.
+/// The most bytes of a clip that is converted.
 const MAX_CLIP_BYTES: usize = 1_073_741_824;
 
-/// Reads a clip to the end of the input, and writes it as one of version 2, which shows the same.
+/// Reads a clip to the end of the input, and writes it as a clip of version 2, which has straight alpha and shows the same pictures.
+/// Bytes that are too many, or no clip, are refused, and nothing is written then.
 pub fn convert<I: Source, K: Sink>(
     alloc: Global,
     input: &mut I,

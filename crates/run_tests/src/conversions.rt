@@ -7,7 +7,7 @@ use std::test::Fail;
 
 /// Conversions: the input, the exit status and the output.
 const CONVERSIONS: [(&[u8], u8, &[u8]); 9] = [
-    // Half of an alpha and a quarter of red.
+    // A quarter of red at half alpha.
     (
         b"RCLP\0\x01\0\0\0\x01\0\x01\0\0\0\x01\0\0\0\0\0\0\x40\x80",
         0,
@@ -19,7 +19,7 @@ const CONVERSIONS: [(&[u8], u8, &[u8]); 9] = [
         0,
         b"RCLP\0\x02\0\0\0\x01\0\x01\0\0\0\x01\0\0\0\0\0\0\xff\x80",
     ),
-    // A clip of version 2 stays as it is, also if a colour is above its alpha.
+    // A clip of version 2 stays as it is, even if a colour is above its alpha.
     (
         b"RCLP\0\x02\0\0\0\x01\0\x01\0\0\0\x01\0\0\0\0\0\0\xff\x80",
         0,

@@ -1,4 +1,4 @@
-//! Made scripts: their summary is that of the script, which is written out here, as a script that is run.
+//! Generated scripts: the summary of `gen` is that of a run of its script, which is written out here.
 
 use crate::scripts::words_of;
 use play_outside::{MemConfig, MemMedia, MemSink, MemSource};
@@ -8,7 +8,7 @@ use std::alloc::Global;
 use std::test::Fail;
 use std::thread::Threads;
 
-/// What a made script is played on.
+/// The configuration that a generated script is played on.
 const CONFIG: &str =
     "listen='l'\nmedia='m'\nrate=25\nchannel=[{width=64,height=36,pairs=4,output='o'},{width=64,height=36,pairs=4,output='o'}]";
 
@@ -28,7 +28,7 @@ T
 T
 ";
 
-/// Returns what a run writes that reads this input.
+/// Returns the exit status and the output of a run with this input.
 fn written<R: Threads + Sync>(
     rt: &R,
     alloc: Global,

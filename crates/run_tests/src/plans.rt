@@ -1,5 +1,5 @@
-//! Cue sheets that are played, and what is told of those that are refused. The outputs were worked out by hand, and the digests
-//! are those of `sha256sum`.
+//! Cue sheets that are played, and the reports on those that are refused. The outputs were worked out by hand, and the digests are
+//! those of `sha256sum`.
 
 use crate::scripts::words_of;
 use crate::tellers::{MemTeller, Told};
@@ -13,7 +13,7 @@ use std::thread::Threads;
 /// One channel of one pixel, at 25 frames a second.
 const CONFIG: &str = "listen='l'\nmedia='m'\nrate=25\nchannel=[{width=1,height=1,output='o'}]";
 
-/// A cue sheet that is played, and what has to come of it.
+/// A cue sheet that is played, with the status and the output that it must have.
 #[derive(Clone, Copy)]
 struct Plan {
     /// The words of the command line, with a space between them.
@@ -25,7 +25,7 @@ struct Plan {
 
 /// The cue sheets that are played.
 const PLANS: [Plan; 8] = [
-    // The lines come by their moments, whatever their order.
+    // The lines are played at their times, whatever their order in the sheet.
     Plan {
         words: "plan --config one",
         sheet: "AT 00:00:00:02 1.1 PLAY 1-0 BLUE\nAT 0 1.1 PLAY 1-0 RED\nAFTER 1 2.1 MIXER 1-0 OPACITY 0.5\nEND 3\n",
@@ -80,7 +80,7 @@ const PLANS: [Plan; 8] = [
     },
 ];
 
-/// Cue sheets that are refused: the sheet, the output and what is told. Nothing of them is played.
+/// Cue sheets that are refused: the sheet, the output and the report. Nothing of them is played.
 const REFUSED: [(&str, &str, Told); 17] = [
     (
         "AT 1 EVERY 2 TIMES 2 1.1 VERSION\nEND 2",
@@ -158,7 +158,7 @@ const REFUSED: [(&str, &str, Told); 17] = [
         "E plan 1\n",
         Told::FaultyCue(1, LineFault::Beginning),
     ),
-    // A faulty line comes before the end that is missing.
+    // A faulty line is reported before a missing END.
     (
         "AT 0 1.1 INFO\nT 3",
         "E plan 2\n",

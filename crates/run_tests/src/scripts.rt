@@ -146,7 +146,7 @@ impl Source for WatchedSource {
     }
 }
 
-/// A sink in memory that tells how many bytes it has taken.
+/// A sink in memory that stores how many bytes it has taken where the source sees it.
 #[derive(Drop)]
 struct WatchedSink {
     inner: MemSink,
@@ -163,7 +163,7 @@ impl Sink for WatchedSink {
     }
 }
 
-/// Whoever writes a script line by line, and waits for what is written for each line, never waits for ever: before each read the
+/// A client that writes a script line by line, and waits for the output of each line, never waits for ever: before each read the
 /// output of all lines that were read is written.
 #[test]
 fn output_is_written_before_the_next_read(rt: HostRuntime) -> Result<(), Fail> {

@@ -1,4 +1,4 @@
-//! Cue sheets, if memory is ample.
+//! Cue sheets, with ample memory.
 
 use play_schedule::{Sheet, SheetFault, SheetStep, read_sheet};
 use play_types::Tag;

@@ -1,4 +1,4 @@
-//! A teller in memory, and what it is told of lines that are refused.
+//! A teller in memory, and the reports that it gets on refused lines.
 
 use crate::scripts::words_of;
 use play_outside::{MemMedia, MemSink, MemSource};
@@ -6,7 +6,7 @@ use play_schedule::LineFault;
 use run_script::{Teller, run_and_tell};
 use std::test::Fail;
 
-/// What is told of a run.
+/// A report on a run.
 #[derive(Clone, Copy, Debug, PartialEq, Eq)]
 pub enum Told {
     RefusedWord(u64, usize),
@@ -14,7 +14,7 @@ pub enum Told {
     NoEnd,
 }
 
-/// A teller that keeps what it is told, and the texts of lines that were refused, each ended by LF.
+/// A teller that keeps its reports, and the texts of lines that were refused, each ended by LF.
 #[derive(Drop)]
 pub struct MemTeller {
     pub listens: bool,
@@ -42,7 +42,7 @@ impl Teller for MemTeller {
     }
 }
 
-/// A script with lines that are refused, for a word and for something else. The last line has no end, and is in a batch.
+/// A script with lines that are refused, for a word and for something else. The last line has no line end, and is in a batch.
 const SCRIPT: &[u8] = b"1.1 PAUSE 1-x
 # a comment
 1.1 STOP 1 2\r
@@ -53,7 +53,7 @@ T
 1.1 INFO
 1.1 PAUSE 1-x";
 
-/// What this script writes.
+/// The output of this script.
 const OUTPUT: &str = "1.1 403 PAUSE ERROR
 1.1 403 STOP ERROR
 2.1 RES d 403 PAUSE ERROR

@@ -107,7 +107,7 @@ fn folder(alloc: Global) -> Result<MemMedia, Fail> {
     Ok(MemMedia::new(configs, files, Vec::new(alloc)))
 }
 
-/// Fails unless the run of this script ends with this status, and has written this.
+/// Fails unless the run of this script ends with this status and this output.
 fn gives<R: Abort + Threads + Sync>(
     rt: &R,
     alloc: Global,
@@ -167,7 +167,7 @@ fn the_65th_layer_is_refused(rt: HostRuntime) -> Result<(), Fail> {
     gives(&rt, alloc, "run 1 1", script.as_str(), 0, replies.as_str())
 }
 
-/// A line of 4,096 bytes is one, and a longer one is answered without it.
+/// The reply to an unknown line of 4,096 bytes repeats it, and the reply to a longer one does not.
 #[test]
 fn lines_have_4096_bytes(rt: HostRuntime) -> Result<(), Fail> {
     let alloc = rt.alloc();
@@ -183,7 +183,7 @@ fn lines_have_4096_bytes(rt: HostRuntime) -> Result<(), Fail> {
 }
 
 /// Runs whose devices fail: the numbers of the reads and of the writes that fail, counted from 1, and the output. The second write
-/// of a run that failed is that of the line of the fault.
+/// of a run that failed writes the error line.
 const FAULTS: [(&[u64], &[u64], &str); 3] = [
     (&[1], &[], "E device\n"),
     (&[], &[1], "E device\n"),

@@ -13,7 +13,7 @@ whole (Done ∷ []) [] p q = refl
 whole (Done ∷ []) (y ∷ ys) p q = absurd cc
 whole (Done ∷ x ∷ xs) known p q = absurd cc
 
--- so it is for what was taken of what was sent
+-- if the end mark was sent and taken, all that was sent was taken
 pub all_taken : (taken known sent : List Taken) → taken ++ known ≡ sent → IsClosed taken → IsClosed sent → taken ≡ sent
 all_taken taken known sent e p q = whole taken known p (subst IsClosed (sym e) q) ∙ e
 

@@ -1,4 +1,4 @@
--- How many sets came back before the news of a failed output.
+-- How many sets came back before the report of a failed output.
 use Rattle.std.proofs.Common.{◌≡◌, ◌==◌, ℕ, ◌+◌, ◌≤◌, true, false, List, [], ◌∷◌, ◌++◌, length, All, inl, inr, refl, arith, sym, ap, ◌∙◌}
 use Rattle.std.specs.List.{list_any}
 use Rattle.std.proofs.lemmas.Bool.{cases_Bool}
@@ -19,12 +19,12 @@ free_append channels (x ∷ xs) ys = elim (cases_Bool (is_room channels x)) [
   | inr none ↦ rw none (free_append channels xs ys)
 ]
 
--- the news is no free set
+-- a report is no free set
 news_counts_none : (channels : ℕ) (item : Returned) → is_news channels item ≡ true → free_count channels (item ∷ []) ≡ 0
 news_counts_none channels (Free scenes) news = absurd cc
 news_counts_none channels (Broken channel scenes) news = refl
 
--- items that fit and are no news are free, so there are no more of them than before the news
+-- items that fit and are no report are free, so there are no more of them than before the first report
 few_free : (channels : ℕ) (xs known : List Returned) → All (λ item. fits_returned channels item ≡ true) xs → list_any (is_news channels) xs ≡ false
     → free_count channels xs ≤ free_before_news (xs ++ known)
 few_free channels [] known fit none = omega arith
@@ -35,7 +35,7 @@ few_free channels (Broken channel scenes ∷ xs) known fit none =
     let first : (length scenes == channels) ≡ true = All-head (λ (item : Returned). fits_returned channels item ≡ true) (Broken channel scenes) xs fit in
     absurd (cc (rw first at none))
 
--- of what came back up to the news, the free sets were given back before it
+-- of what came back up to the first report, the free sets were given back before it
 pub few_returned : (channels : ℕ) (returned given : List Returned) → IsPrefix returned given
     → All (λ item. fits_returned channels item ≡ true) returned → StopsAtNews channels returned → free_count channels returned ≤ free_before_news given
 few_returned channels returned given p fit (inl none) = rw (sym p.1) (few_free channels returned p.0 fit none)

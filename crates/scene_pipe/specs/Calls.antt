@@ -1,4 +1,4 @@
--- What the calls of the two ends hand out, and what they leave.
+-- What the calls of the two ends return, and what they change.
 use Rattle.std.specs.Prelude.{◌≡◌, ℕ, ◌+◌, ◌⊎◌, List, [], ◌∷◌, ◌++◌, length, replicate}
 use Rattle.play_types.specs.declared.drawn.Drawn.{Drawn}
 use Rattle.scene_pipe.specs.declared.item.Taken.{Taken}
@@ -15,7 +15,7 @@ pub record AreEnds (stage : StageView) (write : WriteView) : Type 0 where
   pub pipe : stage.pipe ≡ write.pipe
   pub channels : stage.channels ≡ write.channels
 
--- the two ends of a new pipe for this number of channels: four scenes without layers are held, nothing was sent, and each ring has
+-- the two ends of a new pipe for this number of channels: four sets of scenes without layers are held, nothing was sent, and each ring has
 -- room for these four and the end mark
 pub record AreNewEnds (channels : ℕ) (stage : StageView) (write : WriteView) : Type 0 where
   pub pipe : stage.pipe ≡ write.pipe
@@ -41,14 +41,14 @@ pub record GivesHeld (result : Room) (old new : StageView) : Type 0 where
   pub held : old.held ≡ new.held ++ scenes ∷ []
   pub after : new ≡ record old { held = new.held }
 
--- none are held, and what came back next is handed out
+-- no scenes are held, and what came back next is handed out
 pub record GivesReturned (result : Room) (old new : StageView) : Type 0 where
   pub none : old.held ≡ []
   pub item : Returned
   pub says : result ≡ room_of item
   pub gets : GetsReturned item old new
 
--- held scenes first, and otherwise what came back
+-- held scenes are handed out first, and otherwise what came back
 abbrev pub GivesRoom : Room → StageView → StageView → Type 0
 GivesRoom result old new = GivesHeld result old new ⊎ GivesReturned result old new
 

@@ -17,7 +17,7 @@ abbrev pub fits_returned : ℕ → Returned → Bool
 fits_returned channels (Free scenes) = length scenes == channels
 fits_returned channels (Broken channel scenes) = length scenes == channels
 
--- what an item that came back is to the staging side: scenes to fill, or the news of a failed output
+-- what the staging side gets from an item that came back: scenes to fill, or the report of a failed output
 abbrev pub room_of : Returned → Room
 room_of (Free scenes) = room.Free scenes
 room_of (Broken channel scenes) = room.Broken channel

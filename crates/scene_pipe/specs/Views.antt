@@ -1,4 +1,4 @@
--- What contracts see of the two ends of a pipe.
+-- The two ends of a pipe in contracts.
 use Rattle.std.specs.Prelude.{ℕ, List}
 use Rattle.std.specs.Global.{Global}
 use denote.RawPtr.{Ptr}
@@ -9,14 +9,14 @@ use Rattle.play_types.specs.declared.drawn.Drawn.{Drawn}
 use Rattle.scene_pipe.specs.declared.item.Taken.{Taken}
 use Rattle.scene_pipe.specs.declared.item.Returned.{Returned}
 
--- which ring it is
+-- the identity of a ring
 pub record RingId : Type 0 where
   pub words : Ptr
   pub slots : Ptr
   pub names : Names
   pub heap : Global
 
--- the items for which a ring has room
+-- the number of items that a ring has room for
 abbrev pub slots_of : RingId → ℕ
 slots_of ring = ring.names.0
 

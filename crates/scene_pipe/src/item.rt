@@ -8,7 +8,7 @@ use play_types::Scenes;
 /// What the staging side sends: the scenes of a tick, or the end mark, after which nothing comes.
 #[derive(Debug, Drop)]
 pub enum Taken {
-    /// The scenes of the tick of this number, from 1.
+    /// The scenes of the tick with this number, counted from 1.
     Staged { tick: u64, scenes: Scenes },
     /// The end mark.
     Done,
@@ -19,16 +19,16 @@ pub enum Taken {
 pub enum Returned {
     /// Scenes that are free.
     Free { scenes: Scenes },
-    /// The news that the output of this channel has failed, with scenes that are free.
+    /// The report that the output of this channel failed, with scenes that are free.
     Broken { channel: u8, scenes: Scenes },
 }
 
-/// What the staging side gets where it asks for room.
+/// What the staging side gets when it asks for room.
 #[derive(Debug, Drop)]
 pub enum Room {
     /// Scenes to fill.
     Free(Scenes),
-    /// The news that the output of this channel has failed.
+    /// The report that the output of this channel failed.
     Broken { channel: u8 },
 }
 
@@ -60,7 +60,7 @@ impl Item for Returned {
 }
 
 impl Returned {
-    /// Returns what the item is to the staging side.
+    /// Returns what the staging side gets from the item: scenes to fill, or the report that an output failed.
     pub(crate) fn into_room(self) -> Room
         ensures { result ≡ room_of self }
     {

@@ -5,8 +5,8 @@ ghost use Rattle.scene_pipe.specs.declared.item.Returned.{Returned};
 ghost use Rattle.scene_pipe.specs.Items.{fits_returned};
 ghost use Rattle.scene_pipe.specs.Counts.{StopsAtNews, free_before_news, free_count};
 
-/// If the staging side asked for no more room after the news of a failed output, it got no more free scenes than were given back before
-/// the news.
+/// If the staging side asked for no more room after the report of a failed output, it got no more free scenes than were given back before
+/// the report.
 pub fn free_scenes_before_the_news()
     ensures { (channels : ℕ) (returned given : List Returned) → IsPrefix returned given
         → All (λ item. fits_returned channels item ≡ true) returned → StopsAtNews channels returned

@@ -11,13 +11,13 @@ use rtrb::RingBuffer;
 use std::alloc::{AllocError, Global};
 use std::marker::Model;
 
-/// The sets of scenes of a pipe.
+/// The number of sets of scenes of a pipe.
 pub const SETS: usize = 4;
 
-/// The items for which a ring has room: each set of scenes, and the end mark.
+/// The number of items that a ring has room for: each set of scenes, and the end mark.
 const RING_ITEMS: usize = SETS + 1;
 
-/// Two rings with their ends. Contracts see a pipe as the number of channels that its scenes are for.
+/// Two rings with their ends. In contracts, a pipe is the number of channels that its scenes are for.
 #[derive(Drop)]
 pub struct ScenePipe {
     stage: StageEnd,
@@ -36,7 +36,7 @@ impl Model for ScenePipe {
 }
 
 impl ScenePipe {
-    /// Takes all memory of a pipe: its rings, and four scenes for the channels of a configuration.
+    /// Allocates a pipe: its rings, and four sets of scenes for the channels of a configuration.
     pub fn new(alloc: Global, config: &Config) -> Result<ScenePipe, AllocError>
         ensures { IfOk result (λ pipe. pipe ≡ length config.now.channels) }
     {
@@ -62,7 +62,7 @@ impl ScenePipe {
         })
     }
 
-    /// Returns both ends. The four scenes are in the end that stages.
+    /// Returns both ends. The end that stages holds the four sets of scenes.
     pub fn split(self) -> (StageEnd, WriteEnd)
         ensures { AreNewEnds self result.0 result.1 }
     {
@@ -70,7 +70,7 @@ impl ScenePipe {
     }
 }
 
-/// Returns the scenes of a pipe, without layers.
+/// Creates the sets of scenes of a pipe, without layers.
 fn sets(alloc: Global, config: &Config) -> Result<Vec<Scenes>, AllocError>
     ensures { IfOk result (λ sets. sets.items ≡ replicate SETS (replicate (length config.now.channels) [])) }
 {

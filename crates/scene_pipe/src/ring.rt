@@ -7,7 +7,7 @@ use crate::sleep::Sleep;
 use rtrb::{Consumer, Producer, PushError};
 use std::sync::Wait;
 
-/// What goes through a ring of a pipe.
+/// An item that goes through a ring of a pipe.
 pub(crate) trait Item {
     /// Whether the item is for a pipe of this number of channels.
     ghost is_for: { ℕ → Self → Bool };
@@ -51,7 +51,7 @@ pub(crate) fn pop_waiting<R: Wait, T>(rt: &R, sleep: &Sleep, ring: &mut Consumer
     unreachable!()
 }
 
-/// Pops until an item is of this number of channels, and returns it. Others are passed over.
+/// Pops until an item is for this number of channels, and returns it. Other items are dropped.
 pub(crate) fn next_fitting<R: Wait, T: Item + Drop>(
     rt: &R,
     sleep: &Sleep,

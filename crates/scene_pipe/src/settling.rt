@@ -7,10 +7,10 @@ ghost use Rattle.scene_pipe.specs.Calls.{AreEnds};
 use crate::stage_end::StageEnd;
 use crate::write_end::WriteEnd;
 
-/// Compares the lists of both ends of a pipe, of which the end mark was sent and taken. It changes none of them.
+/// Compares the lists of both ends of a pipe whose end mark was sent and taken. It changes none of them.
 ///
-/// What was taken is what was sent, and what came back is a prefix of what was given back. All of it was of the pipe's number of
-/// channels, so that no item was passed over.
+/// What was taken is what was sent, and what came back is a prefix of what was given back. All items were for the number of
+/// channels of the pipe, so none was passed over.
 pub fn settle(stage: &mut StageEnd, write: &mut WriteEnd)
     requires ends { AreEnds stage.old write.old }
     requires finished { IsClosed stage.old.sent }

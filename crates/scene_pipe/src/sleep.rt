@@ -1,10 +1,10 @@
-//! Sleep of one side until the other has done something.
+//! The sleep of one side until the other wakes it.
 
 use std::alloc::{AllocError, Global};
 use std::sync::{Arc, Wait};
 use std::thread::Parker;
 
-/// Where one side sleeps, and how it wakes the other.
+/// The parker on which one side sleeps, and that of the other side, which it wakes.
 #[derive(Drop)]
 pub(crate) struct Sleep {
     own: Arc<Parker, Global>,
@@ -12,7 +12,7 @@ pub(crate) struct Sleep {
 }
 
 impl Sleep {
-    /// Returns that of both sides.
+    /// Creates the sleeps of both sides.
     pub(crate) fn pair(alloc: Global) -> Result<(Sleep, Sleep), AllocError> {
         let first = Arc::new(alloc, Parker::new())?;
         let second = Arc::new(alloc, Parker::new())?;
@@ -27,7 +27,7 @@ impl Sleep {
         Ok((one, other))
     }
 
-    /// Sleeps until the other side calls [`Sleep::wake_other`], or has called it since this side last slept.
+    /// Sleeps until the other side calls [`Sleep::wake_other`]. Returns at once if it was called since this side last slept.
     pub(crate) fn sleep<R: Wait>(&self, rt: &R) {
         self.own.park(rt);
     }

@@ -41,8 +41,8 @@ impl Model for StageEnd {
 }
 
 impl StageEnd {
-    /// Returns scenes to fill: held ones first, and otherwise those of the next item that came back, or its news that an output has
-    /// failed. It waits for an item. Items whose scenes are of another number of channels than the pipe are passed over.
+    /// Returns scenes to fill: held ones first, and otherwise those of the next item that comes back, or its report that an output
+    /// failed. If none are held, it waits for an item. Items whose scenes have another number of channels than the pipe are dropped.
     pub fn room<R: Wait>(&mut self, rt: &R) -> Room
         ensures { GivesRoom result self.old self.new }
     {

@@ -39,8 +39,8 @@ impl Model for WriteEnd {
 }
 
 impl WriteEnd {
-    /// Waits for the next item that was sent, and returns it. Items whose scenes are of another number of channels than the pipe are
-    /// passed over.
+    /// Waits for the next item that was sent, and returns it. Items whose scenes have another number of channels than the pipe are
+    /// dropped.
     pub fn take<R: Wait>(&mut self, rt: &R) -> Taken
         ensures { GetsTaken result self.old self.new }
     {
@@ -55,7 +55,7 @@ impl WriteEnd {
         push_waiting(rt, &self.sleep, &mut self.back, Returned::Free { scenes });
     }
 
-    /// Sends scenes back, once there is a slot for them, with the news that the output of a channel has failed.
+    /// Sends scenes back, once there is a slot for them, with the report that the output of a channel failed.
     pub fn broken<R: Wait>(&mut self, rt: &R, channel: u8, scenes: Scenes)
         requires { length scenes ≡ self.old.channels }
         ensures { self.new ≡ record self.old { given = self.old.given ++ Broken channel scenes ∷ [] } }

@@ -1,4 +1,4 @@
--- The first fault of files, and what setting up gives.
+-- The first fault of the files, and the result of a set-up.
 use Rattle.std.proofs.Common.{◌≡◌, ℕ, List, sym, ap, ◌∙◌, subst}
 use Rattle.std.specs.Prelude.{Option, Some, None, Result, Ok, Err}
 use Rattle.std.specs.Str.{encode_utf8_all}
@@ -15,7 +15,7 @@ use Rattle.server_setup.specs.declared.fault.RunFault.{RunFault}
 use Rattle.server_setup.specs.declared.fault.RunFault.TheVariants.{Usage, ConfigText, ConfigKey, BadLine, InputTooLong, Plan, PlanEnd, Record, Clip, MediaTwice, MediaTotal, Device, OutOfMemory}
 use Rattle.server_setup.specs.Setup.{HoldsSome, SetsUp, TellsFirst, fault_of_clips, fault_of_files, fault_of_held, fault_of_text}
 
--- what is held at the path, if something such is held
+-- the bytes at the path, if bytes that satisfy `IsSuch` are held there
 held_such : (IsSuch : List ℕ → Type 0) (path : List ℕ) (before : FolderState) (files : Files) → before.files ≡ Some files
     → HoldsSome IsSuch path before → (bytes : List ℕ) × (config_at path files ≡ Some bytes) × IsSuch bytes
 held_such IsSuch path before files known holds =
@@ -34,7 +34,7 @@ fault_by_clips path before files config answer known holds tells =
     ∙ ap (fault_of_text files) held.2
     ∙ ap fault_of_clips (sym is)
 
--- what setting up gives tells the first fault
+-- the result of a set-up agrees with the first fault
 pub told_first : (path : List ℕ) (result : Result ServerSetup RunFault) (before after : FolderState) (files : Files) → before.files ≡ Some files
     → SetsUp path result before after → TellsFirst result (fault_of_files path files)
 unfolding fault_of_files

@@ -1,4 +1,4 @@
--- Setting up, and what a call leaves as it was.
+-- Setting up, and what a call leaves unchanged.
 use Rattle.std.proofs.Common.{◌≡◌, ◌≢◌, ℕ, List, refl, sym, ap, ◌∙◌, subst}
 use Rattle.std.specs.Prelude.{Some, Result, Ok, Err}
 use Rattle.std.specs.Result.{IsErrAnd}
@@ -19,7 +19,7 @@ use Rattle.server_setup.specs.Fault.{fault_of_config, fault_of_file, fault_of_sc
 use Rattle.server_setup.specs.Setup.{Scans, SetsUp}
 use Rattle.server_setup.specs.inner.Reading.{ReadsMedia}
 
--- a folder that gave no table
+-- a folder whose clips did not become a table
 pub shows_fault : (config : ConfigView) (fault : ScanFault) (before after : FolderState) → Scans config (Err fault) before after → ReadsMedia config (Err (fault_of_scan fault)) before after
 shows_fault config scan.ReadFault before after scans = scans
 shows_fault config (scan.TwoNames name) before after scans = scans
@@ -99,7 +99,7 @@ files_kept path (Err PlanEnd) before after sets = absurd sets
 files_kept path (Err (Record name)) before after sets = absurd sets
 files_kept path (Err (Clip fault)) before after sets = absurd sets
 
--- the fault of a folder that gave no table, handed on
+-- the fault of a folder whose clips did not become a table, passed on
 pub handed_on : (config : ConfigView) (fault : ScanFault) (result : Result ServerSetup RunFault) (before after : FolderState) → Scans config (Err fault) before after
     → IsErrAnd result (λ e. e ≡ fault_of_scan fault) → ReadsMedia config result before after
 handed_on config fault (Ok setup) before after scans handed = absurd handed

@@ -1,4 +1,4 @@
--- The exit status and the line of each fault of a run, and what the faults of files and clips are in a run.
+-- The exit status and the line of each fault of a run, and which faults of a run the faults of files, configurations and clips are.
 use Rattle.std.specs.Prelude.{ℕ, List, [], ◌∷◌, ◌++◌, codes, decimal}
 use Rattle.std.specs.Str.{encode_utf8_all}
 use Rattle.play_outside.specs.declared.folder.FileFault.{FileFault}
@@ -31,7 +31,7 @@ clip_line (clip.Short needed had) = codes "E clip short " ++ decimal needed ++ 3
 clip_line (clip.Long extra) = codes "E clip long " ++ decimal extra ++ 10 ∷ []
 clip_line clip.OutOfMemory = codes "E memory\n"
 
--- this line has a number
+-- the line of a refused clip has a number
 abbrev pub HasNumber : ClipFault → Type 0
 HasNumber clip.BadMagic = ⊥
 HasNumber clip.BadVersion = ⊥
@@ -40,7 +40,7 @@ HasNumber (clip.Short needed had) = Unit {0}
 HasNumber (clip.Long extra) = Unit {0}
 HasNumber clip.OutOfMemory = ⊥
 
--- the exit status
+-- the exit status of a fault
 abbrev pub status_of : RunFault → ℕ
 status_of Usage = 1
 status_of ConfigText = 2
@@ -56,7 +56,7 @@ status_of (MediaTotal total) = 3
 status_of Device = 4
 status_of OutOfMemory = 5
 
--- the line that says what went wrong, its names by their characters
+-- the line of a fault, with its names in UTF-8
 abbrev pub fault_line : RunFault → List ℕ
 fault_line Usage = codes "E usage\n"
 fault_line ConfigText = codes "E config text\n"
@@ -72,7 +72,7 @@ fault_line (MediaTotal total) = codes "E media total " ++ decimal total ++ 10 �
 fault_line Device = codes "E device\n"
 fault_line OutOfMemory = codes "E memory\n"
 
--- the line has a name or a number
+-- the line of a fault has a name or a number
 abbrev pub HasDetail : RunFault → Type 0
 HasDetail Usage = ⊥
 HasDetail ConfigText = ⊥
@@ -108,7 +108,7 @@ fault_of_clip (clip.Short needed had) = Clip (clip.Short needed had)
 fault_of_clip (clip.Long extra) = Clip (clip.Long extra)
 fault_of_clip clip.OutOfMemory = OutOfMemory
 
--- the fault of a run whose clips gave no table
+-- the fault of a run whose clips did not become a table
 abbrev pub fault_of_scan : ScanFault → RunFault
 fault_of_scan scan.ReadFault = Device
 fault_of_scan (scan.TwoNames name) = MediaTwice name

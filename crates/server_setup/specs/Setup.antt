@@ -15,21 +15,21 @@ use Rattle.server_setup.specs.declared.fault.RunFault.TheVariants.{Usage, Config
 use Rattle.server_setup.specs.declared.setup.ServerSetup.{ServerSetup}
 use Rattle.server_setup.specs.Fault.{fault_of_scan}
 
--- the bytes that are held at the path, if the folder says what it holds, are such bytes
+-- the folder holds, at the path of a configuration, bytes that satisfy `IsSuch`; if its contents are not known, some bytes satisfy it
 abbrev pub HoldsSome : (List ℕ → Type 0) → List ℕ → FolderState → Type 0
 HoldsSome IsSuch path state = (bytes : List ℕ) × IsHeld (config_at path) bytes state.files × IsSuch bytes
 
--- the folder of a configuration gives this result when its clips are read
+-- `result` is the result of reading the clips of the configuration's folder
 abbrev pub Scans : ConfigView → Result (List Entry) ScanFault → FolderState → FolderState → Type 0
 Scans config result before after = Answers (scanned (encode_utf8_all config.media)) result before after
 
--- a configuration was accepted, and its clips were refused
+-- the configuration was accepted, and its clips were refused with this fault
 abbrev pub RefusesClips : List ℕ → ScanFault → FolderState → FolderState → Type 0
 RefusesClips path fault before after =
     (config : ConfigView) × HoldsSome (λ bytes. config_in bytes ≡ Some (Ok config)) path before × Scans config (Err fault) before after
 
--- the result is that of the configuration and of its clips, and nothing changed; or reading failed, and the count of
--- faults rose; or memory ran out
+-- the result follows from the configuration and its clips, and nothing changed; or a read failed, and the count of faults rose; or memory
+-- ran out, and nothing changed; no other fault comes
 abbrev pub SetsUp : List ℕ → Result ServerSetup RunFault → FolderState → FolderState → Type 0
 SetsUp path (Ok setup) before after =
     HoldsSome (λ bytes. config_in bytes ≡ Some (Ok setup.config)) path before
@@ -49,12 +49,12 @@ SetsUp path (Err PlanEnd) before after = ⊥
 SetsUp path (Err (Record name)) before after = ⊥
 SetsUp path (Err (Clip fault)) before after = ⊥
 
--- the fault of clips that give no table
+-- the fault of clips that do not become a table
 abbrev pub fault_of_clips : Result (List Entry) ScanFault → Option RunFault
 fault_of_clips (Ok table) = None
 fault_of_clips (Err fault) = Some (fault_of_scan fault)
 
--- the first fault of what a text says as a configuration, and of the clips of its folder
+-- the first fault, from the result of `config_in` for the text of a configuration, and from the clips of its folder
 abbrev pub fault_of_text : Files → Option (Result ConfigView (List ℕ)) → Option RunFault
 fault_of_text files None = Some ConfigText
 fault_of_text files (Some (Err key)) = Some (ConfigKey key)
@@ -65,12 +65,12 @@ abbrev pub fault_of_held : Files → Option (List ℕ) → Option RunFault
 fault_of_held files None = Some Device
 fault_of_held files (Some bytes) = fault_of_text files (config_in bytes)
 
--- the first fault of files whose configuration has this path, none if a server can be set up from them
+-- the first fault of the files for a configuration at this path; `None` if a server can be set up from them
 unfoldable pub fault_of_files : List ℕ → Files → Option RunFault
 fault_of_files path files = fault_of_held files (config_at path files)
 
--- a result tells the first fault of the files: if a server was set up there is none, and a refusal has it. A read that failed and
--- memory that ran out tell nothing of it
+-- the result agrees with the first fault of the files: after a set-up there is none, and a refusal is that fault; a failed read and lack of
+-- memory say nothing about it, and no other fault comes
 abbrev pub TellsFirst : Result ServerSetup RunFault → Option RunFault → Type 0
 TellsFirst (Ok setup) first = first ≡ None
 TellsFirst (Err ConfigText) first = first ≡ Some ConfigText

@@ -1,4 +1,4 @@
-//! What the line of a run says if its input is no clip.
+//! The line of a run whose input is no clip.
 ghost use Rattle.std.specs.Prelude.{◌≡◌, ◌∷◌, ◌++◌, [], MatchOption};
 ghost use Rattle.server_setup.specs.Fault.{HasNumber, clip_line, clip_status};
 ghost use Rattle.server_setup.specs.inner.Detail.{first_number, second_number};
@@ -30,7 +30,7 @@ pub(crate) fn short(fault: ClipFault) -> Option<&'static str>
     }
 }
 
-/// Returns what stands in the line before its numbers: all of it if it has none.
+/// Returns the line up to its numbers: all of it, without its line feed, if it has none.
 pub(crate) fn label(fault: ClipFault) -> &'static str
     ensures { result.now ++ first_number fault ++ second_number fault ++ 10 ∷ [] ≡ clip_line fault }
 {
@@ -44,7 +44,7 @@ pub(crate) fn label(fault: ClipFault) -> &'static str
     }
 }
 
-/// Returns the first number of the line, and nothing if it has none. `digits` is room for it.
+/// Returns the first number of the line, or nothing if it has none. The number is written into `digits`.
 pub(crate) fn first_number<'a>(fault: ClipFault, digits: &'a mut Buffer) -> &'a str
     ensures { result.now ≡ first_number fault }
 {
@@ -56,7 +56,7 @@ pub(crate) fn first_number<'a>(fault: ClipFault, digits: &'a mut Buffer) -> &'a 
     }
 }
 
-/// Returns the second number of the line, if it has one. `digits` is room for it.
+/// Returns the second number of the line, if it has one. The number is written into `digits`.
 pub(crate) fn second_number<'a>(fault: ClipFault, digits: &'a mut Buffer) -> Option<&'a str>
     ensures { MatchOption result (second_number fault ≡ []) (λ number. 32 ∷ number.now ≡ second_number fault) }
 {

@@ -18,18 +18,18 @@ use std::fmt;
 /// Why a run of `playrun` or of `playd` ended with a status above 0.
 #[derive(Debug, Drop)]
 pub enum RunFault {
-    /// The command line is none that the program takes.
+    /// The words are no command line of the program.
     Usage,
     /// The configuration is not TOML.
     ConfigText,
-    /// This key of the configuration is refused, as `rate` or `channel.1.pairs`.
+    /// This key of the configuration is refused, such as `rate` or `channel.1.pairs`.
     ConfigKey(Text),
-    /// The line of a script with this number, counted from 1, is none that a script may have.
+    /// The line of a script with this number, counted from 1, is no line of a script.
     BadLine(u64),
-    /// The script has more than 4,294,967,296 bytes, or the clip that is read has more than 1,073,741,824, or the cue sheet
-    /// has more than 268,435,456.
+    /// The input is too long: a script of more than 4,294,967,296 bytes, a clip of more than 1,073,741,824, or a cue
+    /// sheet of more than 268,435,456.
     InputTooLong,
-    /// The line of a cue sheet with this number, counted from 1, is its first faulty one.
+    /// The line with this number, counted from 1, is the first faulty one of a cue sheet.
     Plan(u32),
     /// The cue sheet has no END.
     PlanEnd,
@@ -48,8 +48,8 @@ pub enum RunFault {
 }
 
 impl RunFault {
-    /// Returns the exit status: 1 for the command line, 2 for the configuration, the script, the cue sheet, the recording
-    /// and the clip that is read, 3 for the clips of the folder, 4 for a device and 5 for memory.
+    /// Returns the exit status: 1 for the command line, 2 for the configuration, the script, the cue sheet, the
+    /// recording and the clip that is read, 3 for the clips of the folder, 4 for a device and 5 for memory.
     pub fn status(&self) -> u8
         ensures { result ≡ status_of self.now }
     {
@@ -69,7 +69,7 @@ impl RunFault {
         }
     }
 
-    /// Writes the line that says what went wrong. It takes no memory.
+    /// Writes the line of the fault.
     pub fn send_line<K: Sink>(&self, to: &mut K) -> Sent
         ensures { Sends result (fault_line self.now) (K.state to.old) (K.state to.new) }
     {
@@ -119,7 +119,7 @@ impl RunFault {
         Ok(line)
     }
 
-    /// Returns what stands in the line before its name or its numbers: all of it if it has none.
+    /// Returns the line up to its name or its numbers: all of it, without its line feed, if it has none.
     fn label(&self) -> &'static str
         ensures { result.now ++ detail_of self.now ++ second_of self.now ++ 10 ∷ [] ≡ fault_line self.now }
     {
@@ -140,7 +140,8 @@ impl RunFault {
         }
     }
 
-    /// Returns the name or the first number of the line, and nothing if it has none. `digits` is room for a number.
+    /// Returns the name or the first number of the line, or nothing if it has neither. A number is written into
+    /// `digits`.
     fn detail<'a>(&'a self, digits: &'a mut Buffer) -> &'a str
         ensures { result.now ≡ detail_of self.entry.now }
     {
@@ -159,7 +160,7 @@ impl RunFault {
         }
     }
 
-    /// Returns the second number of the line, if it has one. `digits` is room for it.
+    /// Returns the second number of the line, if it has one. The number is written into `digits`.
     fn second<'a>(&'a self, digits: &'a mut Buffer) -> Option<&'a str>
         ensures { MatchOption result (second_of self.entry.now ≡ []) (λ number. 32 ∷ number.now ≡ second_of self.entry.now) }
     {
@@ -181,7 +182,7 @@ impl RunFault {
     }
 }
 
-/// Writes a line with two numbers, which a blank parts.
+/// Writes a line with two numbers, with a space between them.
 fn send_numbers<'a, K: Sink>(label: &'a str, first: &'a str, second: &'a str, to: &mut K) -> Sent
     ensures { Sends result (label.now ++ first.now ++ 32 ∷ second.now ++ 10 ∷ []) (K.state to.old) (K.state to.new) }
 {
@@ -197,7 +198,7 @@ fn send_numbers<'a, K: Sink>(label: &'a str, first: &'a str, second: &'a str, to
     )
 }
 
-/// Writes a line that has two parts.
+/// Writes a line of two parts.
 fn send_both<'a, K: Sink>(label: &'a str, detail: &'a str, to: &mut K) -> Sent
     ensures { Sends result (label.now ++ detail.now ++ 10 ∷ []) (K.state to.old) (K.state to.new) }
 {
@@ -213,14 +214,9 @@ impl fmt::Display for RunFault {
                 let key = key.as_str();
                 write!(f, "the key {key} of the configuration is refused")
             }
-            RunFault::BadLine(number) => write!(f, "line {number} is none that a script may have"),
+            RunFault::BadLine(number) => write!(f, "line {number} is not valid"),
             RunFault::InputTooLong => write!(f, "the input has more bytes than are read"),
-            RunFault::Plan(number) => {
-                write!(
-                    f,
-                    "line {number} is none that may stand there in a cue sheet"
-                )
-            }
+            RunFault::Plan(number) => write!(f, "line {number} of the cue sheet is not valid"),
             RunFault::PlanEnd => write!(f, "the cue sheet has no END"),
             RunFault::Record(name) => {
                 let name = name.as_str();

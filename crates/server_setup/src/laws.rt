@@ -5,7 +5,8 @@ ghost use Rattle.server_setup.specs.Setup.{SetsUp, TellsFirst, fault_of_files};
 ghost use Rattle.server_setup.specs.declared.fault.RunFault.{RunFault};
 ghost use Rattle.server_setup.specs.declared.setup.ServerSetup.{ServerSetup};
 
-/// If the folder tells its files, their first fault decides what setting up gives, unless a read fails or memory runs out.
+/// If the files of the folder are known, their first fault decides the result of a set-up, unless a read fails or
+/// memory runs out.
 pub fn first_fault_decides()
     ensures { (path : List ℕ) (result : Result ServerSetup RunFault) (before after : FolderState) (files : Files) →
         before.files ≡ Some files → SetsUp path result before after → TellsFirst result (fault_of_files path files) }

@@ -1,4 +1,4 @@
-//! Setting up: the configuration first, then the clips.
+//! Setting up a server: the configuration first, then the clips.
 ghost use Rattle.std.specs.Prelude.{◌≡◌, ◌≢◌, Err};
 ghost use Rattle.server_setup.specs.Setup.{SetsUp};
 ghost use Rattle.server_setup.specs.declared.fault.RunFault.TheVariants.{Device};
@@ -24,12 +24,12 @@ pub struct ServerSetup {
     pub names: MediaNames,
 }
 
-/// Reads the configuration of this path, and then the clips of the folder that it names.
+/// Reads the configuration at the path `file`, and then the clips of the folder that it names.
 ///
 /// The text of the configuration is tested before the folder is read. `ConfigText` comes exactly if the text is not
-/// TOML. `ConfigKey` names the first key that `read_config` refuses. `MediaTwice` names the least name that two clip files have, and
-/// `MediaTotal` has the first sum of the lengths of clip files that is above 1,073,741,824. `Device` comes only if the
-/// folder's count of faults rose in this call. No other fault comes but `OutOfMemory`.
+/// TOML. `ConfigKey` names the first key that `read_config` refuses. `MediaTwice` names the least name that two clip
+/// files have, and `MediaTotal` has the first sum of the lengths of clip files that is above 1,073,741,824. `Device`
+/// comes only if the folder's count of faults rose in this call. No other fault comes but `OutOfMemory`.
 pub fn set_up<R: Threads + Sync, M: MediaDir>(
     rt: &R,
     alloc: Global,

@@ -49,7 +49,7 @@ set_seam : {X : Type 0} (xs rest : List X) (x y : X) → set (xs ++ x ∷ rest) 
 set_seam [] rest x y = refl
 set_seam (z ∷ xs) rest x y = ap (λ more. z ∷ more) (set_seam xs rest x y)
 
--- channels of which nothing is told yet
+-- channels for which nothing was added yet
 abbrev pub blank : {X : Type 0} → ℕ → List (List X)
 blank n = replicate n []
 

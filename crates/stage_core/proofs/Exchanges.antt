@@ -16,7 +16,7 @@ use Rattle.history_model.proofs.places.Lists.{ArePlaces-with_place, same_places,
 use Rattle.stage_core.specs.LiveState.{Channels, is_some_over, life_at, places_of, with_exchanged, with_life}
 use Rattle.stage_core.proofs.LiveStates.{length-with_life, places_of-with_life}
 
--- if no channel has too many, none of them has
+-- if no channel has too many live places, a given one has not
 pub one_within : (channels : Channels) → is_some_over channels ≡ false → (i : ℕ) → i < length channels → is_over_limit (get_or channels i []) ≡ false
 one_within channels none i within = elim (cases_Bool (is_over_limit (get_or channels i []))) [
   | inl e ↦ absurd (false≢true (sym none ∙ list_any_at is_over_limit channels i [] within e))
@@ -27,7 +27,7 @@ pub few_at : (channels : Channels) (k : ℕ) → is_some_over channels ≡ false
 few_at channels k none c =
     ltb-false MAX_LIVE_LAYERS (length (places_of k channels)) (one_within channels none (k - 1) (omega (arith, c.0, c.1)))
 
--- and so it is if one is written over by one that has not
+-- and none has after one is replaced by one that has not
 pub over-set : (channels : Channels) (at : ℕ) (places : Places) → is_some_over channels ≡ false → is_over_limit places ≡ false →
     is_some_over (set channels at places) ≡ false
 over-set channels at places none few =
@@ -92,7 +92,7 @@ put_back_at channels at life c p =
     ∙ ap (set channels index) (back_at places at.layer life p)
     ∙ set-get_or channels index []
 
--- what stands at a place after something is put at another: the same if it was what stood there
+-- the layer at a place after a layer is put at another place
 module _ (channels : Channels) (a b : PlaceView) (first : IsConfigured (length channels) a.channel) (second : IsConfigured (length channels) b.channel)
     (p : ArePlaces (places_of a.channel channels)) where
   pub places_of-middle : places_of b.channel (with_life a (life_at b channels) channels)

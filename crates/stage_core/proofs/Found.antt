@@ -44,7 +44,7 @@ module _ (l : Places) (p : ArePlaces l) (k : ℕ) where
     };
   }
 
--- lower layers stand before the index
+-- lower layers are before the index
 abbrev AreLower : Places → ℕ → ℕ → Type 0
 AreLower places layer index = (j : ℕ) → j < index → (place_in places j).0 < layer
 
@@ -57,7 +57,7 @@ lower_in_rest place more layer i lower j below = lower (suc j) (omega arith)
 at_in_rest : (place : ℕ × Life) (more : Places) (layer i : ℕ) → IsAt (place ∷ more) layer (suc i) → IsAt more layer i
 at_in_rest place more layer i is_at = record { in_range = omega (arith, is_at.in_range); has_layer = is_at.has_layer }
 
--- what stands at a layer that was found
+-- the place at a layer that was found
 at_standing : (places : Places) (layer i : ℕ) → IsAt places layer i → AreLower places layer i → standing places layer ≡ (place_in places i).1
 at_standing [] layer i is_at lower = absurd (omega (arith, is_at.in_range))
 at_standing (place ∷ more) layer zero is_at lower = cond-true (eqb place.0 layer) place.1 (standing more layer) (eq-eqb place.0 layer is_at.has_layer)
@@ -69,7 +69,7 @@ at_standing (place ∷ more) layer (suc i) is_at lower =
 pub standing-found : (places : Places) → ArePlaces places → (layer i : ℕ) → IsAt places layer i → standing places layer ≡ (place_in places i).1
 standing-found places p layer i is_at = at_standing places layer i is_at (lower_before places p layer i is_at)
 
--- nothing stands at one that was not
+-- a layer that was not found is empty
 pub standing-absent : (places : Places) (layer i : ℕ) → IsGapFor places layer i → standing places layer ≡ empty_place
 standing-absent [] layer i gap = refl
 standing-absent (place ∷ more) layer zero gap =

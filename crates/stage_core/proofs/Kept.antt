@@ -57,7 +57,7 @@ tried : (n t : ℕ) (cmd : Cmd) (acts : List Act) (live : LiveView) → n ≤ MA
 tried n t cmd acts live few h within shows =
     record { shows = shows; few_channels = few; served = h; within = IsWithinLimits-command acts t cmd within }
 
--- a list of commands is refused by the live state if the stage refuses it, and is shown if it does not
+-- the live state refuses a list of commands exactly if the stage does, and otherwise shows the stage after them
 pub record IsJudged (n t : ℕ) (cmds : List Cmd) (acts : List Act) (live : LiveView) : Type 0 where
   pub refused : some_is_refused_on cmds live ≡ some_is_refused cmds (stage_state acts t)
   pub shows : some_is_refused cmds (stage_state acts t) ≡ false → ShowsStage n (live_with_all cmds live) (state_after_all cmds (stage_state acts t))

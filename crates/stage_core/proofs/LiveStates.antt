@@ -30,7 +30,7 @@ at_one xs x d at k a c = elim (cases_eq at k) [
       ∙ sym (cond-false (eqb at k) x (get_or xs (k - 1) d) (ne_eqb at k apart))
 ]
 
--- what stands at a place is put there
+-- a layer is put at a place
 module _ (channels : Channels) where
   pub length-with_life : (at : PlaceView) (life : Life) → length (with_life at life channels) ≡ length channels
   length-with_life at life = length-set channels (at.channel - 1) (with_place (places_of at.channel channels) at.layer life)

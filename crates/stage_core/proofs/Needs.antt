@@ -1,4 +1,4 @@
--- For how many settings a mixer needs memory, by how many wait on each channel.
+-- The number of settings for which a mixer needs memory, by the number that wait on each channel.
 use Rattle.std.proofs.Common.{◌≡◌, ℕ, ◌+◌, ◌≤◌, List, [], ◌∷◌, ◌++◌, length, All, refl, sym, ap, ap₂, ◌∙◌, subst, arith}
 use Rattle.std.proofs.lemmas.Bool.{true≢false}
 use Rattle.std.specs.Prelude.{Err, Ok, OnOk, Result, is_err, false}
@@ -53,7 +53,7 @@ module _ (n m : ℕ) (few : n ≤ m) where
   pub all_served-wide : (cmds : List Cmd) → All (IsServed n) cmds → All (IsServed m) cmds
   all_served-wide cmds h = All-weaker (IsServed n) (IsServed m) served-wide cmds h
 
--- if as many settings wait on each channel, as many are needed
+-- equal numbers of waiting settings on each channel give equal needs
 settings_of-same : (n : ℕ) (cmd : Cmd) (v w : ℕ → ℕ) → IsServed n cmd → ((k : ℕ) → IsConfigured n k → v k ≡ w k) →
     settings_of v cmd ≡ settings_of w cmd
 settings_of-same n (Load at take) v w h same = refl

@@ -123,7 +123,7 @@ module _ (n : ℕ) (live : LiveView) (state : StageState) (cmd : Cmd) (h : IsTri
       places_after live k (subst (λ (m : ℕ). IsConfigured m k) (sym h.shows.count) c) cmd served_here
       ∙ live_after-same n (λ m. places_of m live.places) state.places h.shows.places k c cmd h.served
 
-  -- no channel has too many live places if the stage refuses nothing
+  -- no channel has too many live places if the stage does not refuse the command
   pub none_over : is_refused_by cmd state ≡ false → is_some_over (live_with cmd live).places ≡ false
   none_over taken =
       let after : Channels = (live_with cmd live).places in

@@ -154,7 +154,7 @@ none_of : {X : Type 0} (f : ℕ → Option X) (numbers : List ℕ) → ((n : ℕ
 none_of f [] none = refl
 none_of f (n ∷ numbers) none = ap (λ (one : Option _). cons_option one (filter_map f numbers)) (none n) ∙ none_of f numbers none
 
--- nothing stands on such a channel
+-- no layer is seen on such a channel
 pub seen-outside : (n : ℕ) (history : List Event) (channel : ℕ) → AreServed n (acts history) → (IsConfigured n channel → ⊥) → seen_layers history channel ≡ []
 seen-outside n history channel served outside =
     none_of (seen_at (acts history) (ticks history) channel) (layers (acts history))

@@ -1,4 +1,4 @@
--- What a list of places keeps if a place is put into it.
+-- The invariant of a list of places after a place is put into it.
 use Rattle.std.proofs.Common.{◌≡◌, ℕ, ◌+◌, ◌≤◌, true, false, inl, inr, [], ◌∷◌, ◌++◌, length, set, insert, remove, take, drop, map, sym, ap, ◌∙◌, subst, arith, append-nil, length-set}
 use Rattle.std.proofs.lemmas.Bool.{cases_order, cond_both}
 use Rattle.std.proofs.lemmas.List.{length-map, take_all, drop_all}

@@ -246,7 +246,7 @@ module _ (events : List Event) (tag : Tag) (cmds : List Cmd) (live saved : LiveV
       (refused-batch events tag live h.live cmds (AllServed-from (length live.places) cmds each))
 
 module _ (events : List Event) (live saved : LiveView) (mixer : MixerView) (routes : RoutesView) (h : IsStage events live saved mixer routes) where
-  -- if memory was taken for its mixer
+  -- after memory was reserved for its mixer
   pub IsStage-as_before : (after : MixerView) → IsAsBefore mixer after → IsStage events live saved after routes
   IsStage-as_before after same = record {
     live = h.live;
@@ -255,7 +255,7 @@ module _ (events : List Event) (live saved : LiveView) (mixer : MixerView) (rout
     shown = h.shown;
   }
 
-  -- as many settings wait on each channel of the mixer as are counted, so it needs memory for as many as commands are counted to
+  -- as many settings wait on each channel of the mixer as are counted, so the memory it needs for commands is the counted one
   pub needs_counted : (after : MixerView) → IsAsBefore mixer after → (cmds : List Cmd) → All (IsServed (length live.places)) cmds →
       settings_of_all (waits_on after) cmds ≡ settings_of_all (counted live.waiting) cmds
   needs_counted after same cmds each =

@@ -19,7 +19,7 @@ use Rattle.history_model.specs.stage.StageHistory.{foreground_of}
 abbrev pub is_playing : Foreground → Bool
 is_playing one = not one.paused
 
--- a foreground that is told is there, and is paused if it is told so
+-- a foreground that was found, and is paused if its front is
 pub record IsTold (found : Option Foreground) (front : Front) : Type 0 where
   pub foreground : Foreground
   pub found_is : found ≡ Some foreground
@@ -107,7 +107,7 @@ take-same n xs ys long wide same =
     let low : i < n = omega (arith, within, count) in
     get_or-take n xs i Empty low ∙ same i low ∙ sym (get_or-take n ys i Empty low))
 
--- what is known of a value that was made
+-- the value of an option that is there, and its equality to another
 pub some_is : {A : Type 0} (found : Option A) (x y : A) → found ≡ Some x → IfSome found (λ z. z ≡ y) → x ≡ y
 some_is None x y e h = absurd (cc)
 some_is (Some z) x y e h = let same : z ≡ x = cc in sym same ∙ h

@@ -14,12 +14,12 @@ use Rattle.route_graph.specs.Routes.{RoutesView}
 use Rattle.history_model.specs.commands.Channels.{IsServed}
 use Rattle.stage_core.specs.LiveState.{LiveView, ShowsStage}
 
--- each act names channels of the stage alone
+-- each act names only channels of the stage
 abbrev pub AreServed : ℕ → List Act → Type 0
 AreServed channels [] = Unit {0}
 AreServed channels (act ∷ before) = IsServed channels act.cmd × AreServed channels before
 
--- the live state shows the stage after the events, whose commands name its channels alone
+-- the live state shows the stage after the events, whose commands name only its channels
 pub record IsLiveStateOf (events : List Event) (live : LiveView) : Type 0 where
   pub some_channels : 1 ≤ length live.places
   pub channels : length live.places ≤ MAX_CHANNELS
@@ -31,12 +31,12 @@ pub record IsShownBefore (channels : ℕ) (events : List Event) (routes : Routes
   pub count : routes.channels ≡ channels
   pub shown : KeepsForegrounds channels routes.present (last_shown events)
 
--- the mixer is if the events put it
+-- the mixer has the values and the waiting settings that the events leave
 pub record IsMixed (channels : ℕ) (events : List Event) (mixer : MixerView) : Type 0 where
   pub count : mixer.channels ≡ channels
   pub past : Represents mixer (acts events) (ticks events)
 
--- a stage after the events: its live state, another of as many channels, its mixer, and its routes
+-- the parts of a stage after the events: its live state, a saved one of as many channels, its mixer, and its routes
 pub record IsStage (events : List Event) (one other : LiveView) (mixer : MixerView) (routes : RoutesView) : Type 0 where
   pub live : IsLiveStateOf events one
   pub saved : length other.places ≡ length one.places

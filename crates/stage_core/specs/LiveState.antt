@@ -1,4 +1,4 @@
--- The live places of all channels and the numbers of their waiting settings, as lists, and what commands make of them.
+-- The live places of all channels and the numbers of their waiting settings, as lists, and the effect of commands on them.
 use Rattle.std.specs.Prelude.{◌≡◌, ℕ, ◌+◌, ◌-◌, Bool, false, ◌&&◌, ◌||◌, List, [], ◌∷◌, length, map, nat_le, if◌then◌else◌}
 use Rattle.std.specs.List.{list_any, swap}
 use Rattle.play_types.specs.ChannelItems.{channel_item, with_channel_item}
@@ -22,11 +22,11 @@ Channels = List Places
 abbrev pub places_of : ℕ → Channels → Places
 places_of channel channels = channel_item channel channels []
 
--- what stands at a place
+-- the layer at a place
 abbrev pub life_at : PlaceView → Channels → Life
 life_at place channels = standing (places_of place.channel channels) place.layer
 
--- the channels once this stands at a place
+-- the channels with this layer at a place
 abbrev pub with_life : PlaceView → Life → Channels → Channels
 with_life place life channels =
     with_channel_item place.channel (with_place (places_of place.channel channels) place.layer life) channels
@@ -39,7 +39,7 @@ with_exchanged a b channels = with_life b (life_at a channels) (with_life a (lif
 abbrev pub is_some_over : Channels → Bool
 is_some_over channels = list_any is_over_limit channels
 
--- the channels as they are kept: those before if some channel would have too many live places
+-- the channels after a change, or those before it if some channel would have too many live places
 abbrev pub kept_within : Channels → Channels → Channels
 kept_within after before = if is_some_over after then before else after
 
@@ -56,11 +56,11 @@ pub record LiveView : Type 0 where
 abbrev pub count_of : ℕ → List ℕ → ℕ
 count_of channel waiting = channel_item channel waiting 0
 
--- whether a setting would wait on a channel on which as many settings wait as may
+-- whether a setting is deferred and as many settings wait on its channel as may
 abbrev pub is_full_for : SettingView → List ℕ → Bool
 is_full_for setting waiting = setting.deferred && nat_le MAX_WAITING_SETTINGS (count_of setting.place.channel waiting)
 
--- the numbers of waiting settings with a setting, if it waits
+-- the numbers of waiting settings with one setting more, if it is deferred
 abbrev pub with_setting : SettingView → List ℕ → List ℕ
 with_setting setting waiting =
     if setting.deferred then with_channel_item setting.place.channel (count_of setting.place.channel waiting + 1) waiting else waiting

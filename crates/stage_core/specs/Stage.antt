@@ -20,30 +20,30 @@ pub record StageView : Type 0 where
 abbrev pub after_event : Event → StageView → StageView
 after_event event stage = record stage { journal = followed_by event stage.journal }
 
--- a journal takes `more` commands more: it holds no stop, and its commands and these are no more than its limit
+-- a journal has room for `more` commands: it holds no stop, and its commands and these are no more than its limit
 pub record HasRoom (journal : JournalView) (more : ℕ) : Type 0 where
   pub running : stop_at journal.events ≡ None
   pub commands : held journal.events + more ≤ journal.limit
 
--- an event of `commands` commands is not taken for this reason: a stop comes first, then the limit of the journal, and then
--- memory
+-- why an event of `commands` commands is not accepted: memory runs out although the journal has room, the journal is full and
+-- holds no stop, or it holds a stop
 abbrev pub IsNotTaken : JournalView → ℕ → ApplyFault → Type 0
 IsNotTaken journal commands OutOfMemory = HasRoom journal commands
 IsNotTaken journal commands (JournalFull already) =
     (stop_at journal.events ≡ None) × (journal.limit < held journal.events + commands) × (already ≡ held journal.events)
 IsNotTaken journal commands (Ended at) = stop_at journal.events ≡ Some at
 
--- a journal takes one tick more: it holds no stop, and its ticks are fewer than it may hold
+-- a journal has room for a tick: it holds no stop, and its ticks are fewer than it may hold
 pub record HasTime (journal : JournalView) : Type 0 where
   pub running : stop_at journal.events ≡ None
   pub ticks : ticks journal.events < MAX_TICKS
 
--- a tick is not taken for this reason: a stop comes before the number of ticks
+-- why a tick is not accepted: the journal holds a stop, or it holds no stop and as many ticks as it may hold
 abbrev pub IsNoTick : JournalView → TickFault → Type 0
 IsNoTick journal (tick.Ended at) = stop_at journal.events ≡ Some at
 IsNoTick journal tick.TicksOver = (stop_at journal.events ≡ None) × (MAX_TICKS ≤ ticks journal.events)
 
--- the fault of a push, as a command's
+-- the fault of a push, as a fault of a command
 abbrev pub fault_of : PushFault → ApplyFault
 fault_of push.OutOfMemory = OutOfMemory
 fault_of (push.JournalFull already) = JournalFull already

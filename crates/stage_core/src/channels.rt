@@ -18,7 +18,7 @@ use route_graph::Routes;
 use std::alloc::{AllocError, Global};
 use std::marker::Model;
 
-/// The live places of all channels. The room for all that there may be is taken when they are created.
+/// The live places of all channels. The memory for as many as there may be is allocated at creation.
 #[derive(Debug, Drop)]
 pub(crate) struct LivePlaces {
     channels: Vec<PlaceList>,
@@ -44,8 +44,8 @@ impl LivePlaces {
         Ok(LivePlaces { channels })
     }
 
-    /// Lets a command act on a place, and returns whether it is refused: if some channel would have more than 64 live places.
-    /// The places are then as before.
+    /// Applies a command to the place `at`, and returns whether the command is refused: if a channel would have more than 64
+    /// live layers. On refusal the places are as before.
     pub(crate) fn change(&mut self, at: Place, cmd: &Cmd) -> bool
         requires channel { IsConfigured (length self.old) at.channel }
         requires few { is_some_over self.old ≡ false }
@@ -62,8 +62,8 @@ impl LivePlaces {
         false
     }
 
-    /// Exchanges two places, and returns whether that is refused: if some channel would have more than 64 live places. The
-    /// places are then as before.
+    /// Exchanges the layers at two places, and returns whether the exchange is refused: if a channel would have more than 64
+    /// live layers. On refusal the places are as before.
     pub(crate) fn exchange(&mut self, a: Place, b: Place) -> bool
         requires first { IsConfigured (length self.old) a.channel }
         requires second { IsConfigured (length self.old) b.channel }
@@ -99,7 +99,7 @@ impl LivePlaces {
         self.channels[channel_index(channel)].clear();
     }
 
-    /// Copies the places of others in place of those that are here. It takes no memory.
+    /// Replaces all places with those of `other`, which has as many channels.
     pub(crate) fn copy_from(&mut self, other: &LivePlaces)
         requires { length self.old ≡ length other.now }
         ensures { self.new ≡ other.now }
@@ -109,8 +109,8 @@ impl LivePlaces {
         }
     }
 
-    /// Lets the tick `number` pass on the places of each channel, and adds what they show at it to the scene of the channel and to the
-    /// routes.
+    /// Advances the places of each channel to the tick `number`, and adds what they show at that tick to the scene of the
+    /// channel and to the routes.
     pub(crate) fn tick(
         &mut self,
         number: u64,
@@ -184,8 +184,8 @@ impl LivePlaces {
     }
 }
 
-/// Lets the tick `number` pass on the places of each channel, and adds what they show at it to the scene of the channel and to the
-/// routes.
+/// Advances the places of each channel to the tick `number`, and adds what they show at that tick to the scene of the channel
+/// and to the routes.
 fn tick_channels(
     channels: &mut [PlaceList],
     number: u64,

@@ -1,4 +1,4 @@
-//! What a command makes of the layer at a place.
+//! The effect of a command on the layer at a place.
 ghost use Rattle.std.specs.Prelude.{◌≡◌};
 ghost use Rattle.history_model.specs.stage.Life.{effect};
 ghost use Rattle.history_model.specs.stage.Live.{is_live};

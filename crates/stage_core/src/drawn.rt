@@ -67,7 +67,7 @@ fn still_of(picture: Option<(Spec, u32)>, routes: &Routes) -> Still
     }
 }
 
-/// Returns the value of a property of a place at the tick `number`, which is one number.
+/// Returns the value, a single number, of a property of a place at the tick `number`.
 fn number_of(mixer: &Mixer, place: Place, prop: Prop, number: u64) -> i64
     requires one { number_count prop ≡ 1 }
     requires channel { IsConfigured mixer.now.channels place.channel }
@@ -78,7 +78,7 @@ fn number_of(mixer: &Mixer, place: Place, prop: Prop, number: u64) -> i64
     mixer.value(place, prop, number).values()[0]
 }
 
-/// Returns the value of a property of a place at the tick `number`, which is four numbers.
+/// Returns the value, four numbers, of a property of a place at the tick `number`.
 fn numbers_of(mixer: &Mixer, place: Place, prop: Prop, number: u64) -> [i64; 4]
     requires four { number_count prop ≡ 4 }
     requires channel { IsConfigured mixer.now.channels place.channel }

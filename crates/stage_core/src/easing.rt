@@ -1,12 +1,12 @@
-//! Transitions of other curves than the linear one, as they are drawn.
+//! Transitions with a curve other than the linear one, as they are drawn.
 ghost use Rattle.std.specs.Prelude.{◌≡◌, ◌<◌, ◌⊎◌};
 ghost use Rattle.history_model.specs.pictures.Easing.{eased, eased_step};
 
 use mixer_tween::Tween;
 use play_types::{Curve, EASED_STEPS, Trans};
 
-/// Returns the transition and the step that are drawn at a step of a transition. One of another curve than the linear one is
-/// drawn as a linear one of `EASED_STEPS` ticks, at the step where the curve is.
+/// Returns the transition and the step to draw at `step` of `trans`. A transition with a curve other than the linear one is
+/// drawn as a linear one of `EASED_STEPS` ticks, at the step that the curve has reached.
 pub(crate) fn eased(trans: Trans, step: u32) -> (Trans, u32)
     requires begun { (0 < step) ⊎ (trans.duration ≡ 0) }
     ensures value { result ≡ eased trans step }
@@ -22,7 +22,7 @@ pub(crate) fn eased(trans: Trans, step: u32) -> (Trans, u32)
     }
 }
 
-/// Returns the step of `EASED_STEPS` where a curve is at a step of `duration`, but at least 1.
+/// Returns the step out of `EASED_STEPS`, at least 1, that a curve has reached at `step` out of `duration`.
 fn eased_step(curve: Curve, step: u32, duration: u32) -> u32
     ensures value { result ≡ eased_step curve step duration }
     ensures begun { 0 < result }

@@ -18,7 +18,7 @@ pub fn a_loaded_clip()
     ensures over { seen_layers (plays (at 1 0) (clip 1 3) ∷ ticking 5) 1 ≡ seen 0 (Clip 1) 2 3 false ∷ [] }
 {}
 
-/// Of a transition the new content alone is seen. A background is not seen, even if it starts by itself at the next tick.
+/// Only the new content of a transition is seen. A background is not seen, even if it starts by itself at the next tick.
 pub fn foregrounds_alone()
     ensures mix { seen_layers (plays (at 1 0) (clip 1 30) ∷ Tick ∷ plays (at 1 0) (by blue (rightward Mix 4)) ∷ Tick ∷ []) 1
         ≡ seen 0 (Colour 0xFF0000FF) 0 0 false ∷ [] }
@@ -28,7 +28,7 @@ pub fn foregrounds_alone()
         ≡ seen 0 (Colour 0xFF0000FF) 0 0 false ∷ [] }
 {}
 
-/// The layers of a channel are seen in rising number, whatever order they came in, and those of other channels are not.
+/// Layers of a channel are seen in rising number, whatever order they came in. Layers of other channels are not seen.
 pub fn layers_in_rising_number()
     ensures rising { seen_layers (plays (at 1 7) red ∷ plays (at 2 5) blue ∷ ask (LoadBg (at 1 4) blue) ∷ plays (at 1 2) blue ∷ []) 1
         ≡ seen 2 (Colour 0xFF0000FF) 0 0 false ∷ seen 7 (Colour 0xFFFF0000) 0 0 false ∷ [] }

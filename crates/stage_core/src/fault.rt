@@ -9,7 +9,7 @@ use std::fmt;
 pub enum ApplyFault {
     /// Memory ran out.
     OutOfMemory,
-    /// The journal holds `held` commands, and those of the event are more than its limit leaves.
+    /// The journal holds `held` commands, and its limit leaves no room for those of the event.
     JournalFull { held: u32 },
     /// The history was stopped: `at` events come before the stop.
     Ended { at: u64 },

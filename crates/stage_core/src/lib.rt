@@ -1,8 +1,8 @@
 //! The stage of a playout server, over its own journal.
 //!
-//! A [`Stage`] keeps the live places of each channel from event to event, and its contracts speak of its journal alone: the
-//! answer to a command or a batch and the scenes of a tick are what the definitions say of the journal before that event. It
-//! serves every command and every batch that names its own channels.
+//! A [`Stage`] keeps the live places of each channel from event to event, and its contracts refer to its journal alone: the
+//! answer to a command or a batch and the scenes of a tick are those that the definitions give for the journal before that
+//! event. Every command and every batch must name only channels of the stage.
 #![tactic(auto)]
 
 mod channels;

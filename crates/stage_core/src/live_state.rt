@@ -1,4 +1,4 @@
-//! What a stage keeps of its contents and of its waiting settings, and what commands make of it.
+//! The live places and waiting settings of a stage, and the effect of commands on them.
 ghost use Rattle.std.specs.Prelude.{◌≡◌, ◌≤◌, [], All, IfOk, Some, false, filter_map, length, map, replicate, if◌then◌else◌};
 ghost use Rattle.std.specs.List.{range_with_len};
 ghost use Rattle.play_types.specs.Scene.{IsConfigured};
@@ -34,7 +34,7 @@ impl Model for LiveState {
 }
 
 impl LiveState {
-    /// Creates a live state of `count` channels on which nothing stands and nothing waits.
+    /// Creates a live state of `count` channels without live places and without waiting settings.
     pub(crate) fn new(alloc: Global, count: usize) -> Result<LiveState, AllocError>
         ensures { IfOk result (λ live. live ≡ record { places = replicate count []; waiting = replicate MAX_CHANNELS 0 }) }
     {
@@ -44,8 +44,8 @@ impl LiveState {
         })
     }
 
-    /// Lets a command act, and returns whether it is refused: if some channel would have more than 64 live places or more
-    /// than 1,024 waiting settings. The live state is then as before.
+    /// Applies a command, and returns whether it is refused: if a channel would have more than 64 live layers or more than
+    /// 1,024 waiting settings. On refusal the live state is as before.
     pub(crate) fn apply(&mut self, cmd: &Cmd) -> bool
         requires served { IsServed (length self.old.places) cmd.now }
         requires few { is_some_over self.old.places ≡ false }
@@ -74,8 +74,8 @@ impl LiveState {
         }
     }
 
-    /// Counts a setting if it waits, and returns whether it is refused, since as many wait on its channel as may. The
-    /// live state is then as before.
+    /// Counts a setting if it is deferred, and returns whether it is refused: if 1,024 settings wait on its channel already. On
+    /// refusal the live state is as before.
     fn count_setting(&mut self, setting: &Setting) -> bool
         requires channel { IsConfigured MAX_CHANNELS setting.now.place.channel }
         ensures refused { result ≡ is_full_for setting.now self.old.waiting }
@@ -93,8 +93,8 @@ impl LiveState {
         false
     }
 
-    /// Lets all commands act one after another, and returns whether one of them is refused after the ones before it. The
-    /// live state is then as those left it.
+    /// Applies commands in order up to the first one that is refused, and returns whether one is refused. The commands before
+    /// the refused one keep their effect.
     pub(crate) fn apply_all(&mut self, cmds: &[Cmd]) -> bool
         requires served { All (IsServed (length self.old.places)) cmds.now }
         requires few { is_some_over self.old.places ≡ false }
@@ -111,7 +111,7 @@ impl LiveState {
         false
     }
 
-    /// Copies another live state of as many channels. It takes no memory.
+    /// Replaces this live state with a copy of `other`, which has as many channels.
     pub(crate) fn copy_from(&mut self, other: &LiveState)
         requires { length self.old.places ≡ length other.now.places }
         ensures { self.new ≡ other.now }
@@ -120,8 +120,8 @@ impl LiveState {
         self.waiting = other.waiting;
     }
 
-    /// Lets the tick `number` pass on each place, and adds what the places show at it to the scenes of their channels and to the
-    /// routes.
+    /// Advances each place to the tick `number`, and adds what the places show at that tick to the scenes of their channels and
+    /// to the routes.
     pub(crate) fn tick(
         &mut self,
         number: u64,

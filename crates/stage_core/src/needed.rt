@@ -11,9 +11,9 @@ use mixer_state::Mixer;
 use play_types::{Cmd, CommandShape, MAX_CHANNELS, channel_index};
 use std::alloc::{AllocError, Global};
 
-/// Takes the memory for a mixer that commands need, one after another, if as many settings wait on each channel: for each
-/// setting that starts, for each swap of mixer values, and for all settings that wait at a commit of their channel. If it
-/// runs out, the mixer is as before.
+/// Reserves the memory that a mixer needs to execute commands in order, with `waiting` settings on each channel before them,
+/// channel 1 first: for each setting that starts, for each swap of the mixer values of two layers, and for all settings that
+/// wait at a commit of their channel. If memory runs out, the mixer is as before.
 pub(crate) fn reserve_for(
     alloc: Global,
     mixer: &mut Mixer,
@@ -30,8 +30,8 @@ pub(crate) fn reserve_for(
     }
 }
 
-/// Returns for how many settings a mixer needs memory so that commands take no more, if as many wait on each channel. `None`
-/// if these are more than a mixer can be asked for.
+/// Returns the number of settings for which a mixer needs memory to execute commands in order, with `waiting` settings on each
+/// channel before them. Returns `None` if the number is more than a mixer can be asked for.
 fn settings_of_all(cmds: &[Cmd], mut waiting: [usize; MAX_CHANNELS]) -> Option<u32>
     requires { All (IsServed MAX_CHANNELS) cmds.now }
     ensures { IfSome result (λ count. count ≡ settings_of_all (counted waiting) cmds.now) }
@@ -44,8 +44,8 @@ fn settings_of_all(cmds: &[Cmd], mut waiting: [usize; MAX_CHANNELS]) -> Option<u
     u32::try_from(count).ok()
 }
 
-/// Returns for how many settings a mixer needs memory so that a command takes no more, if as many wait on each channel, and
-/// counts those that wait after the command. `None` if these are more than can be counted.
+/// Returns the number of settings for which a mixer needs memory to execute a command, with `waiting` settings on each channel,
+/// and updates `waiting` to the settings that wait after the command. Returns `None` if they are more than can be counted.
 fn settings_of(cmd: &Cmd, waiting: &mut [usize; MAX_CHANNELS]) -> Option<usize>
     requires { IsServed MAX_CHANNELS cmd.now }
     ensures count { IfSome result (λ count. count ≡ settings_of (counted waiting.old) cmd.now) }

@@ -22,10 +22,10 @@ use route_graph::Routes;
 use std::alloc::{AllocError, Global};
 use std::marker::Model;
 
-/// The live layers of a channel, in rising layer, each with what stands there.
+/// The live layers of a channel, in rising number.
 ///
-/// A channel may have 64. The list has room for three more, which it holds only while it is judged whether a command is
-/// refused. The room is taken when the list is created.
+/// A channel may have 64. The list has room for three more, which it holds only while a command is tested for refusal. The
+/// memory is allocated at creation.
 #[derive(Debug, Drop)]
 pub(crate) struct PlaceList {
     places: Vec<(u16, Layer)>,
@@ -44,7 +44,7 @@ impl Model for PlaceList {
 }
 
 impl PlaceList {
-    /// Creates a list without places. The memory for all places is taken.
+    /// Creates an empty list, and allocates the memory for all its places.
     pub(crate) fn new(alloc: Global) -> Result<PlaceList, AllocError>
         ensures { IfOk result (λ places. places ≡ []) }
     {
@@ -60,7 +60,8 @@ impl PlaceList {
         self.places.len() > MAX_LIVE_LAYERS
     }
 
-    /// Returns whether the channel shows something, and whether that is paused.
+    /// Returns the status of the channel: `Playing` if a foreground is not paused, `Paused` if all foregrounds are paused, and
+    /// `Empty` if there is no foreground.
     pub(crate) fn status(&self) -> Status
         ensures { result ≡ status_of (filter_map foreground_of self.now) }
     {
@@ -101,7 +102,7 @@ impl PlaceList {
         self.places.clear();
     }
 
-    /// Copies the places of another list in place of those that are here. It takes no memory.
+    /// Replaces all places with those of `other`.
     pub(crate) fn copy_from(&mut self, other: &PlaceList)
         ensures { self.new ≡ other.now }
     {
@@ -109,7 +110,7 @@ impl PlaceList {
         self.places.extend_from_slice(&other.places).unwrap();
     }
 
-    /// Returns the layer of a number: an empty one if the list lacks it.
+    /// Returns the layer numbered `number`, an empty one if the list lacks it.
     pub(crate) fn get(&self, number: u16) -> Layer
         ensures value { result ≡ standing self.now number }
         ensures range { ArePlaces self.now }
@@ -120,7 +121,7 @@ impl PlaceList {
         }
     }
 
-    /// Puts a layer at its number. A layer that holds nothing leaves the list.
+    /// Stores a layer under its number. A layer without foreground and background is removed from the list.
     pub(crate) fn set(&mut self, number: u16, layer: Layer)
         requires room { length self.old ≤ MAX_LIVE_LAYERS + 2 }
         requires number { number ≤ MAX_LAYER }
@@ -143,8 +144,8 @@ impl PlaceList {
         }
     }
 
-    /// Lets the tick `number` pass on each place, and adds what the places show at it to the scene of a channel and to the routes, in
-    /// rising layer.
+    /// Advances each place to the tick `number`, and adds what the places show at that tick to the scene of a channel and to
+    /// the routes, in rising layer.
     pub(crate) fn tick(
         &mut self,
         channel: u8,
@@ -169,7 +170,7 @@ impl PlaceList {
         tick_places(&mut self.places, channel, number, mixer, routes, scenes);
     }
 
-    /// Returns where the layer of a number stands in the list, or where it would stand.
+    /// Returns the index of the layer numbered `number` in the list, or the index at which it would be inserted.
     fn find(&self, number: u16) -> Result<usize, usize>
         ensures found { IfOk result (IsAt self.now number) }
         ensures absent { IfErr result (IsGapFor self.now number) }
@@ -178,7 +179,7 @@ impl PlaceList {
     }
 }
 
-/// Lets the tick `number` pass on each place, and adds what the places show at it to the scene of a channel and to the
+/// Advances each place to the tick `number`, and adds what the places show at that tick to the scene of a channel and to the
 /// routes, in order.
 fn tick_places(
     places: &mut [(u16, Layer)],

@@ -22,7 +22,7 @@ pub struct LayerView {
 }
 
 impl LayerView {
-    /// Returns what is shown of the layer of a number with this foreground.
+    /// Returns what is shown of the layer numbered `layer` with the foreground `front`.
     pub(crate) fn of(layer: u16, front: Front) -> LayerView
         ensures { result ≡ view_of layer front }
     {
@@ -36,7 +36,7 @@ impl LayerView {
     }
 }
 
-/// Returns the frame that a take shows after `shown` ticks: of a clip one of those that are played, else 0.
+/// Returns the frame that a take shows after `shown` ticks: the frame at the playhead of a clip, 0 for another producer.
 fn frame_of(take: Take, shown: u64) -> u32
     ensures { result ≡ head take shown }
 {

@@ -1,4 +1,4 @@
-//! What commands make of the mixer values and of the waiting settings.
+//! The effect of commands on mixer values and waiting settings.
 ghost use Rattle.std.specs.Prelude.{◌≡◌, ◌+◌, ◌≤◌, ◌++◌, [], ◌∷◌, List, All, true, false};
 ghost use Rattle.play_types.specs.Scene.{IsConfigured};
 ghost use Rattle.play_types.specs.declared.command.Cmd.TheVariants.{Set};
@@ -12,7 +12,7 @@ use mixer_state::{Mixer, laws};
 use play_types::{Cmd, CommandShape, Setting, Target};
 use std::alloc::Global;
 
-/// Lets a command that is not refused act on a mixer, which has the memory for it.
+/// Applies a command that is not refused to a mixer that has the memory for it.
 pub(crate) fn settle(alloc: Global, mixer: &mut Mixer, cmd: &Cmd, ticks: u64)
     requires served { IsServed mixer.old.channels cmd.now }
     requires taken { CanTake (cmd.now ∷ []) ticks mixer.old }
@@ -48,7 +48,7 @@ pub(crate) fn settle(alloc: Global, mixer: &mut Mixer, cmd: &Cmd, ticks: u64)
     }
 }
 
-/// Starts a setting, or lets it wait if it is deferred.
+/// Starts a setting, or adds it to the waiting ones if it is deferred.
 fn set(alloc: Global, mixer: &mut Mixer, setting: &Setting, ticks: u64)
     requires served { IsConfigured mixer.old.channels setting.now.place.channel }
     requires taken { CanTake (Set setting.now ∷ []) ticks mixer.old }
@@ -67,7 +67,7 @@ fn set(alloc: Global, mixer: &mut Mixer, setting: &Setting, ticks: u64)
     }
 }
 
-/// Lets commands none of which is refused act one after another on a mixer, which has the memory for them.
+/// Applies commands, none of which is refused, in order to a mixer that has the memory for them.
 pub(crate) fn settle_all(alloc: Global, mixer: &mut Mixer, cmds: &[Cmd], ticks: u64)
     requires served { All (IsServed mixer.old.channels) cmds.now }
     requires taken { CanTake cmds.now ticks mixer.old }

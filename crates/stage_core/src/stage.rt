@@ -27,14 +27,14 @@ use std::slice;
 
 /// The stage of a server, with the journal of its events.
 ///
-/// Contracts see its journal and the number of its channels. The answer to an event and the scenes of a tick are what the
-/// definitions say of the journal before that event. The time that an event takes grows with the number of live places, of
-/// mixer settings that took place and were not reset, and of its commands, and not with the length of the journal.
+/// Contracts see its journal and the number of its channels. The answer to an event and the scenes of a tick are those that the
+/// definitions give for the journal before that event. The time that an event takes grows with the number of live places, of
+/// mixer settings that were applied and not reset, and of commands of the event, and not with the length of the journal.
 #[derive(Debug, Drop)]
 pub struct Stage {
     journal: Journal,
     live: LiveState,
-    // The live state before a batch, while the batch is judged.
+    // The live state before a batch, while the batch is tested for refusal.
     saved: LiveState,
     mixer: Mixer,
     routes: Routes,
@@ -53,8 +53,8 @@ impl Model for Stage {
 }
 
 impl Stage {
-    /// Creates a stage without events, with the channels of a configuration and the limit of its journal. The memory for all
-    /// live places and waiting settings of each channel is taken.
+    /// Creates a stage without events, with the channels and the journal limit of a configuration, and allocates the memory for
+    /// all live places and waiting settings of each channel.
     pub fn new(alloc: Global, config: &Config) -> Result<Stage, AllocError>
         ensures { IfOk result (λ stage. stage
             ≡ record { journal = record { limit = config.now.journal_limit; events = [] }; channels = length config.now.channels }) }
@@ -69,13 +69,13 @@ impl Stage {
         })
     }
 
-    /// Adds a command to the journal, lets it act, and returns its answer: the value or the statuses that a query asks for,
-    /// and to another command `Refused` if a channel would have more than 64 live places or more than 1,024 waiting
-    /// settings, and `Done` otherwise. A refused command is in the journal too, and changes nothing else.
+    /// Adds a command to the journal, executes it, and returns its answer. The answer to a query is the value or the statuses
+    /// that it asks for. The answer to another command is `Refused` if a channel would have more than 64 live layers or more
+    /// than 1,024 waiting settings, and `Done` otherwise. A refused command is in the journal too, and changes nothing else.
     ///
-    /// Each place, channel and route that the command names is of a channel of the stage. There is a fault if the journal
-    /// holds a stop, which is tested first, then if the journal is full, and then if memory runs out. After a fault the
-    /// stage and its journal are as before.
+    /// Each place, channel and route that the command names must be of a channel of the stage. The call fails if the journal
+    /// holds a stop, which is tested first, then if the journal is full, and then if memory runs out. After a fault the stage
+    /// and its journal are as before.
     pub fn apply(&mut self, alloc: Global, tag: Tag, cmd: Cmd) -> Result<Answer, ApplyFault>
         requires { IsServed self.old.channels cmd }
         ensures answer { IfOk result (λ reply. (setup : Setup) → length setup.channels ≡ self.old.channels →
@@ -101,12 +101,11 @@ impl Stage {
         Ok(reply)
     }
 
-    /// Adds a batch to the journal as one event, and lets its commands act one after another. If one of them is refused
-    /// after the ones before it, the answer is `Refused`, and the batch changes nothing but the journal. Otherwise it is
-    /// `Done`.
+    /// Adds a batch to the journal as one event, and executes its commands in order. If one of them is refused after the ones
+    /// before it, the answer is `Refused`, and the batch changes nothing but the journal. Otherwise the answer is `Done`.
     ///
-    /// The batch is not empty, and its commands are such as [`Stage::apply`] takes. Its faults are those of that call too,
-    /// and the journal is full if it may not hold all commands of the batch.
+    /// The batch must not be empty, and its commands must be such as [`Stage::apply`] accepts. The faults are those of that
+    /// call. The journal is full if it has no room for all commands of the batch.
     pub fn apply_batch(
         &mut self,
         alloc: Global,
@@ -139,11 +138,11 @@ impl Stage {
         Ok(Answer::Done)
     }
 
-    /// Adds a tick to the journal, writes what each channel shows at it into the scenes, and returns the number of the tick.
-    /// The first tick has the number 1. It takes no memory.
+    /// Adds a tick to the journal, writes what each channel shows at that tick into the scenes, and returns the number of the
+    /// tick. The first tick has the number 1.
     ///
-    /// There are as many scenes as the stage has channels. There is a fault if the journal holds a stop, which is tested
-    /// first, and if it holds 281,474,976,710,656 ticks. After a fault the stage, its journal and the scenes are as before.
+    /// There must be as many scenes as the stage has channels. The call fails if the journal holds a stop, which is tested
+    /// first, or 281,474,976,710,656 ticks. After a fault the stage, its journal and the scenes are as before.
     pub fn tick(&mut self, scenes: &mut Scenes) -> Result<u64, TickFault>
         requires { length scenes.old ≡ self.old.channels }
         ensures number { IfOk result (λ number. number ≡ ticks self.old.journal.events + 1) }
@@ -169,8 +168,8 @@ impl Stage {
         Ok(number)
     }
 
-    /// Adds a stop to the journal, which takes no event after it, and returns the number of events before it. If the
-    /// journal already holds a stop, the stage is as before.
+    /// Adds a stop to the journal, which accepts no event after it, and returns the number of events before it. If the journal
+    /// already holds a stop, the call fails, and the stage is as before.
     pub fn stop(&mut self, tag: Tag) -> Result<u64, Ended>
         ensures position { IfOk result (λ at. at ≡ length self.old.journal.events) }
         ensures journal { OnOk result (self.new ≡ after_event (Stop tag) self.old) }
@@ -185,12 +184,12 @@ impl Stage {
         Ok(self.journal.stopped().unwrap())
     }
 
-    /// Returns what a status display shows of a layer: of the one at position `at`, counted from 0, among the layers of a
-    /// channel that have a foreground, in rising number. It returns `None` exactly if no more than `at` layers of the
-    /// channel have a foreground. A channel that the stage lacks has no such layer.
+    /// Returns what a status display shows of a layer: the one at position `at`, counted from 0, among the layers of a channel
+    /// that have a foreground, in rising number. It returns `None` exactly if no more than `at` layers of the channel have a
+    /// foreground. A channel that the stage lacks has no such layer.
     ///
-    /// The layer is as the last event of the journal left it. Its foreground alone is shown: not the content that this
-    /// replaces, and no background, even if that starts at the next tick. It takes no memory.
+    /// The layer is as the last event of the journal left it. Only its foreground is shown: neither the content that the
+    /// foreground replaces in a transition, nor a background, even if that starts at the next tick.
     pub fn seen_layer(&self, channel: u8, at: u8) -> Option<LayerView>
         ensures range { IfSome result (λ seen. at ≤ MAX_LIVE_LAYERS + 2) }
         ensures value { result ≡ slice_get (seen_layers self.now.journal.events channel) at }
@@ -209,8 +208,8 @@ impl Stage {
         &self.journal
     }
 
-    /// Tests whether the journal takes an event of `commands` commands: if it holds no stop, and if its commands and
-    /// these are no more than its limit.
+    /// Tests whether the journal has room for an event of `commands` commands: it holds no stop, and its commands and these are
+    /// no more than its limit.
     fn room_for(&self, commands: usize) -> Result<(), ApplyFault>
         ensures room { OnOk result (HasRoom self.now.journal commands) }
         ensures fault { IfErr result (λ fault. IsNotTaken self.now.journal commands fault) }
@@ -225,7 +224,7 @@ impl Stage {
         Ok(())
     }
 
-    /// Returns the answer to a command that is not refused: the value or the statuses that a query asks for, `Done` to
+    /// Returns the answer to a command that is not refused: the value or the statuses that a query asks for, and `Done` to
     /// another command.
     fn reply(&self, cmd: &Cmd) -> Answer
         requires { IsServed self.now.channels cmd.now }

@@ -1,6 +1,7 @@
--- What a call leaves its pass.
-use Rattle.std.proofs.Common.{◌≡◌, ◌⊎◌, ℕ, ◌+◌, ◌||◌, ◌&&◌, ◌==◌, Bool, true, false, cond, List, [], ◌∷◌, ◌++◌, length, refl, sym, ap, subst, ◌∙◌, inl, inr, eq-eqb}
+-- The pass after a call.
+use Rattle.std.proofs.Common.{◌≡◌, ◌⊎◌, ℕ, ◌+◌, ◌||◌, ◌&&◌, ◌==◌, Bool, true, false, cond, List, [], ◌∷◌, ◌++◌, length, refl, sym, ap, subst, ◌∙◌, inl, inr, eq-eqb, append_assoc}
 use Rattle.std.specs.Prelude.{Result, Ok, Err, IfErr, IfOk, MatchResult, OnErr, OnOk}
+use Rattle.std.proofs.lemmas.List.{append_cancel_left}
 use Rattle.std.proofs.lemmas.Result.{IfErr-weaker, on_err_weaker, on_ok_weaker}
 use Rattle.atomic_table.specs.Seated.{TableId}
 use Rattle.play_types.specs.declared.answer.Answer.{Answer}
@@ -15,16 +16,19 @@ use Rattle.stage_core.specs.Stage.{HasRoom, IsNotTaken, StageView, after_event}
 use Rattle.stage_core.specs.declared.fault.ApplyFault.{ApplyFault}
 use Rattle.stage_lock.specs.Own.{is_final, is_own, made_by}
 use Rattle.stage_lock.specs.declared.ticked.Ticked.{Ticked}
-use Rattle.stage_lock.specs.Views.{PassView, Sizes, journal_of, stage_of}
+use Rattle.stage_lock.specs.Views.{PassView, Sizes, journal_of, stage_of, whole}
 use Rattle.stage_lock.specs.Calls.{Adds, IsAnswered, IsCounted, IsTicked, Looks, added, looked, stop_tag, tag_of}
 use Rattle.stage_lock.specs.Seats.{SeatView, ends_final, grown, holding, pass_view, released}
 use Rattle.stage_lock.specs.Rule.{Seat}
-use Rattle.stage_lock.specs.Steps.{HasEvent, HasWon}
+use Rattle.stage_lock.specs.Steps.{HasEntered, HasEvent, HasWon}
 use Rattle.stage_lock.proofs.Positions.{ends_final-snoc, made_by-other, made_by-own}
 
 -- what was won, by the sizes of the shared stage
-pub journal_is : (m m' : Seat) (c : StageView) (sizes : Sizes) → HasWon m c m' → m.0.sizes ≡ sizes → c.journal ≡ journal_of sizes c.journal.events
-journal_is m m' c sizes won same = ap (λ (x : StageView). x.journal) won.whole ∙ ap (λ (x : Sizes). journal_of x c.journal.events) same
+pub journal_is : (m m' : Seat) (c : StageView) (sizes : Sizes) → (won : HasWon m c m') → m.0.sizes ≡ sizes → c.journal ≡ journal_of sizes won.log
+journal_is m m' c sizes won same = ap (λ (x : StageView). x.journal) won.whole ∙ ap (λ (x : Sizes). journal_of x won.log) same
+
+pub events_are : (m m' : Seat) (c : StageView) (sizes : Sizes) → (won : HasWon m c m') → m.0.sizes ≡ sizes → c.journal.events ≡ whole sizes won.log
+events_are m m' c sizes won same = ap (λ (j : JournalView). j.events) (journal_is m m' c sizes won same)
 
 pub channels_are : (m m' : Seat) (c : StageView) (sizes : Sizes) → HasWon m c m' → m.0.sizes ≡ sizes → c.channels ≡ sizes.channels
 channels_are m m' c sizes won same = ap (λ (x : StageView). x.channels) won.whole ∙ ap (λ (x : Sizes). x.channels) same
@@ -41,13 +45,25 @@ grown_as_added t v log e known =
     go true own = made_by-own v.number log e own ∙ ap (λ l. l ++ length log ∷ []) known
     go false own = made_by-other v.number log e own ∙ known
 
+-- the history that was found, and the event
+log_grew : (m m' n : Seat) (c c' : StageView) (e : Event) → (won : HasWon m c m') → c' ≡ after_event e c → (entered : HasEntered m'.0 c' n) → entered.log ≡ won.log ++ e ∷ []
+log_grew m m' n c c' e won grew entered =
+    let given : List Event = m.0.sizes.given in
+    let found : c.journal.events ≡ given ++ won.log = ap (λ (x : StageView). x.journal.events) won.whole in
+    let same : m'.0.sizes.given ≡ given = ap (λ (x : Seat). x.0.sizes.given) won.after in
+    let left : c'.journal.events ≡ given ++ entered.log = ap (λ (x : StageView). x.journal.events) entered.whole ∙ ap (λ (es : List Event). es ++ entered.log) same in
+    let right : c'.journal.events ≡ given ++ (won.log ++ e ∷ []) =
+    ap (λ (x : StageView). x.journal.events) grew ∙ (ap (λ (es : List Event). es ++ e ∷ []) found ∙ append_assoc given won.log (e ∷ [])) in
+    append_cancel_left given entered.log (won.log ++ e ∷ []) (sym left ∙ right)
+
 -- a call whose event has entered
-adds_at : (t t' : TableId) (m m' n : Seat) (c c' : StageView) (e : Event) (IsTold : List Event → Type 0) → HasWon m c m' → t' ≡ t → c' ≡ after_event e c
-    → n ≡ (released (grown m'.0 c'.journal.events), []) → IsTold c.journal.events → Adds (pass_view t m.0) e IsTold (pass_view t' n.0)
-adds_at t t' m m' n c c' e IsTold won table grew is told =
-    let log : List Event = c.journal.events in
-    let first : pass_view t' n.0 ≡ pass_view t (released (grown m'.0 c'.journal.events)) = λ i. pass_view (table i) (is i).0 in
-    let second : pass_view t (released (grown m'.0 c'.journal.events)) ≡ pass_view t (released (grown (holding m.0 log) (log ++ e ∷ []))) = λ i. pass_view t (released (grown (won.after i).0 (grew i).journal.events)) in
+adds_at : (t t' : TableId) (m m' n : Seat) (c c' : StageView) (e : Event) (IsTold : List Event → Type 0) → (won : HasWon m c m') → t' ≡ t → c' ≡ after_event e c
+    → HasEntered m'.0 c' n → IsTold won.log → Adds (pass_view t m.0) e IsTold (pass_view t' n.0)
+adds_at t t' m m' n c c' e IsTold won table grew entered told =
+    let log : List Event = won.log in
+    let more : entered.log ≡ log ++ e ∷ [] = log_grew m m' n c c' e won grew entered in
+    let first : pass_view t' n.0 ≡ pass_view t (released (grown m'.0 entered.log)) = λ i. pass_view (table i) (entered.after i).0 in
+    let second : pass_view t (released (grown m'.0 entered.log)) ≡ pass_view t (released (grown (holding m.0 log) (log ++ e ∷ []))) = λ i. pass_view t (released (grown (won.after i).0 (more i))) in
     record {
       history = log;
       found = record { seen = won.seen; made = won.made; made_seen = won.made_seen };
@@ -56,24 +72,26 @@ adds_at t t' m m' n c c' e IsTold won table grew is told =
     }
 
 -- a call that left the history as it found it
-looks_at : (t t' : TableId) (m m' n : Seat) (c : StageView) (IsTold : List Event → Type 0) → HasWon m c m' → t' ≡ t
-    → n ≡ (released m'.0, []) → IsTold c.journal.events → Looks (pass_view t m.0) IsTold (pass_view t' n.0)
+pub looks_at : (t t' : TableId) (m m' n : Seat) (c : StageView) (IsTold : List Event → Type 0) → (won : HasWon m c m') → t' ≡ t
+    → n ≡ (released m'.0, []) → IsTold won.log → Looks (pass_view t m.0) IsTold (pass_view t' n.0)
 looks_at t t' m m' n c IsTold won table is told =
     let first : pass_view t' n.0 ≡ pass_view t (released m'.0) = λ i. pass_view (table i) (is i).0 in
-    let second : pass_view t (released m'.0) ≡ looked (pass_view t m.0) c.journal.events = λ i. pass_view t (released (won.after i).0) in
+    let second : pass_view t (released m'.0) ≡ looked (pass_view t m.0) won.log = λ i. pass_view t (released (won.after i).0) in
     record {
-      history = c.journal.events;
+      history = won.log;
       found = record { seen = won.seen; made = won.made; made_seen = won.made_seen };
       told = told;
       after = first ∙ second;
     }
 
--- what a command is told, if f is the event by the pass's number, and e the same by that of its view
-answered_at : (m m' : Seat) (c : StageView) (sizes : Sizes) (f e : Event) (reply : Answer) → HasWon m c m' → m.0.sizes ≡ sizes → f ≡ e → HasRoom c.journal (held_by f)
-    → ((setup : Setup) → length setup.channels ≡ c.channels → answer setup c.journal.events f ≡ StageAnswer.Answered reply) → IsAnswered sizes e reply c.journal.events
+-- the answer to a command, where f is its event with the pass's number, and e the same event with the number of its view
+answered_at : (m m' : Seat) (c : StageView) (sizes : Sizes) (f e : Event) (reply : Answer) → (won : HasWon m c m') → m.0.sizes ≡ sizes → f ≡ e → HasRoom c.journal (held_by f)
+    → ((setup : Setup) → length setup.channels ≡ c.channels → answer setup c.journal.events f ≡ StageAnswer.Answered reply) → IsAnswered sizes e reply won.log
 answered_at m m' c sizes f e reply won same is room replies = record {
-  room = subst (λ (x : Event). HasRoom (journal_of sizes c.journal.events) (held_by x)) is (subst (λ (j : JournalView). HasRoom j (held_by f)) (journal_is m m' c sizes won same) room);
-  reply = λ setup channels. ap (λ (x : Event). answer setup c.journal.events x) (sym is) ∙ replies setup (channels ∙ sym (channels_are m m' c sizes won same));
+  room = subst (λ (x : Event). HasRoom (journal_of sizes won.log) (held_by x)) is (subst (λ (j : JournalView). HasRoom j (held_by f)) (journal_is m m' c sizes won same) room);
+  reply = λ setup channels.
+      let events : whole sizes won.log ≡ c.journal.events = sym (events_are m m' c sizes won same) in
+      (λ i. answer setup (events i) (sym is i)) ∙ replies setup (channels ∙ sym (channels_are m m' c sizes won same));
 }
 
 -- a tick beside which the commands were counted is a tick
@@ -83,36 +101,38 @@ counted_tick old new sizes ticked drawn h = record { history = h.history; found 
 -- the stage that holds one event more than was won
 event_at : (m m' : Seat) (c c' : StageView) (e : Event) → HasWon m c m' → c' ≡ after_event e c → (is_own m.0.number e ≡ true) ⊎ (is_final e ≡ true) → HasEvent m'.0 c'
 event_at m m' c c' e won grew own =
-    subst (λ (x : Seat). HasEvent x.0 c') (sym won.after) record { event = e; own = own; whole = grew ∙ ap (λ (x : StageView). after_event e x) won.whole }
+    let more : after_event e (stage_of m.0.sizes won.log) ≡ stage_of m.0.sizes (won.log ++ e ∷ []) =
+    λ i. record (stage_of m.0.sizes won.log) { journal = record { limit = m.0.sizes.limit; events = append_assoc m.0.sizes.given won.log (e ∷ []) i } } in
+    subst (λ (x : Seat). HasEvent x.0 c') (sym won.after) record { event = e; own = own; whole = grew ∙ (ap (λ (x : StageView). after_event e x) won.whole ∙ more) }
 
--- a stage that was asked for an event, and that is then put back
+-- a stage after a call that adds an event, which is then put back
 module _ {T F : Type 0} (m m' : Seat) (c c' : StageView) (called : Result T F) (won : HasWon m c m') where
-  -- it holds the event if it took it
+  -- it holds the event if the call succeeded
   pub holds_event : (e : Event) → OnOk called (c' ≡ after_event e c) → (is_own m.0.number e ≡ true) ⊎ (is_final e ≡ true) → OnOk called (HasEvent m'.0 c')
   holds_event e grew own = on_ok_weaker called (λ is. event_at m m' c c' e won is own) grew
 
-  -- and is as it was if it did not
+  -- and is as it was if the call failed
   pub stays : OnErr called (c' ≡ c) → OnErr called (c' ≡ stage_of m'.0.sizes m'.0.seen)
   stays same = on_err_weaker called (λ is. is ∙ subst (λ (x : Seat). c ≡ stage_of x.0.sizes x.0.seen) (sym won.after) won.whole) same
 
   -- a call that asked for an event, by what the stage answered
   pub called_at : (t t' : TableId) (n : Seat) (e : Event) (IsTold : T → List Event → Type 0) (IsRefused : F → List Event → Type 0) (given : Result T F) → t' ≡ t → given ≡ called
-      → OnOk called (c' ≡ after_event e c) → OnOk called (n ≡ (released (grown m'.0 c'.journal.events), [])) → OnErr called (n ≡ (released m'.0, []))
-      → IfOk called (λ answered. IsTold answered c.journal.events) → IfErr called (λ fault. IsRefused fault c.journal.events)
+      → OnOk called (c' ≡ after_event e c) → OnOk called (HasEntered m'.0 c' n) → OnErr called (n ≡ (released m'.0, []))
+      → IfOk called (λ answered. IsTold answered won.log) → IfErr called (λ fault. IsRefused fault won.log)
       → MatchResult given (λ answered. Adds (pass_view t m.0) e (IsTold answered) (pass_view t' n.0)) (λ fault. Looks (pass_view t m.0) (IsRefused fault) (pass_view t' n.0))
   called_at t t' n e IsTold IsRefused given table is grew entered kept told refused =
       subst (λ (r : Result T F). MatchResult r (λ answered. Adds (pass_view t m.0) e (IsTold answered) (pass_view t' n.0)) (λ fault. Looks (pass_view t m.0) (IsRefused fault) (pass_view t' n.0)))
       (sym is) (by_answer called grew entered kept told refused)
     where
-      by_answer : (r : Result T F) → OnOk r (c' ≡ after_event e c) → OnOk r (n ≡ (released (grown m'.0 c'.journal.events), [])) → OnErr r (n ≡ (released m'.0, []))
-          → IfOk r (λ answered. IsTold answered c.journal.events) → IfErr r (λ fault. IsRefused fault c.journal.events)
+      by_answer : (r : Result T F) → OnOk r (c' ≡ after_event e c) → OnOk r (HasEntered m'.0 c' n) → OnErr r (n ≡ (released m'.0, []))
+          → IfOk r (λ answered. IsTold answered won.log) → IfErr r (λ fault. IsRefused fault won.log)
           → MatchResult r (λ answered. Adds (pass_view t m.0) e (IsTold answered) (pass_view t' n.0)) (λ fault. Looks (pass_view t m.0) (IsRefused fault) (pass_view t' n.0))
       by_answer (Ok answered) grew entered kept told refused = adds_at t t' m m' n c c' e (IsTold answered) won table grew entered told
       by_answer (Err fault) grew entered kept told refused = looks_at t t' m m' n c (IsRefused fault) won table kept refused
 
--- a call for a command or a batch, if f is the event by the pass's number, and e the same by that of its view
-pub asked_at : (t t' : TableId) (m m' n : Seat) (c c' : StageView) (sizes : Sizes) (f e : Event) (called given : Result Answer ApplyFault) → HasWon m c m' → t' ≡ t → m.0.sizes ≡ sizes → f ≡ e → given ≡ called
-    → OnOk called (c' ≡ after_event f c) → OnOk called (n ≡ (released (grown m'.0 c'.journal.events), [])) → OnErr called (n ≡ (released m'.0, []))
+-- a call for a command or a batch, where f is its event with the pass's number, and e the same event with that of its view
+pub asked_at : (t t' : TableId) (m m' n : Seat) (c c' : StageView) (sizes : Sizes) (f e : Event) (called given : Result Answer ApplyFault) → (won : HasWon m c m') → t' ≡ t → m.0.sizes ≡ sizes → f ≡ e → given ≡ called
+    → OnOk called (c' ≡ after_event f c) → OnOk called (HasEntered m'.0 c' n) → OnErr called (n ≡ (released m'.0, []))
     → OnOk called (HasRoom c.journal (held_by f)) → IfOk called (λ reply. (setup : Setup) → length setup.channels ≡ c.channels → answer setup c.journal.events f ≡ StageAnswer.Answered reply)
     → IfErr called (λ fault. IsNotTaken c.journal (held_by f) fault)
     → MatchResult given (λ reply. Adds (pass_view t m.0) e (IsAnswered sizes e reply) (pass_view t' n.0)) (λ fault. Looks (pass_view t m.0) (λ history. IsNotTaken (journal_of sizes history) (held_by f) fault) (pass_view t' n.0))
@@ -123,7 +143,7 @@ asked_at t t' m m' n c c' sizes f e called given won table same is returned grew
     (IfErr-weaker called _ _ (λ fault h. subst (λ (j : JournalView). IsNotTaken j (held_by f) fault) (journal_is m m' c sizes won same) h) cause)
   where
     told : (r : Result Answer ApplyFault) → OnOk r (HasRoom c.journal (held_by f)) → IfOk r (λ reply. (setup : Setup) → length setup.channels ≡ c.channels → answer setup c.journal.events f ≡ StageAnswer.Answered reply)
-        → IfOk r (λ reply. IsAnswered sizes e reply c.journal.events)
+        → IfOk r (λ reply. IsAnswered sizes e reply won.log)
     told (Ok reply) room replies = answered_at m m' c sizes f e reply won same is room replies
     told (Err fault) room replies = tt
 

@@ -8,8 +8,8 @@ use Rattle.atomic_table.proofs.Lists.{at_last, at_longer}
 use Rattle.play_types.specs.declared.event.Event.{Event}
 use Rattle.stage_core.specs.Stage.{StageView}
 use Rattle.stage_lock.specs.Own.{is_final, is_own, made_by, owner}
-use Rattle.stage_lock.specs.Views.{PassView, SharedView}
-use Rattle.stage_lock.specs.Closing.{AreAll, Closes, IsOf, SomeEnds, StandsOnce}
+use Rattle.stage_lock.specs.Views.{PassView, SharedView, Sizes, stage_of}
+use Rattle.stage_lock.specs.Closing.{AreAll, Closes, IsLeft, IsOf, SomeEnds, StandsOnce}
 use Rattle.stage_lock.specs.Seats.{KeptPass, SeatView, holding, kept_of, pass_view}
 use Rattle.stage_lock.specs.Rule.{IsTold, Seat, WhoEnded, by_another, by_itself, by_one_kept}
 use Rattle.stage_lock.specs.Steps.{HasTaken, HasWon}
@@ -133,18 +133,19 @@ module _ (stage : SharedView) (qs : List PassView) (p : PassView) (v : SeatView)
   closing : Closes passes log
   closing = record { each = each_is; once = once; ends = λ f. some_ends (c.told.ended f) }
 
--- the passes are closed: the last one has taken in the others, has won the turn, and was told
+-- the passes are closed: the last one has taken in the others, has won the turn, and has read the length
 pub closes : (stage : SharedView) (ps qs : List PassView) (p : PassView) (t : TableId) (v : SeatView) (m n : Seat) (c : StageView) → AreAll stage ps → ps ≡ qs ++ p ∷ [] → pass_view t v ≡ p
-    → HasTaken qs v m.0 → HasWon m c n → IsTold n.0 → Closes ps c.journal.events
-closes stage ps qs p t v m n c all whole is taken won told =
-    let log : List Event = c.journal.events in
+    → HasTaken qs v m.0 → HasWon m c n → IsTold n.0 → IsLeft stage ps c
+closes stage ps qs p t v m n c all all_are is taken won told =
+    let log : List Event = won.log in
     let told' : IsTold (holding m.0 log) = subst IsTold (ap (λ (x : Seat). x.0) won.after) told in
-    let all' : AreAll stage (qs ++ p ∷ []) = subst (AreAll stage) whole all in
+    let all' : AreAll stage (qs ++ p ∷ []) = subst (AreAll stage) all_are all in
     let w : SeatView = holding m.0 log in
     let own : kept_of p ≡ record { number = w.number; made = w.made; ends = w.ends } = ap kept_of (sym is) ∙ sym (λ i. record { number = (taken.after i).number; made = (taken.after i).made; ends = (taken.after i).ends }) in
     let first : p.stage ≡ stage = all'.each (length qs) p (at_last qs p (length qs) refl) in
     let sizes : w.sizes ≡ stage.sizes = ap (λ (x : SeatView). x.sizes) taken.after ∙ (ap (λ (x : PassView). x.stage.sizes) is ∙ ap (λ (s : SharedView). s.sizes) first) in
-    subst (λ (l : List PassView). Closes l log) (sym whole)
+    let closed : Closes ps log =
+    subst (λ (l : List PassView). Closes l log) (sym all_are)
     (closing stage qs p w log record {
       all = all';
       own = own;
@@ -155,4 +156,5 @@ closes stage ps qs p t v m n c all whole is taken won told =
           (λ (new : (i ≡ length qs) × (p ≡ q)). subst (λ (x : PassView). IsPrefix x.seen log) (is ∙ new.1) (prefix_trans v.seen m.0.seen log taken.seen won.seen))
           (at_new qs p q i at);
       told = told';
-    })
+    }) in
+    record { history = log; whole = won.whole ∙ ap (λ (s : Sizes). stage_of s log) sizes; closes = closed }

@@ -29,7 +29,7 @@ any_at q (x ∷ xs) h = go (eqb q x) refl h (λ t. any_at q xs t)
     go true is h rec = let same : x ≡ q = grind (arith, nat_tests) in (0, ap (λ (z : ℕ). some z) same)
     go false is h rec = let t = rec h in (suc t.0, t.1)
 
--- a number stands in a list, or it does not
+-- a number is in a list, or it is not
 stands : (n : ℕ) (xs : List ℕ) → ((i : ℕ) × (get_elem? xs i ≡ some n)) ⊎ ((i x : ℕ) → get_elem? xs i ≡ some x → x ≢ n)
 stands n [] = inr (λ i x e. absurd (some-ne-none x (sym e)))
 stands n (x ∷ xs) =

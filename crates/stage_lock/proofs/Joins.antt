@@ -184,7 +184,7 @@ spent_fits sizes now j = record {
   holds = λ e. off e;
 }
 
--- a pass is told of a note
+-- a pass takes in a note
 pub meets : (sizes : Sizes) (id : ℕ) (v : SeatView) (other : ℕ) (w : SeatView) → v.holds ≡ false → w.is_pass ≡ false → Joins (Ruled sizes) id v other w (met v w) spent
 meets sizes id v other w rests note s r at apart there =
     let now : Moment = record { log = r.log; turn = get_or s.words 1 0; by = r.by; count = r.count } in
@@ -211,7 +211,7 @@ data KeptFrom (views : List SeatView) (id : ℕ) (w : SeatView) (i a : ℕ) (k :
   moved : (b : ℕ) → i ≡ id → a ≡ suc b → Keeps views i b k → KeptFrom views id w i a k
   stayed : i ≢ id → Keeps views i a k → KeptFrom views id w i a k
 
--- a pass takes another in
+-- a pass takes in another
 pub absorbs : (sizes : Sizes) (id : ℕ) (v : SeatView) (other : ℕ) (w : SeatView) → v.is_pass ≡ true → v.holds ≡ false → w.is_pass ≡ true → w.kept ≡ [] → Joins (Ruled sizes) id v other w (absorbed v w) spent
 absorbs sizes id v other w pass rests pass_too none_kept s r at apart there =
     record {

@@ -11,9 +11,10 @@ use Rattle.atomic_table.proofs.Lists.{at_snoc}
 use Rattle.play_types.specs.declared.event.Event.{Event}
 use Rattle.stage_core.specs.Stage.{StageView}
 use Rattle.stage_lock.specs.Own.{has_final, is_final, is_own, made_by, owner}
-use Rattle.stage_lock.specs.Views.{Sizes, sizes_of, stage_of}
+use Rattle.stage_lock.specs.Views.{Sizes, sizes_of, stage_of, whole}
 use Rattle.stage_lock.specs.Seats.{KeptPass, SeatView, ends_final, first_view, grown, holding, released, settled}
 use Rattle.stage_lock.specs.Rule.{Counts, EntersEvent, Fits, GivesTurn, IsAt, IsKept, Keeps, Ruled, Seat, Settles, SomeoneEnded, Table, TakesTurn, WhoEnded, by_another, by_itself, by_kept, by_one_kept, by_pass, journal_in}
+use Rattle.std.proofs.lemmas.List.{append-nil}
 use Rattle.stage_lock.proofs.Prefixes.{prefix_self, prefix_trans}
 use Rattle.stage_lock.proofs.Positions.{made_by-other, not_own, own_owner, has_final-snoc, ends_final-snoc}
 use Rattle.stage_lock.proofs.Views.{WasPass, apart_still, at_one, each_set, ended_still, off, one_home, set_at, set_same, still_set, was_set}
@@ -56,7 +57,7 @@ module _ (sizes : Sizes) where
       retold s r (set s.views id w) (was_set s.views id v w at (λ p. (sym pass ∙ p, number, kept))) ws hs log by wide counted
       (each_set (Fits sizes (record { log = log; turn = get_or ws 1 0; by = by; count = r.count })) s.views id w mine others) owned ended home
 
-  -- the rule after one view has changed, which says no more
+  -- the rule after one view has changed to one that knows no more
   pub unmoved : (s : Table) (r : Ruled sizes s) (id : ℕ) (v w : SeatView) → get_elem? s.views id ≡ some v → w.is_pass ≡ v.is_pass → w.number ≡ v.number → w.kept ≡ v.kept → (v.ends ≡ true → w.ends ≡ true)
       → Fits sizes (record { log = r.log; turn = get_or s.words 1 0; by = r.by; count = r.count }) id w
       → (i : ℕ) (c : List (ℕ × Option StageView)) → Ruled sizes (stepped s i (get_or s.words i 0) id c w keeps)
@@ -113,7 +114,7 @@ module _ (sizes : Sizes) where
         ((λ free. absurd (taken free)), λ _. refl),
       ))
 
-  -- what the rule says to a holder of the turn of who ended the history
+  -- who ended the history, as the holder of the turn learns it from the rule
   who_ended : (s : Table) (r : Ruled sizes s) (id : ℕ) (v : SeatView) → IsAt s.views id v → SomeoneEnded s.views → WhoEnded v
   who_ended s r id v mine (by_pass j x a e) =
       let p = (r.each id v mine.at).pass mine.pass in
@@ -232,7 +233,7 @@ module _ (sizes : Sizes) where
       )
 
   -- an event enters the history
-  pub enters : (slots id : ℕ) (m : Seat) (e : Event) → m.0.is_pass ≡ true → m.0.holds ≡ true → journal_in m.1 ≡ m.0.seen ++ e ∷ [] → length m.0.seen + 1 < 18446744073709551616
+  pub enters : (slots id : ℕ) (m : Seat) (e : Event) → m.0.is_pass ≡ true → m.0.holds ≡ true → journal_in m.1 ≡ whole m.0.sizes (m.0.seen ++ e ∷ []) → length m.0.seen + 1 < 18446744073709551616
       → (is_own m.0.number e ≡ true) ⊎ (is_final e ≡ true) → Allows (Ruled sizes) slots id m 0 (λ n. (n + 1) % 2 ^ 64) (EntersEvent (step slots 0 1 0 none) m)
   enters slots id m e pass holds has small own s r _ at _ =
       let v : SeatView = m.0 in
@@ -255,11 +256,10 @@ module _ (sizes : Sizes) where
       let mine : IsAt s.views id v = record { at = at; pass = pass } in
       let stays : (k : ℕ) (l : List ℕ) → k ≢ v.number → l ≡ made_by k r.log → l ≡ made_by k es = λ k l ne is. is ∙ (ap (made_by k) (sym log) ∙ sym (made_by-other k v.seen e (not_own v.number k e ne own))) in
       let keeps_on : (j : ℕ) (u : SeatView) → IsAt s.views j u → (i : ℕ) (k : KeptPass) → get_elem? u.kept i ≡ some k → IsKept r.log r.count k → IsKept es r.count k = λ j u a i k x q. record { made = stays k.number k.made (r.apart.kept j i id k v (record { v = u; at = a; kept = x }) mine) q.made; number = q.number } in (
-        grown v (journal_in m.1),
+        w,
         keeps,
         tt,
-        subst (λ (l : List Event). Ruled sizes (stepped s 0 ((n + 1) % 18446744073709551616) id m.1 (grown v l) keeps)) (sym has)
-            (rebuilt s r id v w at refl refl refl ws s.homes es id (length-set s.words 0 ((n + 1) % 18446744073709551616) ∙ wide) first
+        rebuilt s r id v w at refl refl refl ws s.homes es id (length-set s.words 0 ((n + 1) % 18446744073709551616) ∙ wide) first
             (record {
               seen = prefix_self es;
               olds = λ i o x. prefix_trans o v.seen es (f.olds i o x) before;
@@ -283,8 +283,8 @@ module _ (sizes : Sizes) where
             (λ (old : has_final v.seen ≡ true). ended_still (set s.views id w) s.views (still_set s.views id v w at refl (λ y. ap (λ b. b || ends_final es) y) refl) (r.ended (ap has_final (sym log) ∙ old)))
             (λ (new : is_final e ≡ true). by_pass id w (record { at = set_at s.views id v w at; pass = pass }) (or_true v.ends (ends_final es) (ends_final-snoc v.seen e ∙ new)))
             (has_final-snoc v.seen e l))
-            (λ z. let one : t ≡ 1 = h.turn in absurd (omega arith))),
-        refl,
+            (λ z. let one : t ≡ 1 = h.turn in absurd (omega arith)),
+        record { log = es; journal = has; after = refl },
       )
     where
       or_true : (a b : Bool) → b ≡ true → (a || b) ≡ true
@@ -292,9 +292,9 @@ module _ (sizes : Sizes) where
       or_true false b h = h
 
 -- the table at the start
-pub opens : (stage : StageView) (passes : ℕ) → stage.journal.events ≡ [] → 0 < passes
+pub opens : (stage : StageView) (passes : ℕ) → 0 < passes
     → Ruled (sizes_of stage passes) (opening (0 ∷ 0 ∷ []) (Some stage ∷ []) (first_view (sizes_of stage passes)))
-opens stage passes empty many = record {
+opens stage passes many = record {
   log = [];
   by = 0;
   count = 1;
@@ -309,7 +309,10 @@ opens stage passes empty many = record {
   };
   owned = λ i e at _. absurd (some-ne-none e (sym at));
   ended = λ e. off e;
-  home = λ _. λ i. some (some (Some (record { journal = record { limit = stage.journal.limit; events = empty i }; channels = stage.channels })));
+  home = λ _.
+      let events : List Event = stage.journal.events in
+      let same : events ≡ whole sizes [] = sym (append-nil events) in
+      λ i. some (some (Some (record { journal = record { limit = stage.journal.limit; events = same i }; channels = stage.channels })));
 }
   where
     sizes : Sizes

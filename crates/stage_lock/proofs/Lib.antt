@@ -1,7 +1,7 @@
+pub mod Given
 pub mod Prefixes
 pub mod Positions
 pub mod Views
-pub mod Few
 pub mod Keeps
 pub mod Joins
 pub mod Steps

@@ -1,4 +1,4 @@
--- A pass takes others in.
+-- A pass takes in others.
 use Rattle.std.proofs.Common.{zero, suc, ◌≡◌, ℕ, List, [], ◌∷◌, map, sym, ap, subst, ◌∙◌}
 use mathlib.Core.List.{IsPrefix}
 use mathlib.Core.Option.{some, some-injective, some-ne-none}

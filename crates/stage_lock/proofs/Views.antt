@@ -28,7 +28,7 @@ one_home (x ∷ xs) a h = refl
 pub at_one : {A : Type 0} (l : List A) (i : ℕ) (a b : A) → get_elem? l i ≡ some a → get_elem? l i ≡ some b → a ≡ b
 at_one l i a b p q = some-injective a b (sym p ∙ q)
 
--- what stands in a list with one more at its end
+-- the elements of a list with one more at its end
 pub at_new : {A : Type 0} (l : List A) (a b : A) (j : ℕ) → get_elem? (l ++ a ∷ []) j ≡ some b → (get_elem? l j ≡ some b) ⊎ ((j ≡ length l) × (a ≡ b))
 at_new [] a b zero e = inr (refl, some-injective a b e)
 at_new [] a b (suc j) e = absurd (some-ne-none b (sym e))
@@ -96,7 +96,7 @@ still_else views id v w at note j x a =
 pub still_more : (views : List SeatView) (w : SeatView) → IsPassStill views (views ++ w ∷ [])
 still_more views w j x a = (x, record { at = at_longer views (w ∷ []) j x a.at; pass = a.pass }, (λ e. e), refl)
 
--- what is said of each view, if one is set
+-- a property of each view holds after one view is set
 pub each_set : (P : ℕ → SeatView → Type 0) (views : List SeatView) (id : ℕ) (w : SeatView) → P id w → ((j : ℕ) (u : SeatView) → j ≢ id → get_elem? views j ≡ some u → P j u)
     → (j : ℕ) (u : SeatView) → get_elem? (set views id w) j ≡ some u → P j u
 each_set P views id w mine others j u e =

@@ -1,4 +1,5 @@
--- What a call finds of the history, and what its pass has seen and made after it.
+-- What a call finds of the history, and what its pass has seen and made after it. The history is what came since the stage was
+-- shared. The answers of the stage depend on all events: those that it was given, and then the history.
 use Rattle.std.specs.Prelude.{◌≡◌, ℕ, ◌+◌, false, List, [], ◌∷◌, ◌++◌, ◌==◌, ◌||◌, None, nat_lt, if◌then◌else◌, length, map}
 use Rattle.std.specs.List.{range_with_len}
 use mathlib.Core.List.{IsPrefix}
@@ -13,7 +14,7 @@ use Rattle.history_model.specs.stage.Answer.{StageAnswer, answer}
 use Rattle.stage_core.specs.Stage.{HasRoom, HasTime}
 use Rattle.stage_lock.specs.declared.ticked.Ticked.{Ticked}
 use Rattle.stage_lock.specs.Own.{is_final, is_own, made_by}
-use Rattle.stage_lock.specs.Views.{PassView, SharedView, Sizes, journal_of}
+use Rattle.stage_lock.specs.Views.{PassView, SharedView, Sizes, journal_of, whole}
 
 -- a pass that was just made: it has seen nothing
 abbrev pub new_pass : SharedView → ℕ → PassView
@@ -42,14 +43,14 @@ added pass history event = record pass {
   ends = pass.ends || is_final event;
 }
 
--- a call won the turn once, found a history of which this is told, and left it as it is
+-- a call won the turn once, found a history with the property IsTold, and left it as it is
 pub record Looks (old : PassView) (IsTold : List Event → Type 0) (new : PassView) : Type 0 where
   pub history : List Event
   pub found : IsFound old history
   pub told : IsTold history
   pub after : new ≡ looked old history
 
--- a call won the turn once, found a history of which this is told, and added this one event to it
+-- a call won the turn once, found a history with the property IsTold, and added this one event to it
 pub record Adds (old : PassView) (event : Event) (IsTold : List Event → Type 0) (new : PassView) : Type 0 where
   pub history : List Event
   pub found : IsFound old history
@@ -64,27 +65,27 @@ tag_of number session = record { worker = number; session = session }
 abbrev pub stop_tag : ℕ → ℕ → Tag
 stop_tag number session = if session == 0 then tag_of 0 0 else tag_of number session
 
--- a command or a batch is taken after a history, and this is its answer there, whatever the media and the formats of the
--- channels are
+-- a command or a batch is accepted after a history, and this is its answer, whatever the media and the formats of the channels
+-- are
 pub record IsAnswered (sizes : Sizes) (event : Event) (answered : Answer) (history : List Event) : Type 0 where
   pub room : HasRoom (journal_of sizes history) (held_by event)
-  pub reply : (setup : Setup) → length setup.channels ≡ sizes.channels → answer setup history event ≡ StageAnswer.Answered answered
+  pub reply : (setup : Setup) → length setup.channels ≡ sizes.channels → answer setup (whole sizes history) event ≡ StageAnswer.Answered answered
 
--- a tick is taken after a history, and this is its number and these are its scenes
+-- a tick is accepted after a history, and this is its number and these are its scenes
 pub record IsTicked (sizes : Sizes) (ticked : ℕ) (drawn : List (List Drawn)) (history : List Event) : Type 0 where
   pub time : HasTime (journal_of sizes history)
-  pub number : ticked ≡ ticks history + 1
-  pub scenes : drawn ≡ map (scene history) (range_with_len 1 sizes.channels)
+  pub number : ticked ≡ ticks (whole sizes history) + 1
+  pub scenes : drawn ≡ map (scene (whole sizes history)) (range_with_len 1 sizes.channels)
 
--- a tick is taken after a history, and these are its number, how many commands the history holds, and its scenes
+-- a tick is accepted after a history, and these are its number, how many commands the journal holds, and its scenes
 pub record IsCounted (sizes : Sizes) (ticked : Ticked) (drawn : List (List Drawn)) (history : List Event) : Type 0 where
   pub tick : IsTicked sizes ticked.number drawn history
-  pub held : ticked.held ≡ held history
+  pub held : ticked.held ≡ held (whole sizes history)
 
--- a stop is taken after a history, and this is its position
-pub record IsStopped (at : ℕ) (history : List Event) : Type 0 where
-  pub running : stop_at history ≡ None
-  pub position : at ≡ length history
+-- a stop is accepted after the events that the stage was given and a history, and this is its position among all events
+pub record IsStopped (given : List Event) (at : ℕ) (history : List Event) : Type 0 where
+  pub running : stop_at (given ++ history) ≡ None
+  pub position : at ≡ length (given ++ history)
 
 -- the longer of two histories
 abbrev pub longer : List Event → List Event → List Event

@@ -5,27 +5,28 @@ use mathlib.Core.Option.{some}
 use lib.ListN.{get_elem?}
 use Rattle.play_types.specs.declared.event.Event.{Event}
 use Rattle.stage_lock.specs.Own.{has_final, is_final, made_by}
-use Rattle.stage_lock.specs.Views.{PassView, SharedView}
+use Rattle.stage_core.specs.Stage.{StageView}
+use Rattle.stage_lock.specs.Views.{PassView, SharedView, stage_of}
 
--- the list holds every pass of a shared stage: each is of it, and they are as many as it has
+-- the list holds every pass of a shared stage: each belongs to it, and they are as many as it has
 pub record AreAll (stage : SharedView) (passes : List PassView) : Type 0 where
   pub each : (k : ℕ) (pass : PassView) → get_elem? passes k ≡ some pass → pass.stage ≡ stage
   pub many : length passes ≡ stage.sizes.passes
 
--- what a pass has seen and made is of this history
+-- a pass has seen a prefix of this history, made exactly its own events in it, and has a number below that of the passes
 pub record IsOf (history : List Event) (passes : ℕ) (pass : PassView) : Type 0 where
   pub seen : IsPrefix pass.seen history
   pub made : pass.made ≡ made_by pass.number history
   pub number : pass.number < passes
 
--- a position stands in what the k-th pass made
+-- the k-th pass made the event at this position
 pub record StandsIn (position : ℕ) (passes : List PassView) (k : ℕ) : Type 0 where
   pub pass : PassView
   pub at : get_elem? passes k ≡ some pass
   pub place : ℕ
   pub made : get_elem? pass.made place ≡ some position
 
--- a position stands in what exactly one pass made
+-- exactly one pass made the event at this position
 pub record StandsOnce (position : ℕ) (passes : List PassView) : Type 0 where
   pub k : ℕ
   pub stands : StandsIn position passes k
@@ -44,3 +45,9 @@ pub record Closes (passes : List PassView) (history : List Event) : Type 0 where
   pub each : (k : ℕ) (pass : PassView) → get_elem? passes k ≡ some pass → IsOf history (length passes) pass
   pub once : (position : ℕ) (event : Event) → get_elem? history position ≡ some event → is_final event ≡ false → StandsOnce position passes
   pub ends : has_final history ≡ true → SomeEnds passes
+
+-- what closing a shared stage leaves: the stage after a history, which the passes have seen and made
+pub record IsLeft (shared : SharedView) (passes : List PassView) (stage : StageView) : Type 0 where
+  pub history : List Event
+  pub whole : stage ≡ stage_of shared.sizes history
+  pub closes : Closes passes history

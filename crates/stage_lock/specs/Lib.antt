@@ -5,3 +5,4 @@ pub mod Closing
 pub mod Seats
 pub mod Rule
 pub mod Steps
+pub mod Worked

@@ -1,4 +1,4 @@
--- Whose own an event is, and at which positions of a history a pass's own events stand.
+-- Which pass an event belongs to, and the positions of a pass's own events in a history.
 use Rattle.std.specs.Prelude.{ℕ, suc, ◌==◌, ◌&&◌, ◌||◌, Bool, false, List, [], ◌∷◌, cond}
 use Rattle.play_types.specs.declared.event.Event.{Event}
 use Rattle.play_types.specs.declared.event.Event.TheVariants.{Do, Batch, Tick, Stop}

@@ -1,5 +1,5 @@
--- The rule of the shared stage, and what each step tells.
--- Word 0 is the length of the history, and word 1 is the turn: 0 while it is free. Slot 0 has the stage.
+-- The rule of the shared stage, and what each step establishes.
+-- Word 0 is the length of the history since the stage was shared, and word 1 is the turn: 0 while it is free. Slot 0 has the stage.
 use Rattle.std.specs.Prelude.{◌≡◌, ◌≢◌, ℕ, ◌<◌, ◌≤◌, true, false, List, [], ◌∷◌, length, slice_index, Option, Some, None}
 use mathlib.Core.Option.{some}
 use mathlib.Core.List.{IsPrefix}
@@ -8,7 +8,7 @@ use Rattle.atomic_table.specs.Table.{Me, State, Step, rest}
 use Rattle.play_types.specs.declared.event.Event.{Event}
 use Rattle.stage_core.specs.Stage.{StageView}
 use Rattle.stage_lock.specs.Own.{has_final, is_final, made_by, owner}
-use Rattle.stage_lock.specs.Views.{Sizes, stage_of}
+use Rattle.stage_lock.specs.Views.{Sizes, stage_of, whole}
 use Rattle.stage_lock.specs.Seats.{KeptPass, SeatView, grown, holding, released, settled}
 
 -- the table of a shared stage
@@ -26,12 +26,12 @@ pub record Moment : Type 0 where
   pub by : ℕ
   pub count : ℕ
 
--- what is kept of a pass is of the history
+-- a kept pass made exactly its own events in the history, and has a number below that of the passes
 pub record IsKept (log : List Event) (count : ℕ) (k : KeptPass) : Type 0 where
   pub made : k.made ≡ made_by k.number log
   pub number : k.number < count
 
--- what a pass knows is of the history
+-- what a pass knows agrees with the history
 pub record IsPass (sizes : Sizes) (log : List Event) (many : ℕ) (v : SeatView) : Type 0 where
   pub same : v.sizes ≡ sizes
   pub made : v.made ≡ made_by v.number log
@@ -47,7 +47,7 @@ pub record IsHolder (now : Moment) (j : ℕ) (v : SeatView) : Type 0 where
   pub seen : v.seen ≡ now.log
   pub pass : v.is_pass ≡ true
 
--- what the rule says of seat j
+-- what the rule requires of seat j
 pub record Fits (sizes : Sizes) (now : Moment) (j : ℕ) (v : SeatView) : Type 0 where
   pub seen : IsPrefix v.seen now.log
   pub olds : (i : ℕ) (o : List Event) → get_elem? v.olds i ≡ some o → IsPrefix o v.seen
@@ -96,7 +96,7 @@ journal_in [] = []
 journal_in ((k, Some stage) ∷ slots) = stage.journal.events
 journal_in ((k, None) ∷ slots) = []
 
--- a seat wins the turn and finds this history, with which the stage is in its hands
+-- a seat wins the turn, finds this history, and takes the stage out
 pub record WinsTurn (m : Seat) (n : Seat) : Type 0 where
   pub log : List Event
   pub seen : IsPrefix m.0.seen log
@@ -108,27 +108,33 @@ pub record WinsTurn (m : Seat) (n : Seat) : Type 0 where
 abbrev pub TakesTurn : Step (Option StageView) → Seat → ℕ → Seat → Type 0
 TakesTurn step m found n = (found ≡ 0 → WinsTurn m n) × (found ≢ 0 → n ≡ m)
 
+-- the history is now the one that the stage's journal has since the stage was shared
+pub record Enters (m : Seat) (n : Seat) : Type 0 where
+  pub log : List Event
+  pub journal : journal_in m.1 ≡ whole m.0.sizes log
+  pub after : n ≡ (grown m.0 log, m.1)
+
 -- the last event of the stage's journal has entered the history
 abbrev pub EntersEvent : Step (Option StageView) → Seat → ℕ → Seat → Type 0
-EntersEvent step m found n = n ≡ (grown m.0 (journal_in m.1), m.1)
+EntersEvent step m found n = Enters m n
 
--- the turn is given up, with the stage at home
+-- the turn is given up, with the stage back in its slot
 abbrev pub GivesTurn : Step (Option StageView) → Seat → ℕ → Seat → Type 0
 GivesTurn step m found n = n ≡ (released m.0, rest m.1)
 
--- a number below that of the passes that is not a pass's own, nor that of one it keeps
+-- a number below that of the passes that is neither a pass's own nor that of one it keeps
 pub record IsElsewhere (v : SeatView) (n : ℕ) : Type 0 where
   pub number : n < v.sizes.passes
   pub other : n ≢ v.number
   pub not_kept : (i : ℕ) (k : KeptPass) → get_elem? v.kept i ≡ some k → k.number ≢ n
 
--- who made the stop of tag 0.0, to a pass: itself, one that it keeps, or one that is elsewhere
+-- who made the stop of tag 0.0, as a pass knows it: itself, one that it keeps, or one that is elsewhere
 pub data WhoEnded (v : SeatView) : Type 0 where
   by_itself : v.ends ≡ true → WhoEnded v
   by_one_kept : (i : ℕ) (k : KeptPass) → get_elem? v.kept i ≡ some k → k.ends ≡ true → WhoEnded v
   by_another : (n : ℕ) → IsElsewhere v n → WhoEnded v
 
--- what the holder of the turn is told of the history that it has seen, and of the passes that it keeps
+-- what holds of the history that the holder of the turn has seen, and of the passes that it keeps
 pub record IsTold (v : SeatView) : Type 0 where
   pub made : v.made ≡ made_by v.number v.seen
   pub number : v.number < v.sizes.passes

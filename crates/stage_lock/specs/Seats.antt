@@ -1,4 +1,4 @@
--- What a seat of the table knows: that of a pass, and that of a note.
+-- What a seat of the table knows, for a pass and for a note.
 use Rattle.std.specs.Prelude.{ℕ, ◌+◌, Bool, true, false, List, [], ◌∷◌, ◌||◌}
 use Rattle.atomic_table.specs.Seated.{TableId}
 use Rattle.play_types.specs.declared.event.Event.{Event}
@@ -55,7 +55,7 @@ newcomer sizes number = record {
   olds = [];
 }
 
--- pass 0 if `count` passes were made
+-- pass 0 when `count` passes were made
 abbrev pub first_of : Sizes → ℕ → SeatView
 first_of sizes count = record (newcomer sizes 0) { count = count }
 
@@ -85,7 +85,7 @@ released v = record v { holds = false }
 abbrev pub settled : SeatView → SeatView
 settled v = record v { olds = [] }
 
--- pass 0 has made one pass more
+-- pass 0 after it has made one pass more
 abbrev pub enrolled : SeatView → SeatView
 enrolled v = record v { count = v.count + 1 }
 
@@ -95,9 +95,9 @@ noted sizes history = record (newcomer sizes 0) { is_pass = false; seen = histor
 
 -- a seat that was joined to another
 abbrev pub spent : SeatView
-spent = noted (record { limit = 0; channels = 0; passes = 0 }) []
+spent = noted (record { limit = 0; channels = 0; passes = 0; given = [] }) []
 
--- a pass that was told of a note
+-- a pass that has taken in a note
 abbrev pub met : SeatView → SeatView → SeatView
 met v w = record v { seen = longer v.seen w.seen; olds = v.seen ∷ w.seen ∷ [] }
 

@@ -1,4 +1,4 @@
--- What the steps of a call leave its seat.
+-- The seat of a pass after the steps of a call.
 use Rattle.std.specs.Prelude.{◌≡◌, ℕ, suc, ◌⊎◌, true, false, List, [], ◌∷◌, ◌++◌, None, map}
 use mathlib.Core.List.{IsPrefix}
 use mathlib.Core.Option.{some}
@@ -9,7 +9,7 @@ use Rattle.stage_core.specs.Stage.{StageView}
 use Rattle.stage_lock.specs.Own.{is_final, is_own, made_by}
 use Rattle.stage_lock.specs.Views.{PassView, SharedView, stage_of}
 use Rattle.stage_lock.specs.Calls.{longer, new_pass}
-use Rattle.stage_lock.specs.Seats.{SeatView, holding, kept_of, kept_seat}
+use Rattle.stage_lock.specs.Seats.{SeatView, grown, holding, kept_of, kept_seat, released}
 use Rattle.stage_lock.specs.Rule.{Seat}
 
 -- a table has the two words and the slot of a shared stage
@@ -17,7 +17,7 @@ pub record IsSized (table_id : TableId) : Type 0 where
   pub words : table_id.words ≡ 2
   pub slots : table_id.slots ≡ 1
 
--- a pass between two calls: no slot is out with it, and it does not hold the turn
+-- a pass between two calls: it has taken no slot, does not hold the turn, and keeps no other pass
 pub record IsAtRest (m : Seat) (n : ℕ) : Type 0 where
   pub free : m.1 ≡ []
   pub rests : m.0.holds ≡ false
@@ -31,25 +31,32 @@ pub record IsNote (m : Seat) : Type 0 where
   pub free : m.1 ≡ []
   pub not_pass : m.0.is_pass ≡ false
 
--- the stage is out with the seat, which holds the turn
+-- the seat holds the turn, and the stage was taken out of its slot
 pub record IsOut (m : Seat) : Type 0 where
   pub pass : m.0.is_pass ≡ true
   pub holds : m.0.holds ≡ true
   pub slot : m.1 ≡ (0, None) ∷ []
 
--- a seat has won the turn, and has the stage, whose journal is the history
+-- a seat has won the turn and found a history, and has taken out the stage after it
 pub record HasWon (m : Seat) (stage : StageView) (n : Seat) : Type 0 where
-  pub seen : IsPrefix m.0.seen stage.journal.events
-  pub made : made_by m.0.number stage.journal.events ≡ m.0.made
+  pub log : List Event
+  pub seen : IsPrefix m.0.seen log
+  pub made : made_by m.0.number log ≡ m.0.made
   pub made_seen : made_by m.0.number m.0.seen ≡ m.0.made
-  pub whole : stage ≡ stage_of m.0.sizes stage.journal.events
-  pub after : n ≡ (holding m.0 stage.journal.events, (0, None) ∷ [])
+  pub whole : stage ≡ stage_of m.0.sizes log
+  pub after : n ≡ (holding m.0 log, (0, None) ∷ [])
 
 -- a stage is that of a seat's history and one event more, which is the seat's own or the stop of tag 0.0
 pub record HasEvent (v : SeatView) (stage : StageView) : Type 0 where
   pub event : Event
   pub own : (is_own v.number event ≡ true) ⊎ (is_final event ≡ true)
   pub whole : stage ≡ stage_of v.sizes (v.seen ++ event ∷ [])
+
+-- the history is now that of this stage, and the seat has given up the turn
+pub record HasEntered (v : SeatView) (stage : StageView) (n : Seat) : Type 0 where
+  pub log : List Event
+  pub whole : stage ≡ stage_of v.sizes log
+  pub after : n ≡ (released (grown v log), [])
 
 -- a seat has seen the longer of its own history and another, of which the shorter is a prefix
 pub record HasMet (v : SeatView) (seen : List Event) (w : SeatView) : Type 0 where

@@ -1,9 +1,10 @@
 //! One stage that threads share.
 //!
-//! [`SharedStage::share`] gives as many passes as asked for, and each call takes the pass of its caller. All calls have one
-//! history. A call finds a history that goes on from what its pass has seen, in which the pass's own events are exactly those
-//! that it made, and adds at most one event at its end. A pass may tell another what it has seen by a [`Note`]. When the
-//! passes are handed back, the stage comes out with that history as its journal.
+//! [`SharedStage::share`] makes a number of passes, and each call takes the pass of its caller. All calls act on one history,
+//! which continues from the events that the stage held when it was shared. A call finds a history that begins with what its
+//! pass has seen, in which the pass's own events are exactly those that it made, and adds at most one event at its end. A
+//! [`Note`] gives another pass what a pass has seen. When the passes are handed back, the stage is returned with the given
+//! events and that history as its journal.
 #![tactic(auto)]
 
 pub mod examples;

@@ -1,9 +1,9 @@
-//! What one pass tells another.
+//! Notes, which give a pass what another has seen.
 
 use crate::slot::Seat;
 use std::marker::Model;
 
-/// What a pass had seen when the note was made: contracts see that history, and which shared stage the note is of.
+/// What a pass had seen when the note was made: contracts see that history, and the shared stage that the note belongs to.
 #[derive(Drop)]
 pub struct Note {
     pub(crate) seat: Seat,

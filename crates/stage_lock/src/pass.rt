@@ -3,8 +3,8 @@
 use crate::slot::Seat;
 use std::marker::Model;
 
-/// What a caller of a shared stage holds: contracts see which shared stage it is of, its number, the history that it has
-/// seen, how often it won the turn, and its own events in that history.
+/// What a caller of a shared stage holds: contracts see the shared stage that it belongs to, its number, the history that it
+/// has seen, how often it won the turn, and its own events in that history.
 #[derive(Drop)]
 pub struct Pass {
     pub(crate) seat: Seat,

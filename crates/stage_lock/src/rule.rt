@@ -34,7 +34,7 @@ impl Play<Option<Stage>, SeatView> for EnterEvent {
     ghost then = { EntersEvent };
 }
 
-/// The turn becomes free, and the stage is at home.
+/// The turn becomes free, with the stage back in its slot.
 pub(crate) struct GiveTurn;
 
 impl Play<Option<Stage>, SeatView> for GiveTurn {
@@ -43,7 +43,7 @@ impl Play<Option<Stage>, SeatView> for GiveTurn {
     ghost then = { GivesTurn };
 }
 
-/// The holder of the turn reads the length, and is told of the history and of the passes that it keeps.
+/// The holder of the turn reads the length, and learns what holds of the history and of the passes that it keeps.
 pub(crate) struct Count;
 
 impl Play<Option<Stage>, SeatView> for Count {
@@ -52,7 +52,7 @@ impl Play<Option<Stage>, SeatView> for Count {
     ghost then = { Counts };
 }
 
-/// A seat that another was joined to reads the length, and is told which history is the longer.
+/// A seat that another was joined to reads the length, and learns that both old histories are prefixes of the longer one.
 pub(crate) struct Settle;
 
 impl Play<Option<Stage>, SeatView> for Settle {
@@ -83,7 +83,7 @@ impl Split<SeatView> for Tell {
     ghost right = { λ v. noted v.sizes v.seen };
 }
 
-/// A pass is told of a note.
+/// A pass takes in a note.
 pub(crate) struct Meet;
 
 impl Join<SeatView> for Meet {
@@ -94,7 +94,7 @@ impl Join<SeatView> for Meet {
     ghost spent = { spent };
 }
 
-/// A pass takes another in.
+/// A pass takes in another pass.
 pub(crate) struct Absorb;
 
 impl Join<SeatView> for Absorb {

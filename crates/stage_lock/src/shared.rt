@@ -14,6 +14,7 @@ use crate::slot::{Board, Seat, absorb, count, enroll, give_back, meet, put_back,
 use crate::ticked::Ticked;
 use crate::view::{SeatView, Shape};
 use atomic_table::{Refused, Table};
+use play_journal::Journal;
 use play_types::{Answer, Cmd, Scenes, Tag};
 use stage_core::{ApplyFault, Ended, Stage, TickFault};
 use std::alloc::Global;
@@ -21,11 +22,11 @@ use std::marker::Model;
 use std::snapshot::Snapshot;
 use std::sync::Wait;
 
-/// The most passes of a shared stage: one that ticks, and one for each of 64 connection workers.
-pub const MAX_PASSES: u32 = 65;
+/// The most passes of a shared stage: one that ticks, one for each of 64 connection workers, and one that reads for the log.
+pub const MAX_PASSES: u32 = 66;
 
-/// A stage that any number of threads share, each with a pass: contracts see which one it is, the limit of its journal, and
-/// how many channels and passes it has.
+/// A stage that threads share, each with a pass: contracts see which shared stage it is, the limit of its journal, the numbers
+/// of its channels and passes, and the events that it held when it was shared.
 #[derive(Drop)]
 pub struct SharedStage {
     table: Table<Option<Stage>, SeatView, Shape, StageRule, Global>,
@@ -45,24 +46,25 @@ impl Model for SharedStage {
 
 impl SharedStage {
     ghost use Rattle.std.specs.Prelude.{◌≡◌, ◌<◌, ◌≤◌, [], All, IfOk, IfErr, MatchResult, length};
+    ghost use Rattle.std.specs.Fn.{CalledAt};
     ghost use Rattle.play_types.specs.History.{stop_at};
     ghost use Rattle.play_types.specs.declared.event.Event.TheVariants.{Batch, Do, Stop, Tick};
     ghost use Rattle.history_model.specs.commands.Channels.{IsServed};
     ghost use Rattle.stage_core.specs.Stage.{IsNoTick, IsNotTaken};
     ghost use Rattle.stage_lock.specs.declared.shared.TheConstants.{MAX_PASSES};
     ghost use Rattle.stage_lock.specs.Calls.{Adds, IsAnswered, IsCounted, IsStopped, IsTicked, Looks, Meets, new_passes, stop_tag, tag_of};
-    ghost use Rattle.stage_lock.specs.Closing.{AreAll, Closes};
-    ghost use Rattle.stage_lock.specs.Views.{journal_of, sizes_of, stage_of};
+    ghost use Rattle.stage_lock.specs.Closing.{AreAll, IsLeft};
+    ghost use Rattle.stage_lock.specs.Views.{journal_of, sizes_of, whole};
 
-    /// Shares a stage among `passes` passes, 1 to 65, which are numbered from 0. The stage holds no event. If memory runs
-    /// out, it is handed back.
+    /// Shares a stage among `passes` passes, 1 to 66, which are numbered from 0. The history of the passes begins after the
+    /// events that the stage holds, none of which may be a stop. If memory runs out, the stage is handed back.
     pub fn share(
         alloc: Global,
         stage: Stage,
         passes: u32,
     ) -> Result<(SharedStage, Vec<Pass>), Stage>
         requires passes { (1 ≤ passes) × (passes ≤ MAX_PASSES) }
-        requires empty { stage.journal.events ≡ [] }
+        requires running { stop_at stage.journal.events ≡ None }
         ensures sizes { IfOk result (λ shared. shared.0.sizes ≡ sizes_of stage passes) }
         ensures passes { IfOk result (λ shared. shared.1.items ≡ new_passes shared.0) }
         ensures err { IfErr result (λ back. back ≡ stage) }
@@ -87,9 +89,9 @@ impl SharedStage {
         }
     }
 
-    /// Adds a command to the history, with the pass's number and the session as its tag, and returns its answer there. The
-    /// command is one that the stage serves. There is a fault if the history holds a stop, which is tested first, then
-    /// if its journal is full, and then if memory runs out. After a fault the history is as it was found.
+    /// Adds a command to the history, with the pass's number and `session` as its tag, and returns its answer. The command must
+    /// name only channels of the stage. The call fails if the history holds a stop, which is tested first, then if the journal
+    /// is full, and then if memory runs out. After a fault the history is as it was found.
     pub fn ask<R: Wait>(
         &self,
         rt: &R,
@@ -115,9 +117,9 @@ impl SharedStage {
         put_back(&self.table.shared, &mut pass.seat, stage, answered)
     }
 
-    /// Adds a batch to the history as one event, with the pass's number and the session as its tag, and returns its answer
-    /// there. The batch is not empty, and its commands are such as [`SharedStage::ask`] takes. Its faults are those of that
-    /// call too, and the journal is full if it may not hold all commands of the batch.
+    /// Adds a batch to the history as one event, with the pass's number and `session` as its tag, and returns its answer. The
+    /// batch must not be empty, and its commands must be such as [`SharedStage::ask`] accepts. The faults are those of that
+    /// call. The journal is full if it has no room for all commands of the batch.
     pub fn ask_batch<R: Wait>(
         &self,
         rt: &R,
@@ -145,10 +147,10 @@ impl SharedStage {
         put_back(&self.table.shared, &mut pass.seat, stage, answered)
     }
 
-    /// Adds a tick to the history, writes what each channel shows at it into the scenes, and returns its number. The pass has
-    /// the number 0, and there are as many scenes as the stage has channels. There is a fault if the history holds a
-    /// stop, which is tested first, and if it holds as many ticks as it may. After a fault the scenes are as before, and
-    /// the history is as it was found. It takes no memory.
+    /// Adds a tick to the history, writes what each channel shows at that tick into the scenes, and returns the number of the
+    /// tick. The pass must have the number 0, and there must be as many scenes as the stage has channels. The call fails if the
+    /// history holds a stop, which is tested first, or as many ticks as it may hold. After a fault the scenes are as before, and
+    /// the history is as it was found.
     pub fn tick<R: Wait>(
         &self,
         rt: &R,
@@ -168,10 +170,9 @@ impl SharedStage {
         Ok(ticked.number)
     }
 
-    /// Adds a tick to the history, writes what each channel shows at it into the scenes, and returns its number and how many
-    /// commands the history holds. The pass has the number 0, and there are as many scenes as the stage has channels. There
-    /// is a fault if the history holds a stop, which is tested first, and if it holds as many ticks as it may. After a fault
-    /// the scenes are as before, and the history is as it was found. It takes no memory.
+    /// Adds a tick to the history, writes what each channel shows at that tick into the scenes, and returns the number of the
+    /// tick and how many commands the history holds. Conditions and faults are those of [`SharedStage::tick`]. After a fault
+    /// the scenes are as before, and the history is as it was found.
     pub fn tick_counted<R: Wait>(
         &self,
         rt: &R,
@@ -194,26 +195,26 @@ impl SharedStage {
         Ok(Ticked { number, held })
     }
 
-    /// Adds a stop to the history and returns its position. Its tag is the pass's number and the session, and 0.0 in session
-    /// 0. There is a fault exactly if the history already holds a stop, and it is then as it was found. It takes no
-    /// memory.
+    /// Adds a stop to the history and returns its position among all events of the journal, counted from 0. Its tag is the
+    /// pass's number and `session`, or 0.0 if `session` is 0. The call fails exactly if the history already holds a stop, and
+    /// then leaves it as it was found.
     pub fn stop<R: Wait>(&self, rt: &R, pass: &mut Pass, session: u32) -> Result<u64, Ended>
         requires of { pass.old.stage ≡ self.now }
         ensures of { pass.new.stage ≡ self.now }
         ensures call { MatchResult result
-            (λ at. Adds pass.old (Stop (stop_tag pass.old.number session)) (IsStopped at) pass.new)
-            (λ ended. Looks pass.old (λ history. stop_at history ≡ Some ended.at) pass.new) }
+            (λ at. Adds pass.old (Stop (stop_tag pass.old.number session)) (IsStopped self.now.sizes.given at) pass.new)
+            (λ ended. Looks pass.old (λ history. stop_at (whole self.now.sizes history) ≡ Some ended.at) pass.new) }
     {
         let mut stage = take(rt, &self.table.shared, &mut pass.seat);
         let stopped = stage.stop(tag_of_stop(pass.number, session));
         put_back(&self.table.shared, &mut pass.seat, stage, stopped)
     }
 
-    /// Returns the position of the stop, `None` exactly if the history that this look found holds none.
+    /// Returns the position of the stop, `None` exactly if the history that this call found holds none.
     pub fn ended<R: Wait>(&self, rt: &R, pass: &mut Pass) -> Option<u64>
         requires of { pass.old.stage ≡ self.now }
         ensures of { pass.new.stage ≡ self.now }
-        ensures look { Looks pass.old (λ history. result ≡ stop_at history) pass.new }
+        ensures look { Looks pass.old (λ history. result ≡ stop_at (whole self.now.sizes history)) pass.new }
     {
         let stage = take(rt, &self.table.shared, &mut pass.seat);
         let at = stage.journal().stopped();
@@ -221,7 +222,26 @@ impl SharedStage {
         at
     }
 
-    /// Makes a note of what the pass has seen, to tell another pass of it. It waits for no other thread.
+    /// Calls `look` with the journal of the history that this call finds, and returns what `look` returns. The turn is held
+    /// meanwhile, so `look` must wait for nothing and take a bounded number of steps.
+    pub fn read<R: Wait, T, F: FnMut(&Journal) -> T>(
+        &self,
+        rt: &R,
+        pass: &mut Pass,
+        look: &mut F,
+    ) -> T
+        requires of { pass.old.stage ≡ self.now }
+        requires callable { F.IsAlwaysCallable look.old }
+        ensures of { pass.new.stage ≡ self.now }
+        ensures look { Looks pass.old (λ history. CalledAt F.FnMut look.old (journal_of self.now.sizes history) result look.new) pass.new }
+    {
+        let lent = take(rt, &self.table.shared, &mut pass.seat);
+        let found = look(lent.journal());
+        give_back(&self.table.shared, &mut pass.seat, lent);
+        found
+    }
+
+    /// Makes a note of what the pass has seen, for [`SharedStage::meet`] of another pass. It waits for no other thread.
     pub fn note(&self, pass: &mut Pass) -> Note
         requires of { pass.old.stage ≡ self.now }
         ensures same { pass.new ≡ pass.old }
@@ -244,11 +264,10 @@ impl SharedStage {
     }
 
     /// Takes every pass back, in any order, and returns the stage. What the passes have seen and made is in its journal, and
-    /// each event of it was made by exactly one of them, but a stop of tag 0.0. It takes no memory.
+    /// each event since the stage was shared was made by exactly one of them, except for a stop of tag 0.0.
     pub fn close<R: Wait>(self, rt: &R, mut passes: Vec<Pass>) -> Stage
         requires { AreAll self passes.items }
-        ensures sizes { result ≡ stage_of self.sizes result.journal.events }
-        ensures closes { Closes passes.items result.journal.events }
+        ensures { IsLeft self passes.items result }
     {
         let SharedStage { table } = self;
         let last = passes.pop().unwrap();
@@ -263,7 +282,7 @@ impl SharedStage {
     }
 }
 
-/// Returns the tag of a stop: 0.0 in session 0.
+/// Returns the tag of a stop: 0.0 in session 0, and the pass's number and the session otherwise.
 fn tag_of_stop(number: u32, session: u32) -> Tag
     ensures { result ≡ stop_tag number session }
 {
@@ -299,7 +318,7 @@ fn enroll_all(board: &Board, mut first: Seat, list: &mut Vec<Pass>, passes: u32)
     list.insert(0, first).unwrap();
 }
 
-/// Takes all these passes in.
+/// Takes in all these passes.
 fn absorb_all(board: &Board, seat: &mut Seat, mut passes: Vec<Pass>)
     requires board { IsSized board.now.table_id }
     requires of { seat.old.table_id ≡ board.now.table_id }

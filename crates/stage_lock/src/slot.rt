@@ -1,12 +1,12 @@
 //! What a call does with the table: it takes the turn and the stage, and gives both back.
 //!
-//! The table has two words and one slot. LENGTH is the number of events of the history, TURN is 1 while a pass holds the
-//! turn, and the slot has the stage while it is at home.
+//! The table has two words and one slot. LENGTH is the number of events of the history, TURN is 1 while a pass holds the turn,
+//! and the slot has the stage while no pass has taken it out.
 ghost use Rattle.std.specs.Prelude.{◌≡◌, ◌<◌, ◌^◌, OnErr, OnOk, true, false, [], length};
 ghost use Rattle.stage_lock.specs.Views.{stage_of};
-ghost use Rattle.stage_lock.specs.Seats.{enrolled, grown, newcomer, noted, released};
+ghost use Rattle.stage_lock.specs.Seats.{enrolled, newcomer, noted, released};
 ghost use Rattle.stage_lock.specs.Rule.{IsTold};
-ghost use Rattle.stage_lock.specs.Steps.{HasAbsorbed, HasEvent, HasMet, HasWon, IsNote, IsOut, IsSized};
+ghost use Rattle.stage_lock.specs.Steps.{HasAbsorbed, HasEntered, HasEvent, HasMet, HasWon, IsNote, IsOut, IsSized};
 
 use crate::rule::{
     Absorb, Count, Enroll, EnterEvent, GiveTurn, Meet, Settle, StageRule, TakeTurn, Tell,
@@ -68,7 +68,7 @@ fn enter(board: &Board, seat: &mut Seat, stage: Stage)
     requires out { IsOut seat.old.me }
     requires event { HasEvent seat.old.me.0 stage }
     ensures same { seat.new.table_id ≡ seat.old.table_id }
-    ensures me { seat.new.me ≡ (released (grown seat.old.me.0 stage.journal.events), []) }
+    ensures entered { HasEntered seat.old.me.0 stage seat.new.me }
 {
     has_few_events(&stage);
     drop(board.exchange(seat, 0, Some(stage)));
@@ -77,8 +77,8 @@ fn enter(board: &Board, seat: &mut Seat, stage: Stage)
     board.wake_one(TURN);
 }
 
-/// Puts the stage back after a call of it for an event, gives up the turn, and returns what the call returned: with the event if the
-/// call succeeded, and as it was if it failed.
+/// Puts the stage back after a call that adds an event, gives up the turn, and returns the result of the call. The event enters
+/// the history if the call succeeded, and the stage is as it was if the call failed.
 pub(crate) fn put_back<T, F>(
     board: &Board,
     seat: &mut Seat,
@@ -92,7 +92,7 @@ pub(crate) fn put_back<T, F>(
     requires stage { OnErr called (stage ≡ stage_of seat.old.me.0.sizes seat.old.me.0.seen) }
     ensures same { seat.new.table_id ≡ seat.old.table_id }
     ensures result { result ≡ called }
-    ensures entered { OnOk called (seat.new.me ≡ (released (grown seat.old.me.0 stage.journal.events), [])) }
+    ensures entered { OnOk called (HasEntered seat.old.me.0 stage seat.new.me) }
     ensures kept { OnErr called (seat.new.me ≡ (released seat.old.me.0, [])) }
 {
     match called {
@@ -155,7 +155,7 @@ pub(crate) fn meet(board: &Board, seat: &mut Seat, note: Seat)
     board.load::<Settle>(seat, LENGTH);
 }
 
-/// Takes another pass in.
+/// Takes in another pass.
 pub(crate) fn absorb(board: &Board, seat: &mut Seat, other: Seat)
     requires board { IsSized board.now.table_id }
     requires of { (seat.old.table_id ≡ board.now.table_id) × (other.table_id ≡ board.now.table_id) }
@@ -169,7 +169,7 @@ pub(crate) fn absorb(board: &Board, seat: &mut Seat, other: Seat)
     board.load::<Settle>(seat, LENGTH);
 }
 
-/// Reads the length as the holder of the turn, who is then told of the history and of the passes that it keeps.
+/// Reads the length as the holder of the turn, and learns what holds of the history and of the passes that the seat keeps.
 pub(crate) fn count(board: &Board, seat: &mut Seat) -> u64
     requires board { IsSized board.now.table_id }
     requires of { seat.old.table_id ≡ board.now.table_id }

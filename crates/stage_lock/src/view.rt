@@ -1,10 +1,10 @@
-//! What a seat of the table knows, and what the table's rule is fixed to.
+//! What a seat of the table knows, and the constants of the table's rule.
 
 use stage_core::Stage;
 use std::marker::Model;
 use std::snapshot::Snapshot;
 
-/// What a seat knows. No value of it is made: to contracts it is a record of `specs/inner/Seats.antt`.
+/// What a seat knows. No value of this type is made: to contracts it is a record of `specs/Seats.antt`.
 pub(crate) struct SeatView {
     never: u8,
 }
@@ -17,7 +17,7 @@ impl Model for SeatView {
     ghost view = { λ v. spent };
 }
 
-/// What stays of a shared stage: contracts see the sizes of the stage that was shared, and the number of passes.
+/// What does not change of a shared stage: contracts see the sizes of the stage that was shared, and the number of passes.
 #[derive(Drop)]
 pub(crate) struct Shape {
     pub(crate) stage: Snapshot<Stage>,

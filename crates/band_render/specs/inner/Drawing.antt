@@ -9,7 +9,7 @@ use Rattle.band_render.specs.declared.drawing.Tick.{Tick}
 use Rattle.band_render.specs.Rows.{AreOfChannels, Row, byte_count, row_bytes, rows_from, rows_of_bands}
 use Rattle.band_render.specs.inner.Rooms.{AreWide}
 
--- scenes and frames of as many channels
+-- a tick has as many scenes as frames
 abbrev pub IsTick : Tick → Type 0
 IsTick tick = length tick.prev.now ≡ length tick.scenes.now
 
@@ -28,7 +28,7 @@ abbrev pub HasSoundOf : Tick → ℕ → FrameView → Type 0
 HasSoundOf tick channel frame = (sounds : Sounds) → AreSounds sounds tick.prev.now tick.media.now
     → HasSound frame (mixed_sample sounds (scene_at channel tick.scenes.now))
 
--- bands of the channels of a tick, at least one room, each for the widest of them, and as many bytes as their rows have
+-- bands of the channels of a tick, as many bytes as their rows have, and at least one room, each for the widest band
 pub record CanDraw (tick : Tick) (bands : List Band) (rooms : List ℕ) (bytes : List ℕ) : Type 0 where
   pub same : IsTick tick
   pub channels : AreOfChannels (length tick.scenes.now) bands

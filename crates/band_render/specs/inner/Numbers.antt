@@ -1,4 +1,4 @@
--- Bands that are counted.
+-- The fewest bands that frames are cut into.
 use Rattle.std.specs.Prelude.{◌+◌, ℕ, List, [], ◌∷◌, min}
 use Rattle.play_types.specs.declared.geometry.Geometry.{Geometry}
 

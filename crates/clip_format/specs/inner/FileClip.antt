@@ -1,4 +1,4 @@
--- What a file's header and its other bytes say together.
+-- The clip of a header that was read and the bytes of its file.
 use Rattle.std.specs.Prelude.{ℕ, List, drop}
 use Rattle.play_types.specs.ClipFile.{ClipView}
 use Rattle.clip_format.specs.declared.header.Header.{Header}

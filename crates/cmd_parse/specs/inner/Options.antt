@@ -1,4 +1,4 @@
--- What is read of the options of a line, one after another.
+-- How the options of a line are read, one after another.
 use Rattle.std.specs.Prelude.{ℕ, ◌+◌, ◌&&◌, ◌||◌, not, Bool, true, false, if◌then◌else◌, Option, Some, None, is_some, option_and_then, unwrap_or, Result, Ok, Err, slice_get, codes}
 use Rattle.amcp_text.specs.Numbers.{whole_number}
 use Rattle.play_types.specs.Transition.{TransView, cut, trans_of}
@@ -17,7 +17,7 @@ use Rattle.cmd_parse.specs.declared.keyword.Keyword.TheVariants.{Loop, Seek, Len
 use Rattle.cmd_parse.specs.declared.options.Given.{Given}
 use Rattle.cmd_parse.specs.declared.options.Manner.{Manner}
 
--- what the options say
+-- the options with their defaults: a cut without a transition, and 0 without a seek
 abbrev pub view : Given → meant.Options
 view options = record {
   looped = options.looped;
@@ -31,7 +31,7 @@ abbrev pub result_view : Result Given Refusal → Result meant.Options Refusal
 result_view (Ok options) = Ok (view options)
 result_view (Err refusal) = Err refusal
 
--- before any option
+-- no option was given
 abbrev pub no_options : Given
 no_options = record { looped = false; transition = None; seek = None; length = None; auto = false }
 
@@ -50,31 +50,31 @@ abbrev pub is_direction_at : Line → ℕ → Bool
 is_direction_at line at =
     is_leftward_at line at || (stands_at line at (codes "RIGHT") || stands_at line at (codes "FROMLEFT"))
 
--- a whole number of any size stands at a position
+-- the word at a position is a whole number of any size
 abbrev pub is_number_at : Line → ℕ → Bool
 is_number_at line at = is_some (option_and_then whole_number (slice_get line.words at))
 
--- the curve and the direction if a curve stands at a position, with a direction after it or without one
+-- the curve and the direction if the word at a position is this curve: a direction may follow it
 abbrev pub curve_first : Line → ℕ → Curve → Manner
 curve_first line at curve =
     if is_direction_at line (at + 1) then record { words = 2; curve = curve; leftward = is_leftward_at line (at + 1) }
     else record { words = 1; curve = curve; leftward = false }
 
--- the curve and the direction if a direction may stand at a position, with this curve after it or without one
+-- the curve and the direction if the word at a position is no curve: a direction, with this curve after it or none; or neither
 abbrev pub direction_first : Line → ℕ → Option Curve → Manner
 direction_first line at curve =
     if is_direction_at line at then
     record { words = if is_some curve then 2 else 1; curve = unwrap_or curve Linear; leftward = is_leftward_at line at }
     else record { words = 0; curve = Linear; leftward = false }
 
--- the curve and the direction from a position on, and the number of words that say so
+-- the curve and the direction read from a position on, in either order, and the number of their words
 unfoldable pub manner_at : Line → ℕ → Manner
 manner_at line at = elim (curve_at line at) [
   | Some curve ↦ curve_first line at curve
   | None ↦ direction_first line at (curve_at line (at + 1))
 ]
 
--- the duration of a transition, and the number of words that write it
+-- the duration of a transition, and the number of its words: 0 for a cut without a number
 unfoldable pub duration_at : Line → ℕ → Kind → Result (ℕ × ℕ) Refusal
 duration_at line at kind =
     if is_cut kind && not (is_number_at line at) then Ok (0, 0)
@@ -82,15 +82,15 @@ duration_at line at kind =
       duration ← number_at line at 0 MAX_DURATION
       Ok (duration, 1))
 
--- a transition, and the number of words that write it
+-- a transition whose duration, curve and direction are read from a position on, and the number of their words
 unfoldable pub transition_at : Line → ℕ → Kind → Result (TransView × ℕ) Refusal
 transition_at line at kind = do
   duration ← duration_at line at kind
   let manner = manner_at line (at + duration.1)
   Ok (trans_of kind duration.0 manner.curve manner.leftward, duration.1 + manner.words)
 
--- the options with the one that begins at a position, if it was not given before, and the number of words after its
--- first that belong to it
+-- the options with the one that begins at a position, which was not given before, and the number of its words after
+-- the first
 abbrev pub with_given : Line → ℕ → Given → Keyword → Result (Given × ℕ) Refusal
 with_given line at options Loop = Ok (record options { looped = true }, 0)
 with_given line at options Auto = Ok (record options { auto = true }, 0)
@@ -104,12 +104,12 @@ with_given line at options (Transition kind) = do
   read ← transition_at line (at + 1) kind
   Ok (record options { transition = Some read.0 }, read.1)
 
--- the options with the one that begins at a position, which must not have been given before
+-- the options with the one that begins at a position: refused as Illegal if it was given before
 unfoldable pub with_keyword : Line → ℕ → Given → Keyword → Result (Given × ℕ) Refusal
 with_keyword line at options keyword =
     if has_option options keyword then Err (Illegal line.name at) else with_given line at options keyword
 
--- the options with the one that the word at a position begins: a word that begins none is refused
+-- the options with the one that the word at a position begins: a word that begins none is refused as Illegal
 abbrev pub with_word : Line → ℕ → Given → Option Keyword → Result (Given × ℕ) Refusal
 with_word line at options None = Err (Illegal line.name at)
 with_word line at options (Some keyword) = with_keyword line at options keyword

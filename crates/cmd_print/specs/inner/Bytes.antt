@@ -3,7 +3,7 @@ use Rattle.std.specs.Prelude.{List, ℕ, ◌∷◌, flat_map, encode_utf8_all}
 use Rattle.amcp_text.specs.Escapes.{quoted}
 use Rattle.history_model.specs.text.Commands.{Word, Plain, Quoted}
 
--- the bytes of a word: one that stands as it is has ASCII characters alone
+-- the bytes of a word: a plain one is ASCII alone, and a quoted name is in UTF-8
 abbrev pub word_bytes : Word → List ℕ
 word_bytes (Plain word) = word
 word_bytes (Quoted name) = encode_utf8_all (quoted name)

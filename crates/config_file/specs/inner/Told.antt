@@ -1,4 +1,4 @@
--- What a part of the reading tells of the faults of its part of the table.
+-- The result of reading a part of the table, by the faults of that part.
 use Rattle.std.specs.Prelude.{◌≡◌, ℕ, ℤ, pos, negsuc, nat_le, ◌&&◌, if◌then◌else◌, Bool, true, false, Option, Some, None, option_map, Result, Ok, Err, List, [], slice_get}
 use Rattle.std.specs.Str.{chars}
 use Rattle.config_file.specs.declared.fault.ConfigFault.{ConfigFault}
@@ -10,12 +10,12 @@ IsFirst faults (Key name) = option_map chars (slice_get faults 0) ≡ Some name
 IsFirst faults NotToml = ⊥
 IsFirst faults OutOfMemory = Unit {0}
 
--- the value is told if there are no faults, else the first of them
+-- the result is the value if there are no faults, else the first of them; or memory ran out
 abbrev pub IsTold : {A : Type 0} → List (List ℕ) → A → Result A ConfigFault → Type 0
 IsTold faults value (Ok told) = (faults ≡ []) × (told ≡ value)
 IsTold faults value (Err fault) = IsFirst faults fault
 
--- the value is read if the rule is kept
+-- there is a value exactly if the rule is kept, and it is this one
 abbrev pub IsRead : {A : Type 0} → Bool → A → Option A → Type 0
 IsRead kept value (Some read) = (kept ≡ true) × (read ≡ value)
 IsRead kept value None = kept ≡ false

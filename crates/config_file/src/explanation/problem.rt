@@ -21,7 +21,7 @@ pub(crate) enum Problem<'a> {
     Missing { rule: Rule, hint: Hint<'a> },
     /// The value is of another type, or out of range.
     Refused { rule: Rule, value: &'a Value },
-    /// The key is none of the table.
+    /// The table may have no such key.
     Unknown { hint: Hint<'a> },
     /// The element of `channel` with this number is no table.
     NoTable { number: usize, value: &'a Value },
@@ -34,11 +34,11 @@ pub(crate) enum Hint<'a> {
     None,
     /// A known key.
     Nearest(&'a str),
-    /// The missing key, by an unknown one.
+    /// An unknown key, in place of the missing one.
     Instead(&'a str),
-    /// The missing key of the top table, which stands in a channel.
+    /// The missing key of the top table was put into a channel.
     BelowChannel,
-    /// The key of the same name of the other tables.
+    /// The other tables may have a key of this name.
     Elsewhere,
 }
 
@@ -72,7 +72,7 @@ fn keys_of(section: Section) -> &'static str {
     }
 }
 
-/// Writes a value that is refused, what is allowed, and the nearest that is.
+/// Writes a value that is refused, what is allowed, and the nearest allowed number, if the value is a number.
 fn write_refused<W: fmt::Write>(
     f: &mut fmt::Formatter<W>,
     place: ShownPlace<'_>,
@@ -125,7 +125,7 @@ fn write_hint<W: fmt::Write>(
             let name = ShownKey(name);
             write!(f, "; there is {name}, which is no key")
         }
-        Hint::BelowChannel => write!(f, "; it stands below [[channel]], and belongs above"),
+        Hint::BelowChannel => write!(f, "; it is below [[channel]], and belongs above it"),
         Hint::Elsewhere => match section {
             Section::Top => write!(f, "; {key} belongs below [[channel]]"),
             Section::Channel(_) => write!(f, "; {key} belongs above the first [[channel]]"),

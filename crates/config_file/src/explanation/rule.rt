@@ -75,7 +75,7 @@ impl Rule {
         }
     }
 
-    /// Returns the number nearest to a value that is allowed, if the value is a number, also one in quotation marks.
+    /// Returns the allowed number that is nearest to a value, if the value is a number, also one in quotation marks.
     pub(crate) fn nearest_number(self, value: &Value) -> Option<u32> {
         let Rule::Number { least, greatest } = self else {
             return None;

@@ -7,7 +7,7 @@ use toml::Value;
 /// The most characters of a text that are shown.
 const MOST_CHARACTERS: usize = 60;
 
-/// A text in quotation marks, with escapes for what cannot be seen. Of a long one the beginning is shown, and two points.
+/// A text in quotation marks, with escapes for what cannot be seen. A longer text is cut to 60 characters, and two points follow.
 #[derive(Clone, Copy)]
 pub(crate) struct ShownText<'a>(pub(crate) &'a str);
 
@@ -26,7 +26,7 @@ impl fmt::Display for ShownText<'_> {
     }
 }
 
-/// A key, without quotation marks if TOML takes it so.
+/// A key, without quotation marks if TOML allows that and the key is short.
 #[derive(Clone, Copy)]
 pub(crate) struct ShownKey<'a>(pub(crate) &'a str);
 
@@ -42,13 +42,13 @@ impl fmt::Display for ShownKey<'_> {
     }
 }
 
-/// Returns whether TOML takes a key without quotation marks, and it is short enough to be shown whole.
+/// Returns whether TOML allows a key without quotation marks, and it is short enough to be shown whole.
 fn is_bare(key: &str) -> bool {
     let is_short = (1..=MOST_CHARACTERS).contains(&key.len());
     is_short && key.bytes().all(|byte| byte.is_ascii_alphanumeric() || byte == b'-' || byte == b'_')
 }
 
-/// A value. Of an array and of a table it is shown only that it is one.
+/// A value. An array is shown as `[..]`, and a table as `{..}`.
 #[derive(Clone, Copy)]
 pub(crate) struct ShownValue<'a>(pub(crate) &'a Value);
 

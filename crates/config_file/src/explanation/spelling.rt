@@ -3,7 +3,7 @@
 use std::alloc::Global;
 use strsim::osa_distance;
 
-/// The longest name of which it is tested whether it is a misspelled one, in bytes.
+/// The longest name that is compared with others, in bytes.
 const LONGEST: usize = 40;
 
 /// Of the names that were offered so far, the one that is nearest to another name, if one is near.
@@ -11,12 +11,12 @@ const LONGEST: usize = 40;
 pub(crate) struct Nearest<'a> {
     alloc: Global,
     found: Option<&'a str>,
-    /// How many characters of `found` are to be put in, left out, changed, or exchanged with the next one.
+    /// How many characters of `found` have to be inserted, deleted, changed, or exchanged with the next one.
     edits: usize,
 }
 
 impl<'a> Nearest<'a> {
-    /// Returns that none was offered.
+    /// Returns the state in which no name was offered.
     pub(crate) fn new(alloc: Global) -> Nearest<'a> {
         Nearest {
             alloc,
@@ -25,8 +25,8 @@ impl<'a> Nearest<'a> {
         }
     }
 
-    /// Takes a name in place of the nearest one so far, if it is nearer to `wanted`, and if at most a third of its characters
-    /// are others. If memory runs out, it is passed over.
+    /// Takes a name in place of the nearest one so far, if it is nearer to `wanted`, and if the edits between both are at most
+    /// a third of the bytes of the longer one. The name is passed over if either is longer than `LONGEST` or memory runs out.
     pub(crate) fn offer(&mut self, wanted: &str, name: &'a str) {
         let longer = wanted.len().max(name.len());
         if longer > LONGEST {

@@ -1,4 +1,4 @@
--- What following one step does.
+-- What the execution of one step does.
 use Rattle.std.specs.Prelude.{◌≡◌, ℕ, ◌+◌, ◌≤◌, Option, Some, None, Result, Ok, Err, List, ◌++◌}
 use mathlib.Core.List.{IsPrefix}
 use Rattle.play_types.specs.Commands.{answer_reply}
@@ -25,17 +25,22 @@ use Rattle.conn_worker.specs.declared.connection.Connection.{Connection}
 use Rattle.conn_worker.specs.declared.link_end.LinkEnd.{LinkEnd}
 use Rattle.conn_worker.specs.declared.link_end.LinkEnd.TheVariants.{Over, Killed, LinkFault, Ended}
 
--- what a connection is served with whose pass has the number `worker`
+-- what a connection is served with, if its pass has the number `worker`
 abbrev pub service_in : Connection → ℕ → Service
 service_in connection worker =
-    record { config = connection.server.config.now; names = connection.server.media.now; tag = tag_of worker connection.number }
+    record {
+      config = connection.server.config.now;
+      names = connection.server.media.now;
+      tag = tag_of worker connection.number;
+      given = connection.server.stage.now.sizes.given;
+    }
 
--- the stage is one of the configuration, and the connection has a number
+-- the stage was made for the configuration, and the number of the connection is at least 1
 pub record IsReady (connection : Connection) : Type 0 where
   pub stage : HasStageOfConfig connection.server
   pub number : 1 ≤ connection.number
 
--- a pass followed one step, and made its event alone
+-- a pass executed one step, and made its event and no other
 pub record MakesStep (service : Service) (one : Followed) (before after : PassView) : Type 0 where
   pub stage : after.stage ≡ before.stage
   pub number : after.number ≡ before.number
@@ -54,14 +59,14 @@ pub record Answers (service : Service) (step : Step) (reply : Reply) (before aft
   pub reply_is : reply_of service one ≡ Some reply
   pub makes : MakesStep service one before after
 
--- a call found a stop of another call at this position
-pub record FindsStop (at : ℕ) (before after : PassView) : Type 0 where
+-- a call found a stop that another call made, at this position among all events
+pub record FindsStop (given : List Event) (at : ℕ) (before after : PassView) : Type 0 where
   pub history : List Event
   pub found : IsFound before history
-  pub stop : stop_at history ≡ Some at
+  pub stop : stop_at (given ++ history) ≡ Some at
   pub after_is : after ≡ looked before history
 
--- a step was followed, and the reply to it was sent, with the token of its line
+-- a step was executed, and the reply to it was sent, with the token of its line
 pub record Follows (service : Service) (token : Option (List ℕ)) (step : Step) (sent : Sent) (before after : Standing) : Type 0 where
   pub one : Followed
   pub step_is : one.step ≡ step
@@ -82,7 +87,7 @@ AsksFor service step (Ok reply) before after = Answers service step reply before
 AsksFor service step (Err Over) before after = ⊥
 AsksFor service step (Err Killed) before after = ⊥
 AsksFor service step (Err LinkFault) before after = ⊥
-AsksFor service step (Err (Ended at)) before after = FindsStop at before after
+AsksFor service step (Err (Ended at)) before after = FindsStop service.given at before after
 
 -- the bytes were written, or the link failed after a prefix of them
 abbrev pub SendsBytes : List ℕ → Result (Unit {0}) LinkEnd → SinkState → SinkState → Type 0

@@ -27,25 +27,25 @@ pub record Now : Type 0 where
 abbrev pub progress_of : List ℕ → List Followed → Progress
 progress_of fed followed = record { stream = fed; given_up = given_up_of followed; given = length followed }
 
--- a session has come as far as some progress says
+-- a session has some progress
 pub record HasProgress (config : ConfigView) (names : List MediaNameView) (session : SessionState) : Type 0 where
   pub progress : Progress
   pub represents : Represents config names session progress
 
--- a session that was fed these bytes has given these steps, which are those of the first lines, with the tokens of these
+-- a session that was fed these bytes has given these steps, which are those of the first lines, with the tokens of these lines
 pub record HasGiven (service : Service) (session : SessionState) (fed : List ℕ) (followed : List Followed) : Type 0 where
   pub represents : Represents service.config service.names session (progress_of fed followed)
   pub steps : steps_in followed ≡ line_steps service.config service.names (given_up_of followed) (take (length followed) (lines_of fed))
   pub tokens : tokens_in followed ≡ map line_token (take (length followed) (lines_of fed))
 
--- what came before: the service, the pass and the link at the beginning, and the rounds until now, the last one as far as it has
--- come
+-- what came before: the service, the pass and the link at the beginning, and the rounds until now, of which the last may be
+-- unfinished
 pub record Past : Type 0 where
   pub service : Service
   pub before : Standing
   pub rounds : List Round
 
--- the rounds have led here, and of the bytes that were read these were fed to the session. No step was an end, the link has not
+-- the rounds led to this moment, and of the bytes that were read these were fed to the session. No step was an end, the link has not
 -- ended or failed, and no stop was seen
 pub record IsUnderWay (past : Past) (fed : List ℕ) (now : Now) : Type 0 where
   pub looks : (k : ℕ) → k < length past.rounds → IsCaughtUp past.service (take k past.rounds)
@@ -59,26 +59,26 @@ pub record IsUnderWay (past : Past) (fed : List ℕ) (now : Now) : Type 0 where
   pub link : now.standing.link ≡ after_rounds past.service past.rounds past.before.link
   pub running : stop_at now.standing.pass.seen ≡ None
 
--- between two looks all bytes were fed, and all steps of them were followed
+-- between two reads all bytes were fed, and all steps of them were executed
 pub record IsBetweenLooks (past : Past) (now : Now) : Type 0 where
   pub way : IsUnderWay past (bytes_in past.rounds) now
   pub caught_up : IsCaughtUp past.service past.rounds
 
--- the past with one round more, in which a look found these bytes and these steps were followed
+-- the past with one more round, in which a read found these bytes and these steps were executed
 abbrev pub with_piece : Past → List ℕ → List Followed → Past
 with_piece past piece followed = record past { rounds = past.rounds ++ record { look = Got piece; followed = followed } ∷ [] }
 
--- a piece that was read is wholly followed, or the call ends within it
+-- all steps of a piece that was read were executed, or the call ends within the piece
 abbrev pub TakesPiece : Past → List ℕ → Result (Unit {0}) LinkEnd → Now → Type 0
 TakesPiece past piece (Ok done) now = (followed : List Followed) × IsBetweenLooks (with_piece past piece followed) now
 TakesPiece past piece (Err end) now = IsExplained past.service end past.before now.standing
 
--- one more look was made, and all that it found was followed, or the call ends
+-- one more read was made, and all steps of what it found were executed, or the call ends
 abbrev pub TakesRound : Past → Result (Unit {0}) LinkEnd → Now → Type 0
 TakesRound past (Ok done) now = (round : Round) × IsBetweenLooks (record past { rounds = past.rounds ++ round ∷ [] }) now
 TakesRound past (Err end) now = IsExplained past.service end past.before now.standing
 
--- a step of a line with this token, or without one, was followed, and its reply was written
+-- a step of a line with this token, or without one, was executed, and its reply was written
 pub record Goes (service : Service) (token : Option (List ℕ)) (step : Step) (before after : Standing) : Type 0 where
   pub follows : Follows service token step sent.All before after
   pub running : stop_at after.pass.seen ≡ None
@@ -91,7 +91,7 @@ pub record GoesOn (service : Service) (token : Option (List ℕ)) (step : Step) 
 -- the stage was asked for the step, and another call had stopped it
 pub record Stops (service : Service) (step : Step) (at : ℕ) (before after : Standing) : Type 0 where
   pub asked : times_asked step ≡ 1
-  pub finds : FindsStop at before.pass after.pass
+  pub finds : FindsStop service.given at before.pass after.pass
   pub link : after.link ≡ before.link
 
 -- the step is a kill, which made the stop; its reply was written, or the link failed
@@ -105,20 +105,20 @@ pub record Leaves (service : Service) (token : Option (List ℕ)) (step : Step) 
   pub bye : step ≡ EndConnection
   pub goes : Goes service token step before after
 
--- the step was followed, and the link failed before its reply was wholly written
+-- the step was executed, and the link failed before its reply was wholly written
 pub record Fails (service : Service) (token : Option (List ℕ)) (step : Step) (before after : Standing) : Type 0 where
   pub going : is_end step ≡ false
   pub follows : Follows service token step sent.Failed before after
   pub running : stop_at after.pass.seen ≡ None
 
--- a call ends so at a step
+-- how a call ends at a step
 abbrev pub EndsAtStep : Service → Option (List ℕ) → Step → LinkEnd → Standing → Standing → Type 0
 EndsAtStep service token step Over before after = Leaves service token step before after
 EndsAtStep service token step Killed before after = Kills service token step before after
 EndsAtStep service token step LinkFault before after = Fails service token step before after
 EndsAtStep service token step (Ended at) before after = Stops service step at before after
 
--- a step was followed, or there was none, or the call ends at the step
+-- there was no step, or a step was executed and the connection goes on, or the call ends at the step
 abbrev pub FollowsStep : Service → Option (List ℕ) → Option Step → Result (Unit {0}) LinkEnd → Standing → Standing → Type 0
 FollowsStep service token None (Ok done) before after = after ≡ before
 FollowsStep service token None (Err end) before after = ⊥

@@ -27,7 +27,7 @@ state-act acts t cmd place still =
     ap (λ (p : PlaceView). life (if acts_on_content cmd place then act_after t cmd ∷ trail acts p else trail acts p) t) still
     ∙ life-chosen (acts_on_content cmd place) cmd (trail acts place) t
 
--- the acts that made a place came by a time by which all acts came
+-- the acts on a place came by a time by which all acts came
 by_chosen : (on : Bool) (t : ℕ) (act : Act) (earlier : List Act) → act.ticks ≤ t → AreBy t earlier →
     AreBy t (if on then act ∷ earlier else earlier)
 by_chosen true t act earlier low rest = (low, rest)
@@ -39,7 +39,7 @@ AreBy-trail (act ∷ before) t place by =
     by_chosen (acts_on_content act.cmd place) t act (trail before (content_origin act.cmd place)) by.0
     (AreBy-trail before t (content_origin act.cmd place) by.1)
 
--- and `n` ticks later it is that place after `n` ticks
+-- `n` ticks later a place is its former state after `n` ticks
 life-later : (acts : List Act) (t n : ℕ) → AreBy t acts → life acts (t + n) ≡ after (life acts t) n
 life-later [] t n by = refl
 life-later (act ∷ before) t n by =
@@ -131,7 +131,7 @@ module _ (acts : List Act) (t channel : ℕ) where
       standing-changed (at.channel == channel) at.layer n (live_places acts t channel) (λ k. state acts t (record { channel = channel; layer = k }))
       (effect cmd) (ArePlaces-live acts t channel) (standing-live acts t channel)
 
--- what a command on a place makes of places are places
+-- the places after a command on a place are a list of places
 pub places_chosen : (here : Bool) (changed places : Places) → ArePlaces changed → ArePlaces places → ArePlaces (if here then changed else places)
 places_chosen true changed places p q = p
 places_chosen false changed places p q = q

@@ -10,12 +10,12 @@ use Rattle.history_model.specs.stage.Life.{Life}
 use Rattle.history_model.specs.stage.Live.{live_layers, state}
 use Rattle.history_model.specs.stage.Places.{place_at, places}
 
--- none before the first event
+-- there are no live places before the first event
 pub places-start : (channel : ℕ) → places [] channel ≡ []
 unfolding places acts
 places-start channel = refl
 
--- each is what stands at its layer
+-- each place of the list is what its layer holds
 all_chosen : (acts : List Act) (t channel : ℕ) (numbers : List ℕ) →
     AllByRecursion (λ (place : ℕ × Life). place.1 ≡ state acts t (record { channel = channel; layer = place.0 })) (map (place_at acts t channel) numbers)
 all_chosen acts t channel [] = tt

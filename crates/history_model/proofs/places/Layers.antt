@@ -16,7 +16,7 @@ use Rattle.history_model.proofs.places.Lists.{empty_unless_live}
 abbrev pub is_in : ℕ → List ℕ → Bool
 is_in n numbers = list_any (λ m. m == n) numbers
 
--- numbers above one, and numbers that rise
+-- numbers that are above a number, and numbers that rise
 abbrev pub AreMore : ℕ → List ℕ → Type 0
 AreMore n [] = Unit {0}
 AreMore n (m ∷ more) = (n < m) × AreMore n more
@@ -142,7 +142,7 @@ was_apart n Info found e = e
 not_there : (at place : PlaceView) → eqb at.layer place.layer ≡ false → same_place at place ≡ true → ⊥
 not_there at place apart there = false≢true (sym apart ∙ (and_parts (at.channel == place.channel) _ there).1)
 
--- it leaves such a place empty if it acts on it
+-- a command that acts on such an empty place leaves it empty
 leaves_empty : (cmd : Cmd) (place : PlaceView) (found : List ℕ) → is_in place.layer (with_layers_of cmd found) ≡ false →
     acts_on_content cmd place ≡ true → effect cmd empty_place ≡ empty_place
 leaves_empty (Load at take) place found e there = absurd (not_there at place (apart_from place.layer at.layer found e).0 there)
@@ -165,7 +165,7 @@ leaves_empty (RemoveFile marked) place found e there = refl
 leaves_empty (Value at prop) place found e there = refl
 leaves_empty Info place found e there = refl
 
--- the layer from which its content came is not among them either
+-- the layer from which the content of such a place came is not among them either
 other_layer : (a place : PlaceView) → eqb a.layer place.layer ≡ false → same_place place a ≡ false
 other_layer a place apart = elim (cases_Bool (same_place place a)) [
   | inr e ↦ e
@@ -234,7 +234,7 @@ state-other_layer (act ∷ before) t place e =
 abbrev chosen : (ℕ → Life) → List ℕ → Places
 chosen f numbers = map (λ n. (n, f n)) (filter (λ n. is_live (f n)) numbers)
 
--- they have at each number its life, if a number that is left out has an empty one
+-- the list has at each number its life, if a number that is left out has an empty one
 standing-more : (f : ℕ → Life) (m n : ℕ) (live : Bool) (numbers : List ℕ) → is_live (f m) ≡ live → (m ≡ n) ⊎ (m ≡ n → ⊥) →
     ((eqb m n || is_in n numbers) ≡ false → f n ≡ empty_place) →
     ((is_in n numbers ≡ false → f n ≡ empty_place) → standing (chosen f numbers) n ≡ f n) →
@@ -255,7 +255,7 @@ standing-chosen f [] n out = sym (out refl)
 standing-chosen f (m ∷ numbers) n out =
     standing-more f m n (is_live (f m)) numbers refl (cases_eq m n) out (standing-chosen f numbers n)
 
--- and they are places where the numbers rise
+-- the list is a list of places if the numbers rise
 above_more : (f : ℕ → Life) (m n : ℕ) (live : Bool) (numbers : List ℕ) → m < n → AreAbove m (chosen f numbers) →
     AreAbove m (map (λ k. (k, f k)) (cond live (n ∷ filter (λ k. is_live (f k)) numbers) (filter (λ k. is_live (f k)) numbers)))
 above_more f m n true numbers low above = (low, above)
@@ -276,7 +276,7 @@ ArePlaces-chosen f [] rising = tt
 ArePlaces-chosen f (m ∷ numbers) rising =
     places_more f m (is_live (f m)) numbers refl (AreAbove-chosen f m numbers rising.0) (ArePlaces-chosen f numbers rising.1)
 
--- the live places of a channel rise, are live, and have at each layer what stands there
+-- the live places of a channel are in rising layer, are live, and have at each layer what it holds
 pub ArePlaces-live : (acts : List Act) (t channel : ℕ) → ArePlaces (live_places acts t channel)
 ArePlaces-live acts t channel =
     ArePlaces-chosen (λ layer. state acts t (record { channel = channel; layer = layer })) (layers acts) (AreRising-layers acts)

@@ -1,4 +1,4 @@
--- When acts came, and what keeps a list of live places within its limit.
+-- By when acts came, and which commands keep a list of live places within its limit.
 use Rattle.std.proofs.Common.{◌≡◌, ℕ, ◌≤◌, ◌==◌, Bool, true, false, ◌||◌, inl, inr, List, [], ◌∷◌, ◌++◌, length, refl, sym, ap, ◌∙◌, arith, is_some, ne_eqb, if◌then◌else◌}
 use Rattle.std.proofs.lemmas.Bool.{false≢true, cases_eq, or_right}
 use Rattle.std.specs.Prelude.{Option, Some, None, option_map}
@@ -58,7 +58,7 @@ pub was_marked : (paused : Bool) (foreground : Option Foreground) (backed : Bool
 was_marked paused None backed live = live
 was_marked paused (Some f) backed live = refl
 
--- so they make no list of places longer
+-- commands that make no place live make no list of places longer
 pub no_longer : (here : Bool) (changed places : Places) → length changed ≤ length places → length (if here then changed else places) ≤ length places
 no_longer true changed places fewer = fewer
 no_longer false changed places fewer = omega arith
@@ -69,7 +69,7 @@ no_longer_at at cmd channel places p was =
     no_longer (at.channel == channel) _ places
     (length-with_place places at.layer (effect cmd (standing places at.layer)) p (was (standing places at.layer)))
 
--- a test that no number passes, and one that a number of the list passes
+-- if no number passes a test, none of a list does, and if a number of a list passes it, `list_any` is true
 pub none_passes : (test : ℕ → Bool) (numbers : List ℕ) → ((n : ℕ) → test n ≡ false) → list_any test numbers ≡ false
 none_passes test [] each = refl
 none_passes test (n ∷ numbers) each = ap (λ (b : Bool). b || list_any test numbers) (each n) ∙ none_passes test numbers each

@@ -1,4 +1,4 @@
--- Lists of places: what they have at a layer determines them, and what one more place makes of them.
+-- Lists of places: they are determined by what they have at each layer, and one place more changes one layer.
 use Rattle.std.proofs.Common.{◌≡◌, ℕ, suc, ◌<◌, ◌≤◌, eqb, ltb, Bool, true, false, ◌⊎◌, inl, inr, [], ◌∷◌, length, refl, sym, ap, ap₂, ◌∙◌, arith, is_some, eq-eqb, ne_eqb, lt-ltb, le-ltb, if◌then◌else◌}
 use Rattle.std.proofs.lemmas.Bool.{false≢true, cases_eq, cases_lt, cases_order, cond-true, cond-false, or_parts}
 use Rattle.std.specs.Prelude.{Option, Some, None}
@@ -6,7 +6,7 @@ use Rattle.history_model.specs.stage.Life.{Life, empty_place}
 use Rattle.history_model.specs.stage.Live.{is_live}
 use Rattle.history_model.specs.stage.Places.{Places, AreAbove, ArePlaces, standing, in_front, with_place}
 
--- what holds neither a foreground nor a background is empty
+-- a place without foreground and background is empty
 none_of : {A : Type 0} (found : Option A) → is_some found ≡ false → found ≡ None
 none_of None e = refl
 none_of (Some a) e = cc
@@ -16,12 +16,12 @@ empty_unless_live s e =
     let apart = or_parts (is_some s.foreground) (is_some s.background) e in
     λ i. record { foreground = none_of s.foreground apart.0 i; background = none_of s.background apart.1 i }
 
--- layers above one are above each lower one
+-- layers above a layer are above each lower one
 pub AreAbove-lower : (places : Places) (m n : ℕ) → m ≤ n → AreAbove n places → AreAbove m places
 AreAbove-lower [] m n low above = tt
 AreAbove-lower (place ∷ more) m n low above = (omega (arith, above.0), AreAbove-lower more m n low above.1)
 
--- nothing stands below the first layer of a list
+-- a list has nothing below its first layer
 pub standing-below : (places : Places) (layer n : ℕ) → AreAbove layer places → n ≤ layer → standing places n ≡ empty_place
 standing-below [] layer n above low = refl
 standing-below (place ∷ more) layer n above low =
@@ -124,7 +124,7 @@ AreAbove-with_place (place ∷ more) m layer life low above = elim (cases_order 
   ]
 ]
 
--- a list of places with one more is one
+-- a list of places with one more is a list of places
 pub ArePlaces-with_place : (places : Places) (layer : ℕ) (life : Life) → ArePlaces places → ArePlaces (with_place places layer life)
 ArePlaces-with_place [] layer life p = ArePlaces-in_front (is_live life) layer life [] refl tt tt
 ArePlaces-with_place (place ∷ more) layer life p = elim (cases_order place.0 layer) [
@@ -140,7 +140,7 @@ ArePlaces-with_place (place ∷ more) layer life p = elim (cases_order place.0 l
   ]
 ]
 
--- it has this at the layer, and what it had at the others
+-- a list with one more place has that at its layer, and what it had at the others
 pub standing-with_place : (places : Places) (layer n : ℕ) (life : Life) → ArePlaces places →
     standing (with_place places layer life) n ≡ (if eqb layer n then life else standing places n)
 standing-with_place [] layer n life p = standing-in_front (is_live life) layer n life [] refl tt
@@ -177,7 +177,7 @@ standing-with_place (place ∷ more) layer n life p = elim (cases_order place.0 
         standing-other place (with_place more layer life) n apart ∙ rest
         ∙ ap (λ (s : Life). if eqb layer n then life else s) (sym (standing-other place more n apart))
 
--- a place that is not live if nothing was adds no layer
+-- a place that is live only if its layer was before makes the list no longer
 pub length-with_place : (places : Places) (layer : ℕ) (life : Life) → ArePlaces places →
     (is_live life ≡ true → is_live (standing places layer) ≡ true) → length (with_place places layer life) ≤ length places
 length-with_place [] layer life p was = few (is_live life) refl was

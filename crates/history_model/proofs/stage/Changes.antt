@@ -19,7 +19,7 @@ use Rattle.history_model.proofs.places.Lists.{ArePlaces-with_place, same_places,
 use Rattle.history_model.proofs.places.Layers.{ArePlaces-live, standing-live}
 use Rattle.history_model.proofs.places.Commands.{ArePlaces-changed, at_one, live_places-tick, places_chosen, standing-cleared, state-act, state-play_take}
 
--- a list of places where this stands at a place of its channel or of another
+-- a list of places with this life at a place of its channel or of another
 placed_here : (here : Bool) (layer n : ℕ) (s : Life) (places : Places) → ArePlaces places →
     standing (if here then with_place places layer s else places) n ≡ (if here && eqb layer n then s else standing places n)
 placed_here true layer n s places p = standing-with_place places layer n s p
@@ -29,7 +29,7 @@ ArePlaces-placed_at : (at : PlaceView) (s : Life) (channel : ℕ) (places : Plac
 ArePlaces-placed_at at s channel places p =
     places_chosen (at.channel == channel) (with_place places at.layer s) places (ArePlaces-with_place places at.layer s p) p
 
--- two places that are one are equal, and the test for it may be turned round
+-- places that pass the test for equal places are equal, and the test is symmetric
 equal_places : (a b : PlaceView) → same_place a b ≡ true → a ≡ b
 equal_places a b e =
     let parts = and_parts (a.channel == b.channel) (a.layer == b.layer) e in
@@ -38,7 +38,7 @@ equal_places a b e =
 same_place_turned : (a b : PlaceView) → same_place a b ≡ same_place b a
 same_place_turned a b = λ i. eqb_turned a.channel b.channel i && eqb_turned a.layer b.layer i
 
--- what stands at the places after they are exchanged
+-- what places hold after two are exchanged
 exchanged_tests : (f : PlaceView → Life) (a b place : PlaceView) (is_a is_b : Bool) → same_place place a ≡ is_a → same_place place b ≡ is_b →
     (if is_b then f a else (if is_a then f b else f place)) ≡ f (if is_a then b else (if is_b then a else place))
 exchanged_tests f a b place true true e e' = ap f (sym (equal_places place a e) ∙ equal_places place b e')
@@ -78,7 +78,7 @@ exchanged_layer a b channel layer = by_tests (channel == a) (channel == b)
     by_tests false true = refl
     by_tests false false = refl
 
--- what stands at a layer of a channel after a command
+-- what a layer of a channel holds after a command
 module _ (acts : List Act) (t channel : ℕ) where
   stands-after : (cmd : Cmd) (n : ℕ) →
       standing (live_after cmd (live_places acts t) channel) n ≡ state (acts_of t cmd ++ acts) t (record { channel = channel; layer = n })
@@ -109,7 +109,7 @@ module _ (acts : List Act) (t channel : ℕ) where
   stands-after (Value at prop) n = standing-live acts t channel n
   stands-after Info n = standing-live acts t channel n
 
--- a command makes places of places
+-- the live places after a command are lists of places
 pub ArePlaces-live_after : (cmd : Cmd) (before : ℕ → Places) → ((channel : ℕ) → ArePlaces (before channel)) → (channel : ℕ) →
     ArePlaces (live_after cmd before channel)
 ArePlaces-live_after (Load at take) before each channel = ArePlaces-changed at (Load at take) channel (before channel) (each channel)
@@ -231,7 +231,7 @@ some_is_refused-append (cmd ∷ front) back state =
     (some_is_refused back (state_after_all front (state_after cmd state)))
     (some_is_refused-append front back (state_after cmd state))
 
--- a command leaves the channels that it does not name
+-- a command does not change the live places of a channel that it does not name
 module _ (before : ℕ → Places) (channel : ℕ) where
   unchanged-at : (at : PlaceView) (cmd : Cmd) → (at.channel == channel) ≡ false → changed_at at cmd channel (before channel) ≡ before channel
   unchanged-at at cmd apart = cond-false (eqb at.channel channel) _ (before channel) apart
@@ -268,7 +268,7 @@ module _ (before : ℕ → Places) (channel : ℕ) where
   live_after-other (Value at prop) apart = refl
   live_after-other Info apart = refl
 
--- and so with their waiting settings
+-- nor does it change the number of its waiting settings
 and_none : (x y : Bool) → y ≡ false → (x && y) ≡ false
 and_none true y e = e
 and_none false y e = refl

@@ -31,7 +31,7 @@ record AreAllowed (acts : List Act) (t : ℕ) : Type 0 where
   by : AreBy t acts
   within : IsWithinLimits (stage_state acts t)
 
--- a command or a batch keeps them so, refused or not
+-- after a command or a batch, refused or not, the acts are again allowed
 pub AreBy-all : (acts : List Act) (t : ℕ) (cmds : List Cmd) → AreBy t acts → AreBy t (acts_after_all t cmds acts)
 AreBy-all acts t [] by = by
 AreBy-all acts t (cmd ∷ cmds) by = AreBy-all (acts_of t cmd ++ acts) t cmds (AreBy-more acts t cmd (omega arith) by)
@@ -59,7 +59,7 @@ AreAllowed-batch acts t cmds h =
       within = subst IsWithinLimits (sym (stage_state-commands acts t cmds)) (IsWithinLimits-commands acts t cmds h.within kept);
     }))
 
--- so does a tick
+-- after a tick the acts are again allowed
 AreAllowed-tick : (acts : List Act) (t : ℕ) → AreAllowed acts t → AreAllowed acts (1 + t)
 AreAllowed-tick acts t h = record {
   by = AreBy-later acts t (1 + t) (omega arith) h.by;
@@ -213,7 +213,7 @@ unfolding places waiting
 stage_after-stop history tag =
     stage_after-event history (Stop tag) ∙ ap₂ stage_state (acts-stop history tag) (no_tick_more (ticks history))
 
--- the same of one channel
+-- the places and the waiting settings of a channel after one event more
 places_chosen_by : (refused : Bool) (before after : StageState) (channel : ℕ) →
     (if refused then before else after).places channel ≡ (if refused then before.places channel else after.places channel)
 places_chosen_by true before after channel = refl

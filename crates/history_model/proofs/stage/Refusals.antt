@@ -29,7 +29,7 @@ is_over-state acts t channel =
     ap (λ (n : ℕ). ltb MAX_LIVE_LAYERS n || ltb MAX_WAITING_SETTINGS (length (waiting_settings acts channel)))
     (sym (length-map (live_layers acts t channel) (place_at acts t channel)))
 
--- no channel is, within the limits
+-- within the limits no channel is over a limit
 none_over : (state : StageState) → IsWithinLimits state → (channel : ℕ) → is_over_in state channel ≡ false
 none_over state h channel =
     ap₂ (λ (a b : Bool). a || b) (le-ltb MAX_LIVE_LAYERS (length (state.places channel)) (h.places channel))
@@ -42,7 +42,7 @@ is_in-more n m numbers among = elim (cases_Bool (is_in n (with_number m numbers)
   | inr e ↦ absurd (false≢true (sym (apart_from n m numbers e).1 ∙ among))
 ]
 
--- one channel that has no more than it may, where the others stay
+-- if the named channel has no more live places than it may have and the others stay, no channel has more
 few_named : (before : ℕ → Places) (named channel : ℕ) (after : ℕ → Places) → ((k : ℕ) → length (before k) ≤ MAX_LIVE_LAYERS) →
     is_over_limit (after named) ≡ false → ((named ≡ channel → ⊥) → after channel ≡ before channel) → (named ≡ channel) ⊎ (named ≡ channel → ⊥) →
     length (after channel) ≤ MAX_LIVE_LAYERS
@@ -112,7 +112,7 @@ module _ (state : StageState) (each : (channel : ℕ) → ArePlaces (state.place
   few_live (Value at prop) kept channel = h.places channel
   few_live Info kept channel = h.places channel
 
--- nor more waiting settings
+-- after such a command each channel has no more waiting settings than it may have
 one_more_waits : (deferred here : Bool) (named channel : ℕ) (waiting : ℕ → ℕ) → (deferred && leb MAX_WAITING_SETTINGS (waiting named)) ≡ false →
     (here ≡ true → named ≡ channel) → waiting channel ≤ MAX_WAITING_SETTINGS →
     (if deferred && here then 1 + waiting channel else waiting channel) ≤ MAX_WAITING_SETTINGS
@@ -163,7 +163,7 @@ pub IsWithinLimits-more : (acts : List Act) (t : ℕ) (cmd : Cmd) → IsWithinLi
     is_refused_by cmd (stage_state acts t) ≡ false → IsWithinLimits (stage_state (acts_of t cmd ++ acts) t)
 IsWithinLimits-more acts t cmd h kept = subst IsWithinLimits (sym (stage_state-command acts t cmd)) (IsWithinLimits-command acts t cmd h kept)
 
--- and after one that is refused some channel would be over a limit
+-- after a command that is refused some channel would be over a limit
 too_many : (more : List Act) (t named : ℕ) → is_in named (channels more) ≡ true → is_over_limit (live_places more t named) ≡ true →
     list_any (is_over more t) (channels more) ≡ true
 too_many more t named among many =
@@ -241,14 +241,14 @@ module _ (acts : List Act) (t : ℕ) where
       ∙ ap (λ (s : StageState). is_over_in s channel) (stage_state-command acts t cmd)
       ∙ none_over (state_after cmd (stage_state acts t)) (IsWithinLimits-command acts t cmd h e) channel)
 
--- a command is refused exactly if the stage tells it
+-- a command is refused exactly if `is_refused_by` holds of the stage
 pub with_command-state : (acts : List Act) (t : ℕ) (cmd : Cmd) → IsWithinLimits (stage_state acts t) →
     with_command acts t cmd ≡ (if is_refused_by cmd (stage_state acts t) then None else Some (acts_of t cmd ++ acts))
 with_command-state acts t cmd h =
     ap (λ (over : Bool). if over then None else Some (acts_of t cmd ++ acts))
     (over_exactly acts t cmd (is_refused_by cmd (stage_state acts t)) h refl)
 
--- it is taken if it leaves no channel over a limit, and refused if it leaves one
+-- a command is taken if it leaves no channel over a limit, and refused if it leaves one
 pub is_over-within : (acts : List Act) (t : ℕ) → IsWithinLimits (stage_state acts t) → (channel : ℕ) → is_over acts t channel ≡ false
 is_over-within acts t h channel = is_over-state acts t channel ∙ none_over (stage_state acts t) h channel
 
@@ -271,7 +271,7 @@ with_command-over acts t cmd channel h over =
     ∙ ap (λ (refused : Bool). if refused then None else Some (acts_of t cmd ++ acts))
     (refused_if_over acts t cmd channel (is_refused_by cmd (stage_state acts t)) h over refl)
 
--- a list of commands is refused exactly if the stage tells it
+-- a list of commands is refused exactly if `some_is_refused` holds of the stage
 by_refusal : (acts : List Act) (t : ℕ) (cmd : Cmd) (cmds : List Cmd) (refused : Bool) →
     (refused ≡ false → with_commands (acts_of t cmd ++ acts) t cmds
     ≡ (if some_is_refused cmds (stage_state (acts_of t cmd ++ acts) t) then None else Some (acts_after_all t cmds (acts_of t cmd ++ acts)))) →

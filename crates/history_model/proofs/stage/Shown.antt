@@ -26,7 +26,7 @@ use Rattle.history_model.proofs.places.Layers.{standing-live}
 use Rattle.history_model.proofs.places.Lists.{empty_unless_live}
 use Rattle.history_model.proofs.stage.Histories.{IsWithinLimits-history}
 
--- what is taken of numbers is what is taken of the live ones among them, if nothing is taken of an empty place
+-- what is drawn of layers is what is drawn of the live ones, if nothing is drawn of an empty place
 chosen_more : {X : Type 0} (h : ℕ × Life → Option X) (f : ℕ → Life) (m : ℕ) (live : Bool) (numbers : List ℕ) (rest : List X) →
     ((n : ℕ) → h (n, empty_place) ≡ None) → is_live (f m) ≡ live →
     rest ≡ filter_map h (map (λ n. (n, f n)) (filter (λ n. is_live (f n)) numbers)) →
@@ -58,7 +58,7 @@ scene-places history channel =
     ap (λ (t : ℕ). scene_of (acts_back (reverse history)) t (last_foregrounds (reverse history)) channel) (ticks-reverse history)
     ∙ scene_of-live (acts_back (reverse history)) (ticks history) (last_foregrounds (reverse history)) channel
 
--- so it has no more layers than a channel may have
+-- the scene of a channel has no more layers than a channel may have live places
 longer_by : {X : Type 0} (one : Option X) (rest : List X) (n : ℕ) → length rest ≤ n → length (cons_option one rest) ≤ suc n
 longer_by None rest n few = omega (arith, few)
 longer_by (Some x) rest n few = omega (arith, few)

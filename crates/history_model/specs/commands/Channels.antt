@@ -9,14 +9,14 @@ use Rattle.play_types.specs.declared.command.Cmd.{Cmd}
 use Rattle.play_types.specs.declared.shape.CommandShape.TheVariants as shape
 use Rattle.play_types.specs.declared.shape.Query.TheVariants as query
 
--- a producer that is a route is one to one of the first `channels` channels
+-- if the producer is a route, its channel is one of the first `channels` channels
 abbrev pub IsRouted : ℕ → Spec → Type 0
 IsRouted channels (Clip id) = Unit {0}
 IsRouted channels (Colour value) = Unit {0}
 IsRouted channels (RouteChannel channel) = IsConfigured channels channel
 IsRouted channels (RouteLayer place) = IsConfigured channels place.channel
 
--- each place, channel and route that a command names is of one of the first `channels` channels
+-- every channel that a command names, by itself, in a place or in a route, is one of the first `channels` channels
 abbrev pub IsServed : ℕ → Cmd → Type 0
 IsServed channels cmd = elim (shape_of cmd) [
   | shape.Take at take ↦ IsConfigured channels at.channel × IsRouted channels take.spec
@@ -32,10 +32,10 @@ IsServed channels cmd = elim (shape_of cmd) [
   | shape.Ask query.Status ↦ Unit {0}
 ]
 
--- each place, channel and route that a command names is of a configured channel
+-- every channel that a command names is a configured one
 abbrev pub IsAimed : ConfigView → Cmd → Type 0
 IsAimed config cmd = IsServed (length config.channels) cmd
 
--- each channel that a command of these names is a configured one
+-- every channel that one of these commands names is a configured one
 abbrev pub AreAimed : ConfigView → List Cmd → Type 0
 AreAimed config commands = All (IsAimed config) commands

@@ -42,13 +42,13 @@ least_words Bye = 0
 least_words Kill = 0
 least_words Req = 0
 
--- the place that stands alone after a name
+-- the place of a command that has no other argument
 abbrev pub only_place : Line → Result PlaceView Refusal
 only_place line = do
   area ← area_at line 1
   ended line 2 (place_of area)
 
--- a command of a place alone
+-- a command whose only argument is a place
 abbrev pub place_command : Line → (PlaceView → Cmd) → Result Cmd Refusal
 place_command line command = do
   place ← only_place line
@@ -75,7 +75,7 @@ load line = do
   take ← take_at line 2
   Ok (cmd.Load (place_of area) (loaded take))
 
--- of all layers of a channel, or of one layer
+-- CLEAR of all layers of a channel, or of one layer
 abbrev pub cleared : ℕ → Option ℕ → Cmd
 cleared channel None = cmd.ClearChannel channel
 cleared channel (Some layer) = cmd.ClearLayer (record { channel = channel; layer = layer })
@@ -85,8 +85,8 @@ clear line = do
   area ← area_at line 1
   ended line 2 (cleared area.channel area.layer)
 
--- two channels change places, or two layers, and a channel and a layer do not. The command wants besides whether their
--- mixer values change places too
+-- the swap of two channels, or of two layers: none for a channel and a layer. Its last argument is whether the mixer values are
+-- exchanged too
 abbrev pub swapped : Area → Area → Option ℕ → Option ℕ → Option (Bool → Cmd)
 swapped one other None None = Some (cmd.SwapChannels one.channel other.channel)
 swapped one other (Some layer) (Some layer') = Some (cmd.SwapLayers (place_of one) (place_of other))
@@ -107,7 +107,7 @@ staged command = do
   cmd ← command
   Ok (asked.Stage cmd)
 
--- VERSION, with its one word or without it
+-- VERSION, alone or followed by SERVER
 abbrev pub version : Line → Result Parsed Refusal
 version line = do
   named ← flag_at line 1 (codes "SERVER")
@@ -136,17 +136,17 @@ meaning_by_name line Bye = ended line 1 asked.Bye
 meaning_by_name line Kill = ended line 1 asked.Kill
 meaning_by_name line Req = Err Unknown
 
--- what the words of a line ask for, or the first refusal that applies: its places from the left, the other words from the
--- left except the producer, and the producer
+-- what the words of a line ask for, or its first refusal: first its places, then its other words, both from the left, and the
+-- producer last
 abbrev pub meaning : Line → Result Parsed Refusal
 meaning line = meaning_by_name line line.name
 
--- what a line asks for that has enough words
+-- what the words of a line ask for, refused as Missing if they are too few for its command
 abbrev pub enough : Line → Result Parsed Refusal
 enough line =
     if nat_lt (least_words line.name) (length line.words) then meaning line else Err (Missing line.name)
 
--- what the words of a line ask for, or its refusal: first an unknown name, then too few words, then what the command says
+-- what the words of a line ask for, or its first refusal: an unknown name, too few words, or the refusal of its command
 unfoldable pub parsed : ConfigView → List MediaNameView → List (List ℕ) → Result Parsed Refusal
 parsed config media words = do
   word ← ok_or (slice_get words 0) Unknown

@@ -1,5 +1,4 @@
--- A client's line whose command is known, and what stands at its positions. They count from 0, if the command's name
--- stands.
+-- A client's line whose command is known, and the words at its positions. Position 0 is the command's name.
 use Rattle.std.specs.Prelude.{ℕ, ◌+◌, nat_lt, Bool, true, false, if◌then◌else◌, Option, Result, Ok, Err, List, length, slice_get, ok_or, option_and_then}
 use Rattle.std.specs.Option.{option_map_or}
 use Rattle.amcp_text.specs.Numbers.{number_within}
@@ -24,33 +23,33 @@ abbrev pub ◌>>=◌ : {A B : Type 0} → Result A Refusal → (A → Result B R
 (Ok value) >>= next = next value
 (Err refusal) >>= next = Err refusal
 
--- the value of the word at a position: a word without a value is wrong
+-- the value of the word at a position, refused as Illegal if it has none
 abbrev pub legal : {A : Type 0} → Line → ℕ → Option A → Result A Refusal
 legal line at value = ok_or value (Illegal line.name at)
 
--- the word at a position, which the line may not leave out
+-- the word at a position, refused as Missing if the line ends before it
 abbrev pub word_at : Line → ℕ → Result (List ℕ) Refusal
 word_at line at = ok_or (slice_get line.words at) (Missing line.name)
 
--- the whole number at a position, which lies from `least` to `most`
+-- the whole number at a position, from `least` to `most`
 abbrev pub number_at : Line → ℕ → ℕ → ℕ → Result ℕ Refusal
 number_at line at least most = do
   word ← word_at line at
   legal line at (number_within least most word)
 
--- the value, if the line ends before a position: a word there is one too many
+-- the value, if the line ends before a position: a word there is refused as Illegal
 abbrev pub ended : {A : Type 0} → Line → ℕ → A → Result A Refusal
 ended line at value = if nat_lt at (length line.words) then Err (Illegal line.name at) else Ok value
 
--- whether this fixed word stands at a position
+-- whether the word at a position is this fixed word
 abbrev pub stands_at : Line → ℕ → List ℕ → Bool
 stands_at line at fixed = option_map_or (is_word fixed) (slice_get line.words at) false
 
--- the curve that stands at a position, if one does
+-- the curve that the word at a position names, if it names one
 abbrev pub curve_at : Line → ℕ → Option Curve
 curve_at line at = option_and_then curve_of (slice_get line.words at)
 
--- whether this fixed word stands at a position, if no other word may stand, and none after it
+-- whether the word at a position is this fixed word: another word there, or a word after it, is refused as Illegal
 abbrev pub flag_at : Line → ℕ → List ℕ → Result Bool Refusal
 flag_at line at fixed =
     if stands_at line at fixed then ended line (at + 1) true else ended line at false

@@ -1,4 +1,4 @@
--- The forms of MIXER: its place stands at position 1, what is asked of it at 2.
+-- The forms of MIXER: position 1 is its place or channel, and position 2 the property, COMMIT or CLEAR.
 use Rattle.std.specs.Prelude.{ℕ, ◌+◌, nat_lt, not, ◌&&◌, Bool, if◌then◌else◌, Option, Some, None, Result, Ok, List, [], ◌∷◌, length, ℤ, pos, is_some, option_and_then, unwrap_or, codes}
 use Rattle.std.specs.Int.Signed.{le_z}
 use Rattle.std.specs.Str.{bytes_eq}
@@ -18,11 +18,11 @@ use Rattle.play_types.specs.declared.parsed.Refusal.{Refusal}
 use Rattle.history_model.specs.commands.Line.{Line, ◌>>=◌, curve_at, ended, flag_at, legal, number_at, stands_at, word_at}
 use Rattle.history_model.specs.commands.Places.{Area, place_of, area_at}
 
--- a number that is not negative and not above the most, in millionths
+-- the number, if it is from 0 to `most`, in millionths
 abbrev pub up_to : ℤ → ℤ → Option ℤ
 up_to most number = if le_z (pos 0) number && le_z number most then Some number else None
 
--- the number of a property that a word writes, in millionths. A decimal is within minus 1000 to 1000
+-- the value of a word as a number of a property, in millionths. A decimal is within -1000 to 1000
 abbrev pub number_of : Prop → List ℕ → Option ℤ
 number_of Opacity word = option_and_then (up_to MICROS_PER_UNIT) (micro_of word)
 number_of Volume word = option_and_then (up_to MAX_MICROS) (micro_of word)
@@ -39,7 +39,7 @@ micros_at line at property = do
   word ← word_at line at
   legal line at (number_of property word)
 
--- one number, at position 3, and zeros for those that the property has not
+-- one number, at position 3, and three zeros
 abbrev pub one_number : Line → Prop → Result (List ℤ) Refusal
 one_number line property = do
   number ← micros_at line 3 property
@@ -62,28 +62,28 @@ numbers_of line Clip = four_numbers line Clip
 numbers_of line Volume = one_number line Volume
 numbers_of line Keyer = one_number line Keyer
 
--- in how many ticks a value is reached, along which curve, and whether it waits
+-- in how many ticks a value is reached, along which curve, and whether the setting is deferred
 pub record Timing : Type 0 where
   pub duration : ℕ
   pub curve : Curve
   pub deferred : Bool
 
--- at most DEFER stands at a position, and nothing after it
+-- the timing of a line that has DEFER or no word at a position, and no word after it
 abbrev pub deferral_at : Line → ℕ → ℕ → Curve → Result Timing Refusal
 deferral_at line at duration curve = do
   deferred ← flag_at line at (codes "DEFER")
   Ok (record { duration = duration; curve = curve; deferred = deferred })
 
--- whether a word other than DEFER stands at a position
+-- whether there is a word at a position that is not DEFER
 abbrev pub has_duration : Line → ℕ → Bool
 has_duration line at = nat_lt at (length line.words) && not (stands_at line at (codes "DEFER"))
 
--- after a duration at a position at most a curve and DEFER stand: without a curve it is the linear one
+-- the timing after a duration at a position: an optional curve, linear by default, and an optional DEFER
 abbrev pub timing_after : Line → ℕ → ℕ → Result Timing Refusal
 timing_after line at duration =
     deferral_at line (if is_some (curve_at line (at + 1)) then at + 2 else at + 1) duration (unwrap_or (curve_at line (at + 1)) Linear)
 
--- at most these stand from a position on: a duration, a curve after it, and DEFER
+-- the timing from a position on: an optional duration, an optional curve after it, and an optional DEFER
 unfoldable pub timing_at : Line → ℕ → Result Timing Refusal
 timing_at line at =
     if has_duration line at then
@@ -92,7 +92,7 @@ timing_at line at =
       timing_after line at duration)
     else deferral_at line at 0 Linear
 
--- what stands after the numbers of a property: a keyer has no duration
+-- the timing after the numbers of a property: a keyer has no duration
 abbrev pub timing_of : Line → Prop → Result Timing Refusal
 timing_of line Opacity = timing_at line 4
 timing_of line Fill = timing_at line 7
@@ -105,7 +105,7 @@ abbrev pub setting_for : PlaceView → Prop → List ℤ → Timing → SettingV
 setting_for place property numbers timing =
     setting_of place property numbers timing.duration timing.curve timing.deferred
 
--- a value that is asked for, or one that is set
+-- the query of a property, or its setting if words follow the property
 abbrev pub property_command : Line → PlaceView → Prop → Result Cmd Refusal
 property_command line place property =
     if nat_lt 3 (length line.words) then
@@ -115,12 +115,12 @@ property_command line place property =
       Ok (cmd.Set (setting_for place property numbers timing)))
     else Ok (cmd.Value place property)
 
--- all mixer values of a channel, or of a layer of it
+-- the reset of all mixer values of a channel, or of a layer of it
 abbrev pub reset : ℕ → Option ℕ → Cmd
 reset channel None = cmd.ResetChannel channel
 reset channel (Some layer) = cmd.ResetLayer (record { channel = channel; layer = layer })
 
--- the command of a MIXER whose words name an area and then this word
+-- the command of a MIXER with this area at position 1 and this word at 2
 abbrev pub mixer_command : Line → Area → List ℕ → Result Cmd Refusal
 mixer_command line area word =
     if is_word (codes "COMMIT") word then ended line 3 (cmd.CommitMixer area.channel)

@@ -15,7 +15,7 @@ use Rattle.play_types.specs.declared.parsed.Refusal.TheVariants.{Missing, Illega
 use Rattle.play_types.specs.Words.{curve_of, is_word, kind_of}
 use Rattle.history_model.specs.commands.Line.{Line}
 
--- the options: each may be given once. CUT and the other transitions are one
+-- the options, each of which may be given once. CUT and the other transitions are one option
 pub data OptionName : Type 0 where
   Loop : OptionName
   Transition : OptionName
@@ -23,7 +23,7 @@ pub data OptionName : Type 0 where
   Length : OptionName
   Auto : OptionName
 
--- the option that a word begins
+-- the option that begins with this word
 abbrev pub option_of : List ℕ → Option OptionName
 option_of word =
     if is_word (codes "LOOP") word then Some Loop
@@ -51,7 +51,7 @@ manner_len (one ∷ two ∷ rest) =
     else if is_direction one then (if is_curve two then 2 else 1)
     else 0
 
--- how many of the first words are the number of an option that this word begins. After CUT it may be left out
+-- how many words the number of an option takes that begins with this word: 0 or 1. After CUT it may be left out
 abbrev pub number_len : List ℕ → OptionName → List (List ℕ) → ℕ
 number_len word Loop rest = 0
 number_len word Auto rest = 0
@@ -60,7 +60,7 @@ number_len word Length rest = 1
 number_len word Transition rest =
     if is_word (codes "CUT") word && is_none (option_and_then whole_number (slice_get rest 0)) then 0 else 1
 
--- how many of the first words belong to an option that this word begins
+-- how many of the words after this one belong to the option that begins with it
 abbrev pub option_len : List ℕ → Option OptionName → List (List ℕ) → ℕ
 option_len word (Some Loop) rest = number_len word Loop rest
 option_len word (Some Transition) rest =
@@ -76,8 +76,8 @@ pub record Written : Type 0 where
   pub word : List ℕ
   pub more : List (List ℕ)
 
--- the words from a position on, each option with the words that belong to it. The first words may be those of the
--- option before, and are passed over
+-- the options that are written from a position on, each with the words that belong to it. The first `passed` words belong to
+-- the option before, and are skipped
 abbrev pub options_after : ℕ → ℕ → List (List ℕ) → List Written
 options_after passed at [] = []
 options_after (suc passed) at (word ∷ words) = options_after passed (at + 1) words
@@ -89,7 +89,7 @@ options_after zero at (word ∷ words) =
 abbrev pub options_from : ℕ → List (List ℕ) → List Written
 options_from at words = options_after 0 at words
 
--- the number of an option, by which options are compared
+-- the index of an option, by which options are compared
 abbrev pub option_number : OptionName → ℕ
 option_number Loop = 0
 option_number Transition = 1
@@ -97,15 +97,15 @@ option_number Seek = 2
 option_number Length = 3
 option_number Auto = 4
 
--- whether two options are one
+-- whether two options are equal
 abbrev pub is_same_option : OptionName → OptionName → Bool
 is_same_option one other = option_number one == option_number other
 
--- whether an option is the one that is written
+-- whether a written option is this one
 abbrev pub is_option : OptionName → Written → Bool
 is_option option written = option_map_or (is_same_option option) (option_of written.word) false
 
--- an option among those that are written
+-- the first written option of this name, if there is one
 abbrev pub given : OptionName → List Written → Option Written
 given option all = find (is_option option) all
 
@@ -125,21 +125,21 @@ most_number Seek = MAX_FRAMES
 most_number Length = MAX_FRAMES
 most_number Auto = 0
 
--- the number that a word writes for an option
+-- the value of a word as the number of an option, none if it is no number in its range
 abbrev pub option_value : OptionName → List ℕ → Option ℕ
 option_value option word = number_within (least_number option) (most_number option) word
 
--- the number of an option as it is written: 0 if none is written
+-- the number of a written option, 0 if it has none
 abbrev pub written_number : OptionName → Written → ℕ
 written_number option written = unwrap_or (option_and_then (option_value option) (slice_get written.more 0)) 0
 
--- the refusal of an option's number, if it has one: it is missing, or it is wrong
+-- the refusal of an option's number: Missing if there is none, Illegal if it is out of range or no number
 abbrev pub number_refusal : Name → ℕ → OptionName → Option (List ℕ) → Option Refusal
 number_refusal name at option None = Some (Missing name)
 number_refusal name at option (Some number) =
     if is_some (option_value option number) then None else Some (Illegal name (at + 1))
 
--- the refusal of an option that stands after others: it is none, it is repeated, or its number is refused
+-- the refusal of a word after other options: it begins no option, it repeats one, or its number is refused
 abbrev pub option_refusal : Name → List Written → Written → Option OptionName → Option Refusal
 option_refusal name before written None = Some (Illegal name written.at)
 option_refusal name before written (Some option) =
@@ -147,7 +147,7 @@ option_refusal name before written (Some option) =
     else if number_len written.word option written.more == 0 then None
     else number_refusal name written.at option (slice_get written.more 0)
 
--- the first refusal of options, from the left, that stand after options that are not refused
+-- the first refusal of options, from the left, after options that are not refused
 abbrev pub options_refusal : Name → List Written → List Written → Option Refusal
 options_refusal name before [] = None
 options_refusal name before (written ∷ rest) =
@@ -155,7 +155,7 @@ options_refusal name before (written ∷ rest) =
     then option_refusal name before written (option_of written.word)
     else options_refusal name (before ++ written ∷ []) rest
 
--- what options say. Without a length a clip is played to its end
+-- the values of the options. Without a length a clip is played to its end
 pub record Options : Type 0 where
   pub looped : Bool
   pub transition : TransView
@@ -173,7 +173,7 @@ transition_of written =
     let manner = drop (number_len written.word Transition written.more) written.more in
     trans_of (unwrap_or (kind_of written.word) Cut) (written_number Transition written) (curve_among manner) (list_any is_leftward manner)
 
--- what the options say that are written
+-- the values of the written options, and the defaults of the others
 abbrev pub options_of : List Written → Options
 options_of all = record {
   looped = is_some (given Loop all);
@@ -183,12 +183,12 @@ options_of all = record {
   auto = is_some (given Auto all);
 }
 
--- what the options say, or the first refusal
+-- the options, unless there is a refusal
 abbrev pub unless_refused : Option Refusal → Options → Result Options Refusal
 unless_refused None options = Ok options
 unless_refused (Some refusal) options = Err refusal
 
--- what the options say that stand in a line from a position on
+-- the options of a line from a position on, or their first refusal
 unfoldable pub options_at : Line → ℕ → Result Options Refusal
 options_at line at =
     let all = options_from at (drop at line.words) in

@@ -20,7 +20,7 @@ place_of area = record { channel = area.channel; layer = unwrap_or area.layer 0 
 abbrev pub is_dash : ℕ → Bool
 is_dash c = c == 45
 
--- the layer that stands after the first dash of a word at a position: none if there is no dash
+-- the layer that a word at a position names after its first dash, none if it has no dash
 abbrev pub layer_of : Line → ℕ → List ℕ → Result (Option ℕ) Refusal
 layer_of line at word =
     if list_any is_dash word then
@@ -29,7 +29,7 @@ layer_of line at word =
       Ok (Some layer))
     else Ok None
 
--- the area that a word at a position names: its channel is a configured one
+-- the area that a word at a position names, whose channel has to be a configured one
 unfoldable pub area_of : Line → ℕ → List ℕ → Result Area Refusal
 area_of line at word = do
   channel ← ok_or (number_within 1 (length line.config.channels) (before_first is_dash word)) (Channel line.name)

@@ -15,7 +15,7 @@ use Rattle.history_model.specs.commands.Line.{Line, ◌>>=◌, legal, word_at}
 use Rattle.history_model.specs.commands.Places.{area_of}
 use Rattle.history_model.specs.commands.Options.{Options, options_at}
 
--- a producer, and the frames of a clip, 0 for another
+-- a producer, and how many frames its clip has, 0 if it is no clip
 pub record Producer : Type 0 where
   pub spec : Spec
   pub frames : ℕ
@@ -59,7 +59,7 @@ named_colour word =
 abbrev pub clip_named : List MediaNameView → List ℕ → Option (ℕ × MediaNameView)
 clip_named media word = find (λ entry. is_same_name entry.1.name word) (enumerate_from 0 media)
 
--- a clip that was looked for as a producer
+-- a clip of the media table as a producer: NotFound if there is none, Unreadable if its file is unreadable
 abbrev pub clip_producer : Line → Option (ℕ × MediaNameView) → Result Producer Refusal
 clip_producer line None = Err (NotFound line.name)
 clip_producer line (Some entry) =
@@ -83,7 +83,7 @@ producer_of line at word =
       Ok (plain (route_to area.channel area.layer)))
     else named_producer line word (named_colour word)
 
--- how many frames of a clip are played from a frame on, with which `rest` frames are left: at most `length` frames
+-- how many frames of a clip are played, if `rest` are left from the first played frame on: all of them, or at most the given length
 abbrev pub played_length : Option ℕ → ℕ → ℕ
 played_length None rest = rest
 played_length (Some length) rest = min length rest
@@ -92,7 +92,7 @@ played_length (Some length) rest = min length rest
 abbrev pub take_for : Spec → Options → ℕ → TakeView
 take_for spec options length = take_of spec options.looped options.seek length options.transition options.auto
 
--- the take of a producer with these options: a clip, which has `frames` frames, is played from one of its frames on
+-- the take of a producer with these options, none if it is a clip of `frames` frames and its first frame to play is not one of them
 abbrev pub take_with : Options → ℕ → Spec → Option TakeView
 take_with options frames (Clip id) =
     if nat_lt options.seek frames
@@ -102,7 +102,7 @@ take_with options frames (Colour value) = Some (take_for (Colour value) options 
 take_with options frames (RouteChannel channel) = Some (take_for (RouteChannel channel) options 0)
 take_with options frames (RouteLayer place) = Some (take_for (RouteLayer place) options 0)
 
--- the take that a line asks for: the options, which stand after the producer, are judged before it
+-- the take of the producer at a position: the options, which follow the producer, are checked before it
 unfoldable pub take_at : Line → ℕ → Result TakeView Refusal
 take_at line at = do
   options ← options_at line (at + 1)

@@ -1,4 +1,4 @@
--- ADD and REMOVE, the marks of recordings: their channel stands at position 1, FILE at 2, and the name of ADD at 3.
+-- ADD and REMOVE, the marks of recordings: position 1 is the channel, position 2 FILE, and position 3 the name of an ADD.
 use Rattle.std.specs.Prelude.{ℕ, Bool, if◌then◌else◌, Option, Some, None, Result, Ok, Err, List, codes}
 use Rattle.std.specs.List.{list_any}
 use Rattle.play_types.specs.Media.{MediaNameView}
@@ -11,7 +11,7 @@ use Rattle.play_types.specs.declared.parsed.Refusal.TheVariants.{Illegal}
 use Rattle.history_model.specs.commands.Line.{Line, ◌>>=◌, ended, legal, stands_at, word_at}
 use Rattle.history_model.specs.commands.Places.{area_at}
 
--- a channel that stands without a layer
+-- the channel, if no layer is written
 abbrev pub whole_channel : ℕ → Option ℕ → Option ℕ
 whole_channel channel None = Some channel
 whole_channel channel (Some layer) = None
@@ -22,7 +22,7 @@ channel_at line at = do
   area ← area_at line at
   legal line at (whole_channel area.channel area.layer)
 
--- nothing, if this fixed word stands at a position: another word is wrong
+-- accepts this fixed word at a position: another word, or none, is refused as Illegal
 abbrev pub fixed_at : Line → ℕ → List ℕ → Result (Unit {0}) Refusal
 fixed_at line at fixed = if stands_at line at fixed then Ok tt else Err (Illegal line.name at)
 
@@ -30,7 +30,7 @@ fixed_at line at fixed = if stands_at line at fixed then Ok tt else Err (Illegal
 abbrev pub names_clip : List MediaNameView → List ℕ → Bool
 names_clip media word = list_any (λ (clip : MediaNameView). is_same_name clip.name word) media
 
--- the name of a recording that a word writes, if no clip has that name
+-- the name of a recording that a word writes, if it may be one and no clip has that name
 abbrev pub free_name : List MediaNameView → List ℕ → Option (List ℕ)
 free_name media word = if names_clip media word then None else rec_name_of word
 
@@ -40,7 +40,7 @@ rec_name_at line at = do
   word ← word_at line at
   legal line at (free_name line.media word)
 
--- the channel at position 1, if FILE stands at 2
+-- the channel at position 1, if the word at position 2 is FILE
 abbrev pub file_channel : Line → Result ℕ Refusal
 file_channel line = do
   channel ← channel_at line 1

@@ -1,4 +1,4 @@
--- Transitions of other curves than the linear one, as they are drawn.
+-- How a transition is drawn whose curve is not linear.
 use Rattle.std.specs.Prelude.{ℕ, max, Bool, true, false, pos, unsigned_abs, if◌then◌else◌}
 use Rattle.play_types.specs.Curve.{along}
 use Rattle.play_types.specs.Transition.{TransView, trans_of}
@@ -14,12 +14,12 @@ is_linear EaseOutQuad = false
 is_linear EaseInCubic = false
 is_linear EaseOutCubic = false
 
--- the step of 1,000,000 at which a curve is at tick j of d, but at least 1
+-- the step, of 1,000,000, that a curve has reached at tick j of d, but at least 1
 abbrev pub eased_step : Curve → ℕ → ℕ → ℕ
 eased_step curve j d = max (unsigned_abs (along curve (pos 0) (pos EASED_STEPS) j d)) 1
 
--- the transition and the step that are drawn at a step of a transition: with a linear curve they are the given ones, and with
--- another curve a linear transition of 1,000,000 ticks and its step where the curve is
+-- the transition and the step that are drawn for a step of a transition: the given ones if its curve is linear, else a linear
+-- transition of 1,000,000 ticks at the step that the curve has reached
 abbrev pub eased : TransView → ℕ → TransView × ℕ
 eased trans step =
     if is_linear trans.curve then (trans, step)

@@ -16,7 +16,7 @@ abbrev pub keyed_pixel : (Drawn → PixelView) → List Drawn → PixelView → 
 keyed_pixel placed [] s = s
 keyed_pixel placed (next ∷ below) s = if next.keyer then key s (placed next).r else s
 
--- the pixel of layers over one another, the uppermost first, by each layer's placed pixel: a keyer is not shown
+-- the pixel of layers over one another, the uppermost first, given each layer's placed pixel: a keyer itself is not shown
 abbrev pub composed_pixel : (Drawn → PixelView) → List Drawn → PixelView
 composed_pixel placed [] = transparent
 composed_pixel placed (layer ∷ below) =

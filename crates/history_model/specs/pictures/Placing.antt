@@ -35,7 +35,7 @@ abbrev pub is_kept : ℕ → ℤ → ℤ → ℕ → Bool
 is_kept width edge extent x =
     int_le (twice_part width edge) (twice_middle x) && int_lt (twice_middle x) (twice_part width (edge +ℤ extent))
 
--- the raster column that frame column x shows, none if it is not kept; rows alike, with the numbers at 1
+-- the raster column that frame column x shows, none if it shows none: `at` is 0 for columns and 1 for rows
 abbrev pub visible_column : ℕ → List ℤ → List ℤ → ℕ → ℕ → Option ℕ
 visible_column width fill clip at x =
     if is_kept width (number_at clip at) (number_at clip (at + 2)) x

@@ -32,7 +32,7 @@ outgoing_still foregrounds (Some old) shown = source foregrounds old.take.spec (
 abbrev pub is_one : ℤ → Bool
 is_one value = int_eq value MICROS_PER_UNIT
 
--- the step of a foreground's transition at the next tick, which stays at its duration
+-- the step of a foreground's transition at the next tick, at most its duration
 abbrev pub step_of : Foreground → ℕ
 step_of foreground = min (foreground.shown + 1) foreground.take.trans.duration
 

@@ -50,7 +50,7 @@ sample_sum sample (layer ∷ layers) = layer_sample sample layer +ℤ sample_sum
 abbrev pub held_to_sample : ℤ → ℤ
 held_to_sample sum = int_min (int_max sum (negsuc 32767)) (pos 32767)
 
--- the sample of a sound that these layers make, given each channel's sound of the tick before
+-- the sample of these layers together, held to 16 bits, given each channel's sound of the tick before
 abbrev pub scene_sample : Setup → (ℕ → ℕ → ℕ → ℤ) → List Drawn → ℕ → ℕ → ℤ
 scene_sample setup sounds layers pair side = held_to_sample (sample_sum (still_sample setup sounds pair side) layers)
 

@@ -1,4 +1,4 @@
--- What a producer shows. A history that is called `back` is read backward, its last event first.
+-- What a producer shows.
 use Rattle.std.specs.Prelude.{ℕ, List, [], ◌∷◌, Option, Some, None}
 use Rattle.play_types.specs.Place.{PlaceView}
 use Rattle.play_types.specs.History.{ticks}
@@ -13,7 +13,7 @@ use Rattle.history_model.specs.stage.Life.{Foreground}
 use Rattle.history_model.specs.stage.Live.{foreground_at}
 use Rattle.history_model.specs.stage.Acts.{acts_back}
 
--- the foreground that each place showed at the last tick of a history, none if it has no tick
+-- the foreground that each place showed at the last tick of a history read backward, its last event first: none if it has no tick
 abbrev pub last_foregrounds : List Event → Option (PlaceView → Option Foreground)
 last_foregrounds [] = None
 last_foregrounds (Do tag cmd ∷ before) = last_foregrounds before
@@ -21,7 +21,7 @@ last_foregrounds (Batch tag cmds ∷ before) = last_foregrounds before
 last_foregrounds (Tick ∷ before) = Some (foreground_at (acts_back before) (ticks before))
 last_foregrounds (Stop tag ∷ before) = last_foregrounds before
 
--- a clip or a colour, at a frame
+-- what a clip or a colour shows at a frame: nothing for a route
 abbrev pub own_still : Spec → ℕ → Still
 own_still (Clip id) frame = Frame id frame
 own_still (OfColour value) frame = Colour value

@@ -1,5 +1,4 @@
--- A bridge for proofs: what a channel shows at a tick, by its live places. Laws tie it to the scene of a history, on which the
--- promises rest.
+-- For proofs: what a channel shows at a tick, by its live places. Laws prove that it agrees with the scene of a history.
 use Rattle.std.specs.Prelude.{ℕ, List, Option, option_map, reverse}
 use Rattle.play_types.specs.Place.{PlaceView}
 use Rattle.play_types.specs.History.{ticks}

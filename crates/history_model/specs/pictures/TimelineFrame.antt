@@ -1,4 +1,4 @@
--- What a timeline shows, sounds and reports: as a history does, by the same scenes, pixels and samples.
+-- What a timeline shows, sounds and reports, defined by the scenes, pixels and samples that a history has.
 use Rattle.std.specs.Prelude.{◌≡◌, ℕ, ℤ, pos, List, [], ◌∷◌, map, Option, Some, None}
 use Rattle.play_types.specs.Place.{PlaceView}
 use Rattle.play_types.specs.History.{ticks}
@@ -59,7 +59,7 @@ timeline_statuses setup entries =
     (λ channel. status_of (channel_foregrounds (timeline_acts entries) (timeline_ticks entries) channel))
     (channel_numbers setup)
 
--- after a history all is shown, sounded, answered and reported as after a timeline, and as many ticks have passed
+-- a history and a timeline have equal ticks, pixels, samples, values and statuses
 pub record IsLikeTimeline (setup : Setup) (history : List Event) (entries : List Entry) : Type 0 where
   pub time : ticks history ≡ timeline_ticks entries
   pub pixels : (channel x y : ℕ) → frame_pixel setup history channel x y ≡ timeline_pixel setup entries channel x y

@@ -63,7 +63,7 @@ abbrev pub first_mark : ℕ → List Act → Option ℕ
 first_mark channel [] = None
 first_mark channel (act ∷ later) = if is_mark_of channel act.cmd then Some act.ticks else first_mark channel later
 
--- the first recording of a name, by commands in their order
+-- the first recording of a name among commands in their order
 abbrev pub begun_in : List ℕ → List Act → Option Begun
 begun_in name [] = None
 begun_in name (act ∷ later) = elim (begun_by name act.cmd) [
@@ -71,27 +71,27 @@ begun_in name (act ∷ later) = elim (begun_by name act.cmd) [
   | Some channel ↦ Some (record { channel = channel; first = act.ticks; end = first_mark channel later })
 ]
 
--- recorded ticks of a channel: how many ticks stand before the first of them, and how many they are
+-- recorded ticks of a channel: the number of ticks before the first of them, and how many there are
 pub record Span : Type 0 where
   pub channel : ℕ
   pub first : ℕ
   pub frames : ℕ
 
--- the ticks from one on and before another, of which a clip takes no more than it may have frames, if there is one
+-- the ticks from `first` on and before `end`, at most as many as a clip may have frames: none if there is none
 abbrev pub span_to : ℕ → ℕ → ℕ → Option Span
 span_to channel first end =
     if end - first == 0 then None else Some (record { channel = channel; first = first; frames = min MAX_FRAMES (end - first) })
 
--- the ticks of a recording, by the number of all ticks
+-- the ticks of a recording in a history of `total` ticks
 abbrev pub span_of : ℕ → Begun → Option Span
 span_of total begun = span_to begun.channel begun.first (unwrap_or begun.end total)
 
--- the ticks that are recorded under a name: those behind the first accepted ADD of the name, up to the next accepted mark of its
+-- the ticks that are recorded under a name: those after the first accepted ADD of the name, up to the next accepted mark of its
 -- channel or the end of the history
 unfoldable pub film_span : List Event → List ℕ → Option Span
 film_span history name = option_and_then (span_of (ticks history)) (begun_in name (accepted_commands history))
 
--- the events of a history before the tick that `count` ticks stand before
+-- the events of a history before the tick that follows its first `count` ticks
 abbrev pub before_tick : List Event → ℕ → List Event
 before_tick [] count = []
 before_tick (Do tag cmd ∷ later) count = Do tag cmd ∷ before_tick later count
@@ -109,6 +109,6 @@ filmed setup history span = record {
   bytes = flat_map (λ tick. raw_frame setup (before_tick history tick) span.channel) (range_with_len span.first span.frames);
 }
 
--- the film of a history: none if no recording of the name begins, or none of its ticks follows
+-- the film of a history under a name: none if no recording of the name begins, or if it has no tick
 unfoldable pub film : Setup → List Event → List ℕ → Option ClipView
 film setup history name = option_map (filmed setup history) (film_span history name)

@@ -51,7 +51,7 @@ pub record Made : Type 0 where
   pub text : List ℕ
   pub state : ℕ
 
--- `w.1 `: session 1 of the step's worker says it
+-- `w.1 ` and a text: a line of session 1 of the step's worker
 abbrev pub said_by : Step → List ℕ → List ℕ
 said_by step text = decimal step.worker ++ codes ".1 " ++ text
 
@@ -152,7 +152,7 @@ step_lines (suc steps) state = (made_in state).text ∷ step_lines steps (made_i
 unfoldable pub generated_lines : ℕ → ℕ → List (List ℕ)
 generated_lines seed steps = step_lines steps seed ++ codes "T" ∷ []
 
--- the script, as a file has it
+-- the script as a file, each line with LF after it
 unfoldable pub generated_script : ℕ → ℕ → List ℕ
 generated_script seed steps = flat_map (λ line. line ++ 10 ∷ []) (generated_lines seed steps)
 
@@ -183,8 +183,8 @@ events_besides_ticks (Stop tag ∷ events) = 1 + events_besides_ticks events
 abbrev pub number_line : List ℕ → ℕ → List ℕ
 number_line word number = word ++ decimal number ++ 10 ∷ []
 
--- the four lines that say what lines made that were played: the numbers of events besides ticks, of ticks and of replies that
--- refuse something, and the SHA-256 of what is written for the lines, in lower-case hexadecimal
+-- the four lines of the summary of a run: the numbers of events besides ticks, of ticks and of replies that refuse something,
+-- and the SHA-256 of what is written for the lines, in lower-case hexadecimal
 unfoldable pub summary : Playout → List PlayedLine → List ℕ
 summary playout lines =
     number_line (codes "commands ") (events_besides_ticks (script_events playout lines))

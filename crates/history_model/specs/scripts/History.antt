@@ -28,14 +28,14 @@ channel_size channel = record { width = channel.width; height = channel.height; 
 abbrev pub setup_of : Playout → Setup
 setup_of playout = record { channels = map channel_size playout.config.channels; clips = playout.clips }
 
--- a line that was played, whether the connection's session gave it up since memory ran out, and whether the stage had no memory
--- for what it asks
+-- a line that was played, whether the connection's session gave it up because memory ran out, and whether the stage had no
+-- memory for what it asks
 pub record PlayedLine : Type 0 where
   pub line : ScriptLine
   pub given_up : Bool
   pub no_memory : Bool
 
--- the server itself
+-- the tag of the server itself
 abbrev pub server : Tag
 server = record { worker = 0; session = 0 }
 
@@ -50,12 +50,12 @@ text_by tag (Said other text) = if same_tag tag other then Some text else None
 text_by tag Stop = None
 text_by tag Rejected = None
 
--- the mark of a line that has a text
+-- whether a line was given up, none if it has no text
 abbrev pub mark_of : Option (List ℕ) → Bool → Option Bool
 mark_of None given_up = None
 mark_of (Some text) given_up = Some given_up
 
--- whether a line of this connection was given up
+-- whether a line of this connection was given up, none for another line
 abbrev pub given_up_by : Tag → PlayedLine → Option Bool
 given_up_by tag played = mark_of (text_by tag played.line) played.given_up
 
@@ -63,51 +63,51 @@ given_up_by tag played = mark_of (text_by tag played.line) played.given_up
 unfoldable pub texts_of : Tag → List PlayedLine → List (List ℕ)
 texts_of tag played = filter_map (λ (one : PlayedLine). text_by tag one.line) played
 
--- its stream: each text is a line of its own, with CR LF after it
+-- the stream of a connection: its texts, each with CR LF after it
 unfoldable pub stream_of : Tag → List PlayedLine → List ℕ
 stream_of tag played = flat_map (λ text. text ++ 13 ∷ 10 ∷ []) (texts_of tag played)
 
 abbrev pub number_given_up : ℕ × Bool → Option ℕ
 number_given_up line = if line.1 then Some line.0 else None
 
--- the numbers of its lines that were given up, from 0
+-- the numbers of a connection's lines that were given up, from 0
 unfoldable pub given_up_of : Tag → List PlayedLine → List ℕ
 given_up_of tag played = filter_map number_given_up (enumerate_from 0 (filter_map (given_up_by tag) played))
 
--- the step of a connection's line after those before it, none if the connection has ended before
+-- the step of a connection's line after the lines before it, none if the connection has ended before
 unfoldable pub said_step : Playout → List PlayedLine → PlayedLine → Tag → Option Step
 said_step playout before line tag =
     let all = before ++ line ∷ [] in
     slice_get (steps playout.config playout.names (given_up_of tag all) (stream_of tag all)) (length (texts_of tag before))
 
--- when the stage is asked: after these events, by a connection, and whether it has no memory for what is asked
+-- a request to the stage: the events before it, the connection that makes it, and whether the stage has no memory for it
 pub record Turn : Type 0 where
   pub playout : Playout
   pub events : List Event
   pub tag : Tag
   pub no_memory : Bool
 
--- what becomes of a command or of a batch that the stage is asked for
+-- whether the stage takes a command or a batch
 pub data Verdict : Type 0 where
   -- the journal would hold more commands than it may
   JournalFull : Verdict
   -- the stage has no memory for it
   OutOfMemory : Verdict
-  -- it is an event
+  -- it becomes an event
   Taken : Verdict
 
--- whether this number of commands more is above the limit of the journal after these events
+-- whether the journal after these events would be above its limit with `commands` commands more
 abbrev pub is_full : Playout → List Event → ℕ → Bool
 is_full playout events commands = nat_lt playout.config.journal_limit (held events + commands)
 
--- what becomes of this number of commands: the limit of the journal comes before memory
+-- whether the stage takes `commands` commands: the limit of the journal is checked before memory
 abbrev pub verdict : Turn → ℕ → Verdict
 verdict turn commands =
     if is_full turn.playout turn.events commands then JournalFull
     else if turn.no_memory then OutOfMemory
     else Taken
 
--- the events of a command or of a batch by what becomes of it
+-- the events of a command or of a batch, by whether it is taken
 abbrev pub verdict_events : Event → Verdict → List Event
 verdict_events event JournalFull = []
 verdict_events event OutOfMemory = []
@@ -133,7 +133,7 @@ is_kill (Some KillServer) = true
 is_kill (Some EndConnection) = false
 is_kill (Some Skip) = false
 
--- whether the run ends at a line after those before it
+-- whether the run ends at a line after the lines before it
 abbrev pub ends_at : Playout → List PlayedLine → PlayedLine → ScriptLine → Bool
 ends_at playout before line Comment = false
 ends_at playout before line (Ticks count) = false
@@ -146,7 +146,7 @@ pub record Past : Type 0 where
   pub lines : List PlayedLine
   pub events : List Event
 
--- when the stage is asked by a connection's line after these events
+-- the request that a connection's line makes to the stage after these events
 abbrev pub turn_of : Playout → List Event → PlayedLine → Tag → Turn
 turn_of playout events line tag = record { playout = playout; events = events; tag = tag; no_memory = line.no_memory }
 

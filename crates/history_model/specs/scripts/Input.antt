@@ -4,11 +4,11 @@ use Rattle.std.specs.List.{slice_split}
 use Rattle.std.specs.Str.Lines.{strip_carriage_return, lines}
 use Rattle.history_model.specs.declared.limits.TheConstants.{MAX_SCRIPT_LINE_BYTES}
 
--- what stands between line feeds: a part that is not the last ended with one
+-- the parts between line feeds: each part but the last ended with one
 abbrev pub parts : List ℕ → List (List ℕ)
 parts bytes = slice_split (λ b. b == 10) bytes
 
--- the lines of the parts that ended, each without the one carriage return at its end
+-- the parts that ended, each without one carriage return at its end
 abbrev pub ended_parts : List (List ℕ) → List (List ℕ)
 ended_parts [] = []
 ended_parts (part ∷ []) = []
@@ -27,12 +27,12 @@ ended_lines bytes = ended_parts (parts bytes)
 unfoldable pub unended : List ℕ → List ℕ
 unended bytes = last_part (parts bytes)
 
--- a line that has not ended is received when two bytes more than the longest line has were read of it: one of them may be
--- the carriage return of its end, so it is too long, whatever follows
+-- a line that has not ended is received once it has two bytes more than a line may have: one of them may be the carriage return
+-- of its end, so it is too long, whatever follows
 abbrev pub overlong : List ℕ → List (List ℕ)
 overlong text = if nat_le (MAX_SCRIPT_LINE_BYTES + 2) (length text) then text ∷ [] else []
 
--- the lines that were received when these bytes were read, and the end of the input or not
+-- the lines that are received once these bytes were read, and the end of the input too or not
 abbrev pub received : List ℕ → Bool → List (List ℕ)
 received bytes true = lines bytes
 received bytes false = ended_lines bytes ++ overlong (unended bytes)

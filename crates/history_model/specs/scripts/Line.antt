@@ -5,9 +5,9 @@ use Rattle.history_model.specs.declared.limits.TheConstants.{MAX_SCRIPT_LINE_BYT
 use Rattle.history_model.specs.text.Parts.{parts_at}
 use Rattle.amcp_text.specs.Numbers.{number_within, plain_number_within}
 
--- what a line of a script says
+-- the meaning of a line of a script
 pub data ScriptLine : Type 0 where
-  -- nothing, for a reader alone
+  -- an empty line, or a comment
   Comment : ScriptLine
   -- ticks of all channels, one after another
   Ticks : ℕ → ScriptLine
@@ -15,7 +15,7 @@ pub data ScriptLine : Type 0 where
   Said : Tag → List ℕ → ScriptLine
   -- the server's own stop, with which the run ends
   Stop : ScriptLine
-  -- nothing that a script may say
+  -- a line that a script may not have
   Rejected : ScriptLine
 
 -- `w.s text`: the digits of the worker, of the session, and the text
@@ -30,7 +30,7 @@ tag_of worker session =
     (λ (w : ℕ). option_map (λ (s : ℕ). record { worker = w; session = s }) (plain_number_within 1 MAX_SESSION session))
     (plain_number_within 1 MAX_WORKER worker)
 
--- a line of the connection, if the tag is one
+-- a connection's line, rejected if it has no tag
 abbrev pub said_by : List ℕ → Option Tag → ScriptLine
 said_by text None = Rejected
 said_by text (Some tag) = Said tag text
@@ -39,7 +39,7 @@ abbrev pub said_line : Option (List ℕ × (List ℕ × List ℕ)) → ScriptLin
 said_line None = Rejected
 said_line (Some parts) = said_by parts.1.1 (tag_of parts.0 parts.1.0)
 
--- a number of ticks, if one is written
+-- ticks, rejected if there is no number
 abbrev pub ticks_line : Option ℕ → ScriptLine
 ticks_line None = Rejected
 ticks_line (Some count) = Ticks count
@@ -52,7 +52,8 @@ abbrev pub after_x : List ℕ → ScriptLine
 after_x [] = Stop
 after_x (c ∷ more) = Rejected
 
--- what a line that is not too long says: it may be empty, begin with #, be a tick or a stop, or be a connection's
+-- the meaning of a line that is not too long: a comment if it is empty or begins with `#`, ticks if it begins with `T`, a stop
+-- if it is `X`, else a connection's line
 abbrev pub short_meaning : List ℕ → ScriptLine
 short_meaning [] = Comment
 short_meaning (c ∷ more) =
@@ -61,11 +62,11 @@ short_meaning (c ∷ more) =
     else if c == 88 then after_x more
     else said_line (addressed_parts (c ∷ more))
 
--- what a line says: a line that is too long says nothing that a script may say
+-- the meaning of a line: one that is too long is rejected
 abbrev pub meaning : List ℕ → ScriptLine
 meaning line = if nat_lt MAX_SCRIPT_LINE_BYTES (length line) then Rejected else short_meaning line
 
--- the lines up to the first stop
+-- the lines up to the first stop, and that stop
 abbrev pub until_stop : List ScriptLine → List ScriptLine
 until_stop [] = []
 until_stop (Comment ∷ more) = Comment ∷ until_stop more

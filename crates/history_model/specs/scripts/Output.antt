@@ -57,7 +57,7 @@ answer_output playout tag token (Some answer) = tagged_lines tag (answer_lines p
 abbrev pub reply_output : Playout → Tag → Option Reply → List ℕ
 reply_output playout tag answer = answer_output playout tag None answer
 
--- the reply to a command or a batch of this name by what becomes of it: `found`, the stage's answer, if it is an event
+-- the reply to a command or a batch of this name, by whether it is taken: if it is, that of `found`, the stage's answer
 abbrev pub verdict_reply : Name → Answer → Verdict → Reply
 verdict_reply asked found JournalFull = reply.Refused 503 asked
 verdict_reply asked found OutOfMemory = reply.Refused 501 asked
@@ -112,7 +112,7 @@ channel_output playout tick channel picture sound =
     then digest_line channel tick picture sound
     else frame_lines channel tick (size (setup_of playout) channel) picture sound
 
--- what is written for a channel of this number by what it shows at a tick
+-- what is written for a channel at a tick, given its number and what it shows
 abbrev pub written_frame : Playout → ℕ → ℕ × ChannelFrame → List ℕ
 written_frame playout tick frame =
     channel_output playout tick frame.0 (flat_map pixel_bytes frame.1.pixels) (flat_map sample_bytes frame.1.samples)
@@ -126,13 +126,13 @@ tick_output playout events =
     channel_output playout (ticks events + 1) channel (picture_bytes setup events channel) (sound_bytes setup events channel))
     (channel_numbers setup)
 
--- what is written for the next ticks
+-- what is written for `count` ticks after these events
 unfoldable pub ticks_output : Playout → List Event → ℕ → List ℕ
 ticks_output playout events zero = []
 ticks_output playout events (suc count) =
     tick_output playout events ++ ticks_output playout (events ++ event.Tick ∷ []) count
 
--- what is written for a line after those before it
+-- what is written for a line after the lines before it
 abbrev pub output_at : Playout → List PlayedLine → PlayedLine → ScriptLine → List ℕ
 output_at playout before line Comment = []
 output_at playout before line (Ticks count) = ticks_output playout (script_events playout before) count

@@ -1,22 +1,11 @@
 -- The replies to the lines of a script.
 use Rattle.std.specs.Prelude.{ℕ, nat_le, if◌then◌else◌, Bool, Option, Some, None, List, [], ◌∷◌, ◌++◌}
 use Rattle.play_types.specs.declared.reply.Reply.{Reply}
-use Rattle.play_types.specs.declared.reply.Reply.TheVariants as reply
+use Rattle.play_types.specs.Replies.{reply_code}
 use Rattle.history_model.specs.scripts.History.{Playout, PlayedLine, ends_at}
 use Rattle.history_model.specs.scripts.Memory.{reply_at}
 
--- the code with which a reply begins
-abbrev pub reply_code : Reply → ℕ
-reply_code (reply.Done command) = 202
-reply_code (reply.Value micros) = 201
-reply_code (reply.Info statuses) = 200
-reply_code reply.Cls = 200
-reply_code reply.Version = 201
-reply_code (reply.Unknown line) = 400
-reply_code (reply.Refused code command) = code
-reply_code reply.NoMemory = 500
-
--- whether a reply says that something was refused: its code is 400 or more
+-- whether a reply refuses something: its code is 400 or more
 abbrev pub is_refusal : Reply → Bool
 is_refusal answer = nat_le 400 (reply_code answer)
 

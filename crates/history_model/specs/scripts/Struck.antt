@@ -6,8 +6,8 @@ use Rattle.history_model.specs.sessions.Session.{Step, Local, Ask, AskBatch, Kil
 use Rattle.history_model.specs.scripts.Line.{ScriptLine, Comment, Ticks, Said, Stop, Rejected}
 use Rattle.history_model.specs.scripts.History.{Playout, PlayedLine, Turn, Verdict, JournalFull, OutOfMemory, Taken, said_step, script_events, turn_of, verdict}
 
--- a reply that a session gives by itself to a line that changes nothing: a refusal, that memory ran out, or the media or the
--- version. A Done says that a batch was opened, filled or closed
+-- a reply that a session gives without the stage to a line that changes nothing: a refusal, a 500, the media table or the
+-- version. It is no Done, which means that a batch was opened, filled or closed
 abbrev pub ReportsNoChange : Reply → Type 0
 ReportsNoChange (reply.Done command) = ⊥
 ReportsNoChange (reply.Value micros) = ⊥
@@ -18,15 +18,14 @@ ReportsNoChange (reply.Unknown line) = Unit {0}
 ReportsNoChange (reply.Refused code command) = Unit {0}
 ReportsNoChange reply.NoMemory = Unit {0}
 
--- what becomes of what is no event
+-- a command or a batch with this verdict is no event
 abbrev pub IsNotTaken : Verdict → Type 0
 IsNotTaken JournalFull = Unit {0}
 IsNotTaken OutOfMemory = Unit {0}
 IsNotTaken Taken = ⊥
 
--- a step that changes nothing: none, after the end of the connection; such a reply; a command that is no event; or none for a
--- line without a word. The line of a batch that is no event is none of these: it closes the batch, and without it the batch would
--- stay open
+-- a step that changes nothing: none, after the end of the connection; a reply that reports no change; a command that is no
+-- event; or a skip, for a line without a word. A COMMIT whose batch is no event is not such a step, since it closes the batch
 abbrev pub ChangesNothing : Turn → Option Step → Type 0
 ChangesNothing turn None = Unit {0}
 ChangesNothing turn (Some (Local answer)) = ReportsNoChange answer
@@ -36,7 +35,7 @@ ChangesNothing turn (Some KillServer) = ⊥
 ChangesNothing turn (Some EndConnection) = ⊥
 ChangesNothing turn (Some Skip) = Unit {0}
 
--- a line after those before it that changes nothing: a comment, or a connection's line with such a step
+-- a line that changes nothing after the lines before it: a comment, or a connection's line whose step changes nothing
 abbrev pub IsIdleLine : Playout → List PlayedLine → PlayedLine → ScriptLine → Type 0
 IsIdleLine playout before line Comment = Unit {0}
 IsIdleLine playout before line (Ticks count) = ⊥

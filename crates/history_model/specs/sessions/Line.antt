@@ -12,7 +12,7 @@ use Rattle.play_types.specs.declared.parsed.Refusal.{Refusal}
 use Rattle.play_types.specs.declared.parsed.Refusal.TheVariants as refusal
 use Rattle.history_model.specs.sessions.Request.{requested}
 
--- nothing, if the line has no word; a refusal, by its reply; or what its words ask for
+-- the meaning of a line: blank without a word, wrong with the reply that refuses it, or what its words ask for
 pub data LineMeaning : Type 0 where
   Blank : LineMeaning
   Wrong : Reply → LineMeaning
@@ -31,13 +31,13 @@ abbrev pub meaning_of_parsed : List ℕ → Result Parsed Refusal → LineMeanin
 meaning_of_parsed line (Ok asked) = Asks asked
 meaning_of_parsed line (Err reason) = Wrong (refusal_reply line reason)
 
--- what the words of a line mean; a line with an open quote or a bad escape has none
+-- the meaning of a line, by its words: a line with an open quote or a bad escape has none, and is unknown
 abbrev pub meaning_of_words : ConfigView → List MediaNameView → List ℕ → Result (List (List ℕ)) TokenFault → LineMeaning
 meaning_of_words config media line (Err fault) = Wrong (Unknown line)
 meaning_of_words config media line (Ok []) = Blank
 meaning_of_words config media line (Ok (word ∷ words)) = meaning_of_parsed line (requested config media (word ∷ words))
 
--- what a line means: one that is too long, or is not UTF-8, is answered without its text
+-- the meaning of a line: one that is too long, or is not UTF-8, is refused without its text
 unfoldable pub line_meaning : ConfigView → List MediaNameView → Line → LineMeaning
 line_meaning config media (Text line) = meaning_of_words config media line (words_of line)
 line_meaning config media TooLong = Wrong (Unknown [])

@@ -18,8 +18,7 @@ use Rattle.history_model.specs.commands.Line.{◌>>=◌}
 abbrev pub is_req : List ℕ → Bool
 is_req word = is_word (name_text Req) word
 
--- the words of the command behind REQ and a token, by all words behind REQ, or why there is none: first no word, then a word that
--- is no token, then no word behind the token
+-- the words of a command, by all words after REQ, or the refusal: there is no word, the first is no token, or no word follows it
 abbrev pub behind_token : List (List ℕ) → Result (List (List ℕ)) Refusal
 behind_token words = do
   word ← ok_or (slice_get words 0) (Missing Req)
@@ -27,23 +26,24 @@ behind_token words = do
   command ← ok_or (slice_get words 1) (Missing Req)
   Ok (drop 1 words)
 
--- the words of a line's command: all words, or those behind REQ and a token
+-- the words of a line's command: all words, or those after REQ and a token
 abbrev pub without_token : List (List ℕ) → Result (List (List ℕ)) Refusal
 without_token [] = Ok []
 without_token (word ∷ words) = if is_req word then behind_token words else Ok (word ∷ words)
 
--- what the words of a line ask for, or the first refusal: REQ comes before the command, and in the command it is no name
+-- what the words of a line ask for, or the first refusal: that of REQ and its token comes before that of the command, in which
+-- REQ is no name
 abbrev pub requested : ConfigView → List MediaNameView → List (List ℕ) → Result Parsed Refusal
 requested config media words = do
   command ← without_token words
   parsed config media command
 
--- the token that the first of these words is
+-- the first of these words as a token, if it is one
 abbrev pub first_token : List (List ℕ) → Option (List ℕ)
 first_token [] = None
 first_token (word ∷ words) = token_of word
 
--- the token of a line's words: the second, if the first is REQ
+-- the token of a line's words: the second word, if the first is REQ and the second is a token
 abbrev pub token_among : List (List ℕ) → Option (List ℕ)
 token_among [] = None
 token_among (word ∷ words) = if is_req word then first_token words else None

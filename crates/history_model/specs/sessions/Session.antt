@@ -25,7 +25,7 @@ pub data Step : Type 0 where
   EndConnection : Step
   Skip : Step
 
--- what opens a batch
+-- whether this opens a batch
 abbrev pub is_begin : Parsed → Bool
 is_begin (Stage command) = false
 is_begin Begin = true
@@ -36,7 +36,7 @@ is_begin Version = false
 is_begin Bye = false
 is_begin Kill = false
 
--- what closes a batch
+-- whether this closes a batch
 abbrev pub is_closing : Parsed → Bool
 is_closing (Stage command) = false
 is_closing Begin = false
@@ -51,11 +51,11 @@ is_closing Kill = false
 abbrev pub since_closing : List Parsed → List Parsed
 since_closing asked = after_last is_closing asked
 
--- whether a batch is open after these asks: a BEGIN stands among those since the last COMMIT or DISCARD
+-- whether a batch is open after all that was asked for: there was a BEGIN since the last COMMIT or DISCARD
 abbrev pub is_open : List Parsed → Bool
 is_open asked = list_any is_begin (since_closing asked)
 
--- a command that may stand in a batch
+-- the command, if it may be part of a batch
 abbrev pub batched : Parsed → Option Cmd
 batched (Stage command) = if is_query command then None else Some command
 batched Begin = None
@@ -66,11 +66,11 @@ batched Version = None
 batched Bye = None
 batched Kill = None
 
--- the open batch after these asks: the first commands since the BEGIN that opened it, as many as a batch may have
+-- the open batch after all that was asked for: the first commands since the BEGIN that opened it, as many as a batch may have
 abbrev pub batch : List Parsed → List Cmd
 batch asked = take MAX_BATCH_COMMANDS (filter_map batched (after_first is_begin (since_closing asked)))
 
--- what is done if no batch is open
+-- what is done while no batch is open
 abbrev pub step_outside : Parsed → Step
 step_outside (Stage command) = Ask command
 step_outside Begin = Local (reply.Done name.Begin)
@@ -81,19 +81,19 @@ step_outside Version = Local reply.Version
 step_outside Bye = EndConnection
 step_outside Kill = KillServer
 
--- a command for the batch: it waits there if it is no query and there is room
+-- what is done for a command while this batch is open: it is added if it is no query and there is room
 abbrev pub step_waiting : List Cmd → Cmd → Step
 step_waiting commands command =
     if is_query command then Local (reply.Refused 403 (command_name command))
     else if nat_lt (length commands) MAX_BATCH_COMMANDS then Local (reply.Done (command_name command))
     else Local (reply.Refused 403 (command_name command))
 
--- an empty batch is no event
+-- what is done for COMMIT while this batch is open: the stage is asked for it, unless it is empty
 abbrev pub step_commit : List Cmd → Step
 step_commit [] = Local (reply.Done name.Commit)
 step_commit (command ∷ commands) = AskBatch (command ∷ commands)
 
--- what is done if this batch is open
+-- what is done while this batch is open
 abbrev pub step_inside : List Cmd → Parsed → Step
 step_inside commands (Stage command) = step_waiting commands command
 step_inside commands Begin = Local (reply.Refused 403 name.Begin)
@@ -104,7 +104,7 @@ step_inside commands Version = Local (reply.Refused 403 name.Version)
 step_inside commands Bye = Local (reply.Refused 403 name.Bye)
 step_inside commands Kill = Local (reply.Refused 403 name.Kill)
 
--- what is done for an ask after other asks
+-- what is done for what a line asks for, after all that was asked for before
 abbrev pub step_after : List Parsed → Parsed → Step
 step_after before asked = if is_open before then step_inside (batch before) asked else step_outside asked
 
@@ -114,11 +114,11 @@ step_of_meaning before Blank = Skip
 step_of_meaning before (Wrong answer) = Local answer
 step_of_meaning before (Asks asked) = step_after before asked
 
--- whether the line of this number, from 0, was given up since memory ran out
+-- whether the line of this number, from 0, was given up because memory ran out
 abbrev pub is_given_up : List ℕ → ℕ → Bool
 is_given_up given_up number = list_any (λ k. k == number) given_up
 
--- what a line asks for, with its number: one that was given up asks for nothing
+-- what a line with its number asks for: nothing if it was given up
 abbrev pub asked_by_line : ConfigView → List MediaNameView → List ℕ → ℕ × Line → Option Parsed
 asked_by_line config media given_up line =
     if is_given_up given_up line.0 then None else asked_by (line_meaning config media line.1)
@@ -150,11 +150,11 @@ until_end all = take (position_or_len is_end all + 1) all
 unfoldable pub line_steps : ConfigView → List MediaNameView → List ℕ → List Line → List Step
 line_steps config media given_up lines = map (step_of_line config media given_up lines) (enumerate_from 0 lines)
 
--- the steps of a whole stream, of which the lines of these numbers were given up since memory ran out
+-- the steps of a whole stream, of which the lines of these numbers were given up because memory ran out
 unfoldable pub steps : ConfigView → List MediaNameView → List ℕ → List ℕ → List Step
 steps config media given_up stream = until_end (line_steps config media given_up (lines_of stream))
 
--- each channel that is named by what the stage is asked for, a command or the commands of a batch, is a configured one
+-- every channel that the command of a step, or a command of its batch, names is a configured one
 abbrev pub IsAimedStep : ConfigView → Step → Type 0
 IsAimedStep config (Local answer) = Unit {0}
 IsAimedStep config (Ask command) = IsAimed config command

@@ -1,4 +1,4 @@
--- Acts: what the accepted commands of a history do. In each list of acts the last act stands first.
+-- Acts: what the accepted commands of a history do. Lists of acts have the last act first.
 use Rattle.std.specs.Prelude.{ℕ, List, [], ◌∷◌}
 use Rattle.play_types.specs.Take.{played}
 use Rattle.play_types.specs.declared.command.Cmd.{Cmd}

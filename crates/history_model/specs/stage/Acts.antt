@@ -13,7 +13,7 @@ use Rattle.history_model.specs.stage.Act.{Act, acts_of}
 use Rattle.history_model.specs.stage.Resolved.{waiting_settings}
 use Rattle.history_model.specs.stage.Live.{with_number, live_layers}
 
--- the channels with those to which a command can bring a content or a waiting setting
+-- the channels, with those added to which a command can bring content or a waiting setting
 abbrev pub with_channels_of : Cmd → List ℕ → List ℕ
 with_channels_of cmd channels = elim (shape_of cmd) [
   | shape.Take at take ↦ with_number at.channel channels
@@ -28,7 +28,7 @@ with_channels_of cmd channels = elim (shape_of cmd) [
   | shape.Ask query ↦ channels
 ]
 
--- the channels that can hold a content or a waiting setting after the acts, in rising number
+-- the channels that can hold content or a waiting setting after the acts, in rising number
 abbrev pub channels : List Act → List ℕ
 channels [] = []
 channels (act ∷ before) = with_channels_of act.cmd (channels before)
@@ -39,7 +39,7 @@ is_over acts ticks channel =
     nat_lt MAX_LIVE_LAYERS (length (live_layers acts ticks channel))
     || nat_lt MAX_WAITING_SETTINGS (length (waiting_settings acts channel))
 
--- the acts with those of a command after `ticks` ticks, none if it is refused since a channel is then over a limit
+-- the acts with those of a command after `ticks` ticks, none if the command is refused because a channel would be over a limit
 abbrev pub with_command : List Act → ℕ → Cmd → Option (List Act)
 with_command acts ticks cmd =
     let more = acts_of ticks cmd ++ acts in

@@ -30,7 +30,8 @@ pub record ChannelFrame : Type 0 where
   pub pixels : List PixelView
   pub samples : List ℤ
 
--- to a tick every channel's frame, channel 1 first, to a command or a batch the stage's answer, to a stop its position
+-- the answer to an event: to a tick every channel's frame, channel 1 first, to a command or a batch the stage's answer, to a
+-- stop its position
 pub data StageAnswer : Type 0 where
   Frames : List ChannelFrame → StageAnswer
   Answered : Answer → StageAnswer
@@ -77,7 +78,7 @@ standing_foreground acts ticks channel layer = (state acts ticks (record { chann
 abbrev pub channel_foregrounds : List Act → ℕ → ℕ → List Foreground
 channel_foregrounds acts ticks channel = filter_map (standing_foreground acts ticks channel) (layers acts)
 
--- playing if some foreground is not paused, else paused if there is one, else empty
+-- the status of a channel by its foregrounds: playing if one is not paused, else paused if there is one, else empty
 abbrev pub status_of : List Foreground → Status
 status_of [] = Empty
 status_of (foreground ∷ more) =
@@ -88,7 +89,7 @@ abbrev pub statuses : Setup → List Event → List Status
 statuses setup history =
     map (λ channel. status_of (channel_foregrounds (acts history) (ticks history) channel)) (channel_numbers setup)
 
--- refused, or done
+-- the answer to a command or a batch, by whether it is refused
 abbrev pub outcome_of : Bool → Answer
 outcome_of true = Refused
 outcome_of false = Done

@@ -1,4 +1,4 @@
--- Timelines without settings that wait, and with a group of them that takes place at once.
+-- Timelines without waiting settings, and timelines in which the waiting settings of a channel take effect together.
 use Rattle.std.specs.Prelude.{ℕ, ◌==◌, Bool, false, not, ◌&&◌, List, [], ◌∷◌, ◌++◌, map, if◌then◌else◌}
 use Rattle.play_types.specs.Setting.{SettingView}
 use Rattle.play_types.specs.Shape.{shape_of}
@@ -47,11 +47,11 @@ without_waiting which (Did cmd ∷ before) =
     if is_deferred_of which cmd then earlier else Did cmd ∷ earlier
 without_waiting which (Ticked ∷ before) = Ticked ∷ without_waiting which before
 
--- a setting that takes place at once, deferred or not
+-- the entry of a setting that takes effect at once, whether it was deferred or not
 abbrev pub at_once : SettingView → Entry
 at_once setting = Did (Set (record setting { deferred = false }))
 
--- a timeline in which the waiting settings of a channel stand at its end, in their order, and are not deferred
+-- a timeline with the waiting settings of a channel moved to its end, in their order and not deferred
 abbrev pub with_group : ℕ → List Entry → List Entry
 with_group channel before =
     map at_once (waiting_settings (timeline_acts before) channel) ++ without_waiting (λ other. channel == other) before

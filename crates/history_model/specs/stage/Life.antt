@@ -1,4 +1,4 @@
--- What stands at a place: its foreground and its background.
+-- What a place holds: its foreground and its background.
 use Rattle.std.specs.Prelude.{ℕ, zero, suc, ◌+◌, ◌-◌, Bool, true, false, not, ◌&&◌, List, [], ◌∷◌, nat_lt, Option, Some, None, option_map, if◌then◌else◌}
 use Rattle.play_types.specs.Take.{TakeView, loaded, played}
 use Rattle.play_types.specs.declared.transition.Kind.{Kind}
@@ -9,7 +9,7 @@ use Rattle.play_types.specs.declared.command.Cmd.{Cmd}
 use Rattle.play_types.specs.declared.command.Cmd.TheVariants.{Load, LoadBg, Play, PlayTake, Pause, Resume, StopLayer, ClearLayer, ClearChannel, SwapLayers, SwapChannels, Set, CommitMixer, ResetLayer, ResetChannel, AddFile, RemoveFile, Value, Info}
 use Rattle.history_model.specs.stage.Act.{Act}
 
--- a content that is replaced: its take, the ticks that it was shown, and whether it was paused
+-- content that is replaced: its take, the ticks that it was shown, and whether it was paused
 pub record Outgoing : Type 0 where
   pub take : TakeView
   pub shown : ℕ
@@ -22,7 +22,7 @@ pub record Foreground : Type 0 where
   pub paused : Bool
   pub old : Option Outgoing
 
--- what stands at a place: its foreground, and its background
+-- what a place holds: its foreground and its background
 pub record Life : Type 0 where
   pub foreground : Option Foreground
   pub background : Option TakeView
@@ -43,7 +43,7 @@ outgoing Push foreground = option_map as_outgoing foreground
 outgoing Slide foreground = option_map as_outgoing foreground
 outgoing Wipe foreground = option_map as_outgoing foreground
 
--- the place once its background is the foreground, if it has one
+-- the place once this background is its foreground, unchanged if there is none
 abbrev pub start_of : Option TakeView → Life → Life
 start_of None s = s
 start_of (Some take) s = record {
@@ -62,14 +62,15 @@ ends (Colour value) looped = false
 ends (RouteChannel channel) looped = false
 ends (RouteLayer place) looped = false
 
--- the ticks until an automatic take starts: 0 over nothing, over a running clip its rest less the transition
+-- the ticks until an automatic take starts: 0 without a foreground, the rest of a running clip that ends less the transition,
+-- and none over anything else
 abbrev pub delay_over : TakeView → Option Foreground → Option ℕ
 delay_over take None = Some 0
 delay_over take (Some foreground) =
     if ends foreground.take.spec foreground.take.looped && not foreground.paused
     then Some (foreground.take.length - take.trans.duration - foreground.shown) else None
 
--- the ticks until a background starts by itself, none without one and if it does not
+-- the ticks until a background starts by itself, none if there is none or it does not
 abbrev pub delay_of : Option TakeView → Option Foreground → Option ℕ
 delay_of None foreground = None
 delay_of (Some take) foreground = if take.auto then delay_over take foreground else None
@@ -106,7 +107,7 @@ ready_by (Some (suc wait)) s = s
 abbrev pub ready : Life → Life
 ready s = ready_by (delay s) s
 
--- a foreground with its paused mark set or taken away
+-- a foreground paused or unpaused
 abbrev pub with_mark : Bool → Foreground → Foreground
 with_mark paused foreground = record foreground { paused = paused }
 

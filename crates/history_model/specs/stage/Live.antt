@@ -1,4 +1,4 @@
--- Which places are live, and which are drawn. In lists of acts the last act stands first.
+-- Which places are live, and which are drawn. Lists of acts have the last act first.
 use Rattle.std.specs.Prelude.{ℕ, ◌==◌, Bool, ◌||◌, List, [], ◌∷◌, nat_lt, is_some, filter, if◌then◌else◌, Option}
 use Rattle.play_types.specs.Place.{PlaceView}
 use Rattle.play_types.specs.Shape.{shape_of}
@@ -8,14 +8,14 @@ use Rattle.history_model.specs.stage.Act.{Act}
 use Rattle.history_model.specs.stage.Trail.{trail}
 use Rattle.history_model.specs.stage.Life.{Life, Foreground, life, ready}
 
--- a rising list with one more number, if it lacks that
+-- a rising list with a number added, unless it has it already
 abbrev pub with_number : ℕ → List ℕ → List ℕ
 with_number n [] = n ∷ []
 with_number n (m ∷ more) =
     let rest = with_number n more in
     if n == m then m ∷ more else (if nat_lt n m then n ∷ m ∷ more else m ∷ rest)
 
--- the layers with those to which a command can bring a content: a swap of channels keeps each content on its layer
+-- the layers, with those added to which a command can bring content: a swap of channels keeps content on its layer
 abbrev pub with_layers_of : Cmd → List ℕ → List ℕ
 with_layers_of cmd layers = elim (shape_of cmd) [
   | shape.Take at take ↦ with_number at.layer layers
@@ -30,12 +30,12 @@ with_layers_of cmd layers = elim (shape_of cmd) [
   | shape.Ask query ↦ layers
 ]
 
--- the layers that acts loaded or swapped, on any channel, in rising number: no other layer can hold a content
+-- the layers that acts loaded or swapped, on any channel, in rising number: no other layer can hold content
 abbrev pub layers : List Act → List ℕ
 layers [] = []
 layers (act ∷ before) = with_layers_of act.cmd (layers before)
 
--- what stands at a place after the acts, when `ticks` ticks have passed since the history began
+-- what a place holds after the acts, when `ticks` ticks have passed since the history began
 abbrev pub state : List Act → ℕ → PlaceView → Life
 state acts ticks place = life (trail acts place) ticks
 

@@ -1,4 +1,4 @@
--- A bridge for proofs: the state of the stage after a history. Laws tie it to the acts of the history, on which the promises rest.
+-- For proofs: the state of the stage after a history. Laws prove that it agrees with the acts of the history.
 use Rattle.std.specs.Prelude.{ℕ, List, length, Option, filter_map, map}
 use Rattle.play_types.specs.Setting.{SettingView}
 use Rattle.play_types.specs.declared.answer.Status.{Status}
@@ -19,7 +19,7 @@ waiting history channel = waiting_settings (acts history) channel
 abbrev pub stage_after : List Event → StageState
 stage_after history = record { places = places history; waiting = λ channel. length (waiting history channel) }
 
--- the foreground of a layer with what stands there
+-- the foreground of a layer, given with what it holds
 abbrev pub foreground_of : ℕ × Life → Option Foreground
 foreground_of place = place.1.foreground
 

@@ -1,6 +1,5 @@
--- A bridge for proofs: the state of the stage step by step, that is the live places of each channel and how many settings wait
--- on it, what commands and ticks make of it, and which commands are refused by it. Laws tie it to the acts of a history, on which
--- the promises rest.
+-- For proofs: the state of the stage step by step, that is the live places of each channel and how many settings wait on it, what
+-- commands and ticks make of it, and which commands are refused by it. Laws prove that it agrees with the acts of a history.
 use Rattle.std.specs.Prelude.{ℕ, ◌+◌, ◌≤◌, ◌==◌, Bool, false, ◌&&◌, ◌||◌, List, [], ◌∷◌, ◌++◌, map, nat_le, length, if◌then◌else◌}
 use Rattle.play_types.specs.Place.{PlaceView}
 use Rattle.play_types.specs.declared.place.TheConstants.{MAX_LIVE_LAYERS}
@@ -18,22 +17,22 @@ pub record StageState : Type 0 where
   pub places : ℕ → Places
   pub waiting : ℕ → ℕ
 
--- a stage on which nothing stands and nothing waits
+-- a stage without live places and without waiting settings
 abbrev pub empty_stage : StageState
 empty_stage = record { places = λ channel. []; waiting = λ channel. 0 }
 
--- what the acts make of the stage, when `ticks` ticks have passed since the history began
+-- the stage after the acts, when `ticks` ticks have passed since the history began
 abbrev pub stage_state : List Act → ℕ → StageState
 stage_state acts ticks = record {
   places = live_places acts ticks;
   waiting = λ channel. length (waiting_settings acts channel);
 }
 
--- what stands at a place, by the live places of each channel
+-- what a place holds, by the live places of each channel
 abbrev pub standing_at : (ℕ → Places) → PlaceView → Life
 standing_at places place = standing (places place.channel) place.layer
 
--- the places of a channel where this stands at a place, and what they had at the others
+-- the places of a channel with this life at a place, and unchanged at the others
 abbrev pub placed_at : PlaceView → Life → ℕ → Places → Places
 placed_at at life channel before = if at.channel == channel then with_place before at.layer life else before
 
@@ -42,7 +41,7 @@ abbrev pub exchanged : PlaceView → PlaceView → (ℕ → Places) → ℕ → 
 exchanged a b before channel =
     placed_at b (standing_at before a) channel (placed_at a (standing_at before b) channel (before channel))
 
--- the channel that a channel changes with if the channels a and b are exchanged: another channel stays
+-- the channel that a channel is exchanged with if the channels a and b are: another channel stays
 abbrev pub exchanged_channel : ℕ → ℕ → ℕ → ℕ
 exchanged_channel a b channel = if channel == a then b else (if channel == b then a else channel)
 

@@ -2,7 +2,7 @@
 use Rattle.std.specs.Prelude.{ℕ, zero, suc}
 use Rattle.history_model.specs.stage.Life.{Life, ready, run_for}
 
--- a place after one tick: what is due is started, and what runs was shown for one tick more
+-- a place after one tick: its background is started if that is due, and its foreground, unless paused, is shown for one tick more
 abbrev pub step : Life → Life
 step s = run_for 1 (ready s)
 

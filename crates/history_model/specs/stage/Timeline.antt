@@ -1,5 +1,5 @@
--- Timelines: commands and ticks in their order, the last one first. The accepted commands of a history and its ticks are one.
--- So is what is left of them without some commands, or with some at another place, which may be no history's.
+-- Timelines: lists of commands and ticks, the last one first. The accepted commands and the ticks of a history are one. So is
+-- such a list with commands left out or moved, even if no history has it.
 use Rattle.std.specs.Prelude.{ℕ, ◌+◌, ℤ, List, [], ◌∷◌, ◌++◌, map, reverse, is_none, if◌then◌else◌}
 use Rattle.play_types.specs.Place.{PlaceView}
 use Rattle.play_types.specs.History.{ticks}

@@ -8,7 +8,7 @@ use Rattle.play_types.specs.declared.shape.CommandShape.TheVariants as shape
 use Rattle.history_model.specs.stage.Act.{Act}
 use Rattle.history_model.specs.stage.Trail.{same_place}
 
--- whether a command names the place or its channel, a swap among them
+-- whether a command acts on the content of a place, or swaps the place or its channel
 abbrev pub touches : Cmd → PlaceView → Bool
 touches cmd place = elim (shape_of cmd) [
   | shape.Take at take ↦ same_place at place

@@ -1,4 +1,4 @@
--- If the content of a place, and its mixer values, came from. In lists of acts the last act stands first.
+-- Where the content of a place and its mixer values came from. Lists of acts have the last act first.
 use Rattle.std.specs.Prelude.{ℕ, ◌==◌, Bool, false, ◌&&◌, List, [], ◌∷◌, if◌then◌else◌}
 use Rattle.play_types.specs.Place.{PlaceView}
 use Rattle.play_types.specs.Shape.{shape_of}
@@ -8,26 +8,26 @@ use Rattle.play_types.specs.declared.shape.Target.{Target}
 use Rattle.play_types.specs.declared.shape.Target.TheVariants as target
 use Rattle.history_model.specs.stage.Act.{Act}
 
--- whether two places are one: their channels and their layers are equal
+-- whether two places are equal, in channel and in layer
 abbrev pub same_place : PlaceView → PlaceView → Bool
 same_place a b = (a.channel == b.channel) && (a.layer == b.layer)
 
--- whether a place is the one that is meant, or on the channel that is
+-- whether a target is this place, or its channel
 abbrev pub covers : Target → PlaceView → Bool
 covers (target.Layer at) place = same_place at place
 covers (target.Channel channel) place = channel == place.channel
 
--- the place that a place changes with if the places a and b are exchanged: another place stays
+-- the place that a place is exchanged with if the places a and b are: another place stays
 abbrev pub swapped_place : PlaceView → PlaceView → PlaceView → PlaceView
 swapped_place a b place = if same_place place a then b else (if same_place place b then a else place)
 
--- the place that a place changes with if all layers of the channels a and b are exchanged: one of another channel stays
+-- the place that a place is exchanged with if all layers of the channels a and b are: a place of another channel stays
 abbrev pub channel_swapped_place : ℕ → ℕ → PlaceView → PlaceView
 channel_swapped_place a b place =
     if place.channel == a then record place { channel = b }
     else (if place.channel == b then record place { channel = a } else place)
 
--- where the content that stands at the place after a command stood before it
+-- where the content that a place holds after a command was before it
 abbrev pub content_origin : Cmd → PlaceView → PlaceView
 content_origin cmd place = elim (shape_of cmd) [
   | shape.Take at take ↦ place
@@ -42,7 +42,7 @@ content_origin cmd place = elim (shape_of cmd) [
   | shape.Ask query ↦ place
 ]
 
--- if the mixer values of the place after a command stood before it: only a swap with transforms moves them
+-- where the mixer values that a place has after a command were before it: only a swap with transforms moves them
 abbrev pub values_origin : Cmd → PlaceView → PlaceView
 values_origin cmd place = elim (shape_of cmd) [
   | shape.Take at take ↦ place
@@ -87,14 +87,14 @@ acts_on_values cmd place = elim (shape_of cmd) [
   | shape.Ask query ↦ false
 ]
 
--- the acts that pass a test, walking from the last act to the first: at a swap the walk goes on at the other place
+-- the acts that pass a test for the place, from the last act to the first: before a swap, the place is the one that it was exchanged with
 abbrev pub acts_along : (Cmd → PlaceView → Bool) → (Cmd → PlaceView → PlaceView) → List Act → PlaceView → List Act
 acts_along acts_on origin [] place = []
 acts_along acts_on origin (act ∷ before) place =
     let earlier = acts_along acts_on origin before (origin act.cmd place) in
     if acts_on act.cmd place then act ∷ earlier else earlier
 
--- the acts of the content that stands at a place after the acts
+-- the acts on the content that a place holds after the acts
 abbrev pub trail : List Act → PlaceView → List Act
 trail acts place = acts_along acts_on_content content_origin acts place
 

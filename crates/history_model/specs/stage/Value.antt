@@ -29,7 +29,7 @@ default_of Clip = four (pos 0) (pos 0) MICROS_PER_UNIT MICROS_PER_UNIT
 default_of Volume = four MICROS_PER_UNIT (pos 0) (pos 0) (pos 0)
 default_of Keyer = four (pos 0) (pos 0) (pos 0) (pos 0)
 
--- a value to be reached, in how many ticks, and along which curve
+-- the values to be reached, in how many ticks, and along which curve
 pub record Aim : Type 0 where
   pub values : List ℤ
   pub duration : ℕ

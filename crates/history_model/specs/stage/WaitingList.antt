@@ -1,5 +1,5 @@
--- Deferred settings by a list that is kept of those that wait: each command changes the list, and a commit takes it. It agrees
--- with the definitions of `specs/stage/Resolved`, which look ahead. In lists of acts the last act stands first.
+-- Deferred settings by a list of those that wait: a deferred setting is added to the list of its channel, and a commit empties
+-- it. Laws prove that this agrees with the definitions of `specs/stage/Resolved`. Lists of acts have the last act first.
 use Rattle.std.specs.Prelude.{ℕ, ◌==◌, ◌&&◌, List, [], ◌∷◌, ◌++◌, ℤ, map, if◌then◌else◌}
 use Rattle.play_types.specs.Place.{PlaceView}
 use Rattle.play_types.specs.Setting.{SettingView}
@@ -27,13 +27,13 @@ waiting_after cmd channel earlier = elim (shape_of cmd) [
   | shape.Ask query ↦ earlier
 ]
 
--- the list of a channel after the acts, the last setting first
+-- the waiting settings of a channel after the acts, the last one first
 abbrev pub waiting_list : List Act → ℕ → List SettingView
 waiting_list [] channel = []
 waiting_list (act ∷ before) channel = waiting_after act.cmd channel (waiting_list before channel)
 
--- the acts that stand for a command after `ticks` ticks: for a commit the settings that waited for it, and none for a
--- deferred setting
+-- the acts that replace a command after `ticks` ticks: none for a deferred setting, for a commit the settings that waited for
+-- it, and for another command itself
 abbrev pub resolved_act : Cmd → ℕ → List Act → List Act
 resolved_act cmd ticks before = elim (shape_of cmd) [
   | shape.Take place take ↦ act_after ticks cmd ∷ []
@@ -48,7 +48,7 @@ resolved_act cmd ticks before = elim (shape_of cmd) [
   | shape.Ask query ↦ act_after ticks cmd ∷ []
 ]
 
--- the acts with the settings that each commit took in its place, and no deferred one elsewhere
+-- the acts with each commit replaced by the settings that waited for it, and without the deferred settings
 abbrev pub listed_acts : List Act → List Act
 listed_acts [] = []
 listed_acts (act ∷ before) = resolved_act act.cmd act.ticks before ++ listed_acts before

@@ -29,17 +29,17 @@ use Rattle.play_types.specs.declared.shape.Recording.TheVariants as recording
 use Rattle.play_types.specs.declared.shape.Query.TheVariants as query
 use Rattle.history_model.specs.stage.Answer.{number_count}
 
--- a word of a printed command: a word that stands as it is, or the name of a clip
+-- a word of a printed command: printed as it is, or a name in quotation marks
 pub data Word : Type 0 where
   Plain : List ℕ → Word
   Quoted : List ℕ → Word
 
--- the characters of a word: a clip's name stands in quotation marks, with its escapes
+-- the characters of a word: a name in quotation marks has its escapes
 abbrev pub word_text : Word → List ℕ
 word_text (Plain word) = word
 word_text (Quoted name) = quoted name
 
--- the word that is read from these characters
+-- the word that is read back from the characters of a word
 abbrev pub word_meant : Word → List ℕ
 word_meant (Plain word) = word
 word_meant (Quoted name) = name
@@ -55,12 +55,12 @@ place_text place = decimal place.channel ++ 45 ∷ decimal place.layer
 abbrev pub place_word : PlaceView → Word
 place_word place = Plain (place_text place)
 
--- a place, or a channel
+-- the word of a target: a place, or a channel
 abbrev pub target_word : Target → Word
 target_word (target.Layer place) = place_word place
 target_word (target.Channel channel) = number_word channel
 
--- this word, if it is set
+-- this word, if the flag is set
 abbrev pub flag_words : Bool → List ℕ → List Word
 flag_words true word = Plain word ∷ []
 flag_words false word = []
@@ -74,14 +74,14 @@ capital_digits (suc count) number = digit_glyph true (number / 16 ^ count % 16) 
 abbrev pub clip_name_at : List MediaNameView → ℕ → List ℕ
 clip_name_at media id = option_map_or (λ (clip : MediaNameView). clip.name) (slice_get media id) []
 
--- a colour 0xAARRGGBB is `#` and its eight digits, and a route names a channel or a layer
+-- the word of a producer: the name of a clip, `#` and the eight digits of a colour 0xAARRGGBB, or a route to a channel or a layer
 abbrev pub producer_word : List MediaNameView → Spec → Word
 producer_word media (Clip id) = Quoted (clip_name_at media id)
 producer_word media (Colour value) = Plain (35 ∷ capital_digits 8 value)
 producer_word media (RouteChannel channel) = Plain (codes "route://" ++ decimal channel)
 producer_word media (RouteLayer place) = Plain (codes "route://" ++ place_text place)
 
--- which frames of a clip are played, and whether again and again
+-- the options of a clip: whether it is looped, its first frame, and how many frames are played
 abbrev pub part_words : Spec → TakeView → List Word
 part_words (Clip id) take =
     flag_words take.looped (codes "LOOP")
@@ -94,12 +94,12 @@ abbrev pub direction_text : Bool → List ℕ
 direction_text true = codes "LEFT"
 direction_text false = codes "RIGHT"
 
--- a transition of this kind, its duration in ticks, its curve and its direction
+-- the words of a transition of this kind: its duration in ticks, its curve and its direction
 abbrev pub timed_words : Kind → TransView → List Word
 timed_words kind trans =
     Plain (kind_text kind) ∷ number_word trans.duration ∷ Plain (curve_text trans.curve) ∷ Plain (direction_text trans.leftward) ∷ []
 
--- the transition, if it is no cut
+-- the words of a transition: none for a cut
 abbrev pub transition_words : Kind → TransView → List Word
 transition_words Cut trans = []
 transition_words Mix trans = timed_words Mix trans
@@ -125,13 +125,13 @@ timing_words prop.Clip setting = number_word setting.duration ∷ Plain (curve_t
 timing_words prop.Volume setting = number_word setting.duration ∷ Plain (curve_text setting.curve) ∷ []
 timing_words prop.Keyer setting = []
 
--- a property, its numbers, its timing, and whether the setting waits
+-- a property, its numbers, its timing, and whether the setting is deferred
 abbrev pub setting_words : SettingView → List Word
 setting_words setting =
     Plain (prop_text setting.prop) ∷ map micro_word (take (number_count setting.prop) setting.values)
     ++ (timing_words setting.prop setting ++ flag_words setting.deferred (codes "DEFER"))
 
--- the name of a recording, which stands as it is
+-- the name of a recording, in quotation marks if it is no word that may name one
 abbrev pub recording_word : List ℕ → Word
 recording_word name = if is_rec_word name then Plain name else Quoted name
 

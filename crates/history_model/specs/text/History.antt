@@ -18,7 +18,7 @@ connection_line tag text = tag_text tag ++ (text ++ 10 ∷ [])
 abbrev pub command_line : List MediaNameView → Tag → Cmd → List ℕ
 command_line media tag cmd = connection_line tag (encode_utf8_all (command_text media cmd))
 
--- the lines of commands that happen together
+-- the lines of a batch: BEGIN, its commands, and COMMIT
 abbrev pub batch_lines : List MediaNameView → Tag → List Cmd → List ℕ
 batch_lines media tag cmds =
     connection_line tag (codes "BEGIN") ++ (flat_map (command_line media tag) cmds ++ connection_line tag (codes "COMMIT"))
@@ -46,11 +46,19 @@ text_after media count (Batch tag cmds ∷ events) = tick_lines count ++ (batch_
 text_after media count (Tick ∷ events) = text_after media (count + 1) events
 text_after media count (Stop tag ∷ events) = tick_lines count ++ (stop_line tag ++ text_after media 0 events)
 
--- the text of a history: ticks in a row stand in as few lines as they can
+-- the text of a history: ticks in a row are written in as few lines as possible
 unfoldable pub history_text : List MediaNameView → List Event → List ℕ
 history_text media events = text_after media 0 events
 
--- an event that is printed in a row with itself: ticks any number of times, and another event once
+-- the events of pieces of a history, one after another
+abbrev pub joined_events : List (List Event) → List Event
+joined_events pieces = flat_map (λ (piece : List Event). piece) pieces
+
+-- the text of a log: that of each piece of a history. Ticks in a row that are divided between two pieces are written in two lines
+abbrev pub log_text : List MediaNameView → List (List Event) → List ℕ
+log_text media pieces = flat_map (history_text media) pieces
+
+-- a run of an event: one tick or more, and another event once
 abbrev pub IsRun : Event → ℕ → Type 0
 IsRun (Do tag cmd) times = times ≡ 1
 IsRun (Batch tag cmds) times = times ≡ 1
@@ -65,7 +73,7 @@ BeginWithoutTick (Batch tag cmds ∷ events) = Unit {0}
 BeginWithoutTick (Tick ∷ events) = ⊥
 BeginWithoutTick (Stop tag ∷ events) = Unit {0}
 
--- events that follow all of a run: no tick follows ticks
+-- these events can follow a whole run: no tick follows ticks
 abbrev pub FollowRun : Event → List Event → Type 0
 FollowRun (Do tag cmd) events = Unit {0}
 FollowRun (Batch tag cmds) events = Unit {0}

@@ -12,7 +12,7 @@ use Rattle.play_types.specs.declared.reply.Reply.TheVariants as reply
 use Rattle.amcp_text.specs.Escapes.{quoted}
 use Rattle.amcp_text.specs.Micros.{printed_micro}
 
--- a code, the name of a command, and a word that says what became of it
+-- a code, the name of a command, and a word for the outcome
 unfoldable pub code_line : ℕ → Name → List ℕ → List ℕ
 code_line code command word = decimal code ++ 32 ∷ name_text command ++ 32 ∷ word
 
@@ -24,7 +24,7 @@ refusal_word code = if nat_lt code 500 then codes "ERROR" else codes "FAILED"
 abbrev pub IsRefusalCode : ℕ → Type 0
 IsRefusalCode code = ((401 ≤ code) × (code ≤ 404)) ⊎ ((501 ≤ code) × (code ≤ 503))
 
--- mixer values in printed form, parted by one space
+-- mixer values in printed form, separated by one space
 unfoldable pub values_line : MicrosView → List ℕ
 values_line micros = join_by printed_micro (codes " ") (take micros.count micros.values)
 
@@ -45,7 +45,7 @@ channel_lines channels states = map (λ at. channel_line at.0 at.1.0 at.1.1) (en
 unfoldable pub numbers_text : MediaNameView → List ℕ
 numbers_text clip = size_text clip.width clip.height ++ codes " " ++ decimal clip.frames ++ codes " " ++ decimal clip.pairs
 
--- what the line of a clip says after its name
+-- the rest of the line of a clip, after its name
 abbrev pub clip_text : MediaNameView → List ℕ
 clip_text clip = if clip.readable then numbers_text clip else codes "UNREADABLE"
 
@@ -65,12 +65,12 @@ reply_lines config media (reply.Unknown line) = codes "400 ERROR" ∷ encode_utf
 reply_lines config media (reply.Refused code command) = code_line code command (refusal_word code) ∷ []
 reply_lines config media reply.NoMemory = codes "500 FAILED" ∷ []
 
--- what stands before the first line of a reply: RES and the token, if there is one
+-- the prefix of the first line of a reply: RES and the token, if there is one
 abbrev pub token_text : Option (List ℕ) → List ℕ
 token_text None = []
 token_text (Some token) = codes "RES " ++ token ++ 32 ∷ []
 
--- these lines with a token before the first
+-- these lines, with the token, if there is one, before the first
 abbrev pub with_token : Option (List ℕ) → List (List ℕ) → List (List ℕ)
 with_token token [] = []
 with_token token (line ∷ lines) = (token_text token ++ line) ∷ lines
@@ -90,7 +90,7 @@ reply_token token reply.NoMemory = None
 abbrev pub answer_lines : ConfigView → List MediaNameView → Option (List ℕ) → Reply → List (List ℕ)
 answer_lines config media token answer = with_token (reply_token token answer) (reply_lines config media answer)
 
--- a line with what stands before it and after it
+-- a line with these bytes before it and after it
 abbrev pub wrapped : List ℕ → List ℕ → List ℕ → List ℕ
 wrapped before after line = before ++ line ++ after
 

@@ -19,7 +19,7 @@ pub fn done_or_refused()
     ensures batch { answer (one 1) (loads 64) (batch (PlayTake (at 1 63) blue ∷ PlayTake (at 1 64) red ∷ [])) ≡ Answered Refused }
 {}
 
-/// A query is answered with the value after the ticks so far. A frame shows the value of one tick more.
+/// A query is answered with the value after the ticks so far. A frame shows the value of one tick later.
 pub fn value_queries()
     ensures opacity { answer (one 1) (ask (Set (setting (at 1 0) Opacity (number (pos 0)) 4)) ∷ Tick ∷ []) (ask (Value (at 1 0) Opacity))
         ≡ Answered (Values (micros_of (pos 750000 ∷ []) 1)) }

@@ -22,7 +22,7 @@ pub fn group_over_three_ticks()
         × (row_text (one 1) 1 (history ++ Tick ∷ ask (CommitMixer 1) ∷ Tick ∷ []) ≡ codes "00008080") }
 {}
 
-/// Without the settings that wait the timeline before the commit has the plays and the tick. The commit puts the group behind
+/// Without the settings that wait the timeline before the commit has the plays and the tick. The commit puts the group after
 /// the tick, in its order.
 pub fn timelines_of_the_group()
     ensures { let dark = setting (at 1 1) Opacity (number (pos 0)) 2 in

@@ -22,8 +22,8 @@ pub fn acts_of_a_batch()
         ≡ act_after 2 (Play (at 1 0)) ∷ act_after 2 (LoadBg (at 1 0) red) ∷ [] }
 {}
 
-/// The 64th live layer of a channel is accepted, the 65th is refused. A layer that is live, or one of another channel,
-/// is accepted.
+/// The 64th live layer of a channel is accepted, the 65th is refused. A take on a layer that is already live, or on another
+/// channel, is accepted.
 pub fn sixty_fifth_live_layer()
     ensures last { is_refused (loads 63) (plays (at 1 63) red) ≡ false }
     ensures too_many { is_refused (loads 64) (plays (at 1 64) red) ≡ true }

@@ -1,4 +1,4 @@
-//! What stands at a place: commands, automatic starts and ticks.
+//! What a place holds: commands, automatic starts and ticks.
 #![tactic(auto, unfolding(crate::specs::stage::Acts::acts))]
 
 ghost use Rattle.std.specs.Prelude.{◌≡◌, ◌∷◌, ◌++◌, [], Some, None, true, false};
@@ -8,7 +8,8 @@ ghost use Rattle.play_types.specs.declared.transition.Kind.TheVariants.{Mix};
 ghost use Rattle.history_model.specs.stage.Life.{after, delay, effect, empty_place, ready, start};
 ghost use Rattle.history_model.specs.Worked.{ask, at, automatic, blue, by, clip, looped, old_of, over_old, paused, place_after, plays, red, rightward, running, ticking, with_background};
 
-/// Starting a background: with a cut the old content is gone, with another transition it goes without its own.
+/// After the start of a background the old content is gone with a cut. With another transition it is outgoing, without its own
+/// outgoing content.
 pub fn starting()
     ensures cut { start (with_background (running red 7) blue) ≡ running blue 0 }
     ensures mix { let take = by blue (rightward Mix 4) in
@@ -32,8 +33,8 @@ pub fn delays()
     ensures late { delay (with_background (running (clip 1 30) 25) (automatic (by blue (rightward Mix 9)))) ≡ Some 0 }
 {}
 
-/// Ticks: a running foreground is shown for that many ticks more, a paused one is not, and past an automatic start the new
-/// foreground is shown for those that are left.
+/// After some ticks a running foreground was shown for as many more and a paused one was not. Past an automatic start the new
+/// foreground was shown for the ticks that are left.
 pub fn ticks_pass()
     ensures runs { after (running red 7) 5 ≡ running red 12 }
     ensures stands { after (paused red 7) 5 ≡ paused red 7 }
@@ -43,7 +44,7 @@ pub fn ticks_pass()
         after (with_background (running (clip 1 30) 1) take) 25 ≡ over_old take 5 (old_of (clip 1 30) 21 false) }
 {}
 
-/// What the next tick shows: the background if its start is due now, and else the place as it stands.
+/// The next tick shows the background if its start is due, and otherwise the place unchanged.
 pub fn due_starts()
     ensures due { ready (with_background (running (clip 1 3) 3) (automatic blue)) ≡ running (automatic blue) 0 }
     ensures later { ready (with_background (running (clip 1 3) 2) (automatic blue)) ≡ with_background (running (clip 1 3) 2) (automatic blue) }
@@ -62,7 +63,7 @@ pub fn commands_on_a_place()
     ensures clear { effect (ClearChannel 1) (with_background (running red 4) blue) ≡ empty_place }
 {}
 
-/// A place after a history: ticks count from the start of each content, and a pause keeps them.
+/// A place after a history: ticks count from the start of the content, and do not count while it is paused.
 pub fn place_after_a_history()
     ensures empty { place_after (ticking 5) (at 1 1) ≡ empty_place }
     ensures played { place_after (Tick ∷ plays (at 1 1) red ∷ ticking 4) (at 1 1) ≡ running red 4 }

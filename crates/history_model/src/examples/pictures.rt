@@ -23,8 +23,8 @@ pub fn scaling_to_the_raster()
     ensures narrower { row_text (one 2) 1 (plays (at 1 0) (clip 0 1) ∷ []) ≡ codes "000014ff000028ff" }
 {}
 
-/// A clip goes on by one frame a tick, ends on its last frame, and begins anew if it is looped. A frame that the clip
-/// does not have, and a clip that there is not, are transparent.
+/// A clip goes on by one frame a tick, ends on its last frame, and begins anew if it is looped. A frame that the clip does not
+/// have, and a clip that does not exist, are transparent.
 pub fn frames_of_a_clip()
     ensures second { row_text (one 1) 1 (plays (at 1 0) (clip 1 3) ∷ ticking 1) ≡ codes "000050ff" }
     ensures last { row_text (one 1) 1 (plays (at 1 0) (clip 1 3) ∷ ticking 7) ≡ codes "0000a0ff" }
@@ -129,7 +129,7 @@ pub fn filling()
         ≡ codes "000028ff00001eff000014ff00000aff" }
 {}
 
-/// A clip window keeps the two columns in the middle, and the picture stays, and one without width keeps none.
+/// A clip window keeps the two columns in the middle and does not move the picture, and one without width keeps no column.
 pub fn clipping()
     ensures middle { row_text (one 4) 1
         (plays (at 1 0) (clip 0 1) ∷ sets (at 1 0) Clip (numbers (pos 250000) (pos 0) (pos 500000) (pos 1000000)) ∷ [])

@@ -1,4 +1,4 @@
-//! Where a content and its mixer values came from, and which places are live and drawn.
+//! Where the content of a place and its mixer values came from, and which places are live and drawn.
 #![tactic(auto, unfolding(crate::specs::stage::Acts::acts))]
 
 ghost use Rattle.std.specs.Prelude.{◌≡◌, ◌∷◌, [], pos, true, false};
@@ -11,7 +11,7 @@ ghost use Rattle.history_model.specs.stage.Live.{drawn_layers, layers, live_laye
 ghost use Rattle.history_model.specs.stage.Trail.{trail, tuning};
 ghost use Rattle.history_model.specs.Worked.{ask, at, automatic, blue, number, plays, red, setting};
 
-/// The trail of a content goes with it through swaps. The place that it left has that of what came from there.
+/// The trail of content goes with it through swaps. The place that it left has the trail of the content that came in exchange.
 pub fn trail_through_a_swap()
     ensures { let past =
         acts (ask (LoadBg (at 1 1) red) ∷ Tick ∷ ask (SwapLayers (at 1 1) (at 2 5) false)
@@ -28,7 +28,7 @@ pub fn trail_through_a_swap_of_channels()
         ≡ act_after 0 (LoadBg (at 1 3) red) ∷ [] }
 {}
 
-/// An act on a channel is in the trail of each of its places, and one on another place in none but its own.
+/// An act on a channel is in the trail of each of its places, and an act on a place in the trail of that place alone.
 pub fn trail_of_an_act_on_a_channel()
     ensures { let past = acts (ask (LoadBg (at 1 1) red) ∷ ask (ClearChannel 1) ∷ ask (StopLayer (at 1 2)) ∷ []) in
         (trail past (at 1 1) ≡ act_after 0 (ClearChannel 1) ∷ act_after 0 (LoadBg (at 1 1) red) ∷ [])

@@ -15,8 +15,8 @@ pub fn film_of_a_clip()
         ≡ Some (record { version = 1; geometry = strip 1 0; frames = 2; bytes = reds (80 ∷ 160 ∷ []) }) }
 {}
 
-/// A recording lasts up to the next mark of its channel, whatever its name is, or up to the end of the history. Of a name that
-/// is recorded again the first recording counts.
+/// A recording lasts up to the next mark of its channel, whatever its name is, or up to the end of the history. If a name is
+/// recorded again, its first recording counts.
 pub fn recorded_ticks()
     ensures next { film_span (ask (AddFile 1 (codes "A")) ∷ Tick ∷ ask (AddFile 1 (codes "B")) ∷ Tick ∷ Tick ∷ []) (codes "A")
         ≡ Some (record { channel = 1; first = 0; frames = 1 }) }

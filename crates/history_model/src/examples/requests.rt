@@ -8,8 +8,8 @@ ghost use Rattle.history_model.specs.Worked.{one_pixel};
 ghost use Rattle.history_model.specs.sessions.Request.{text_token};
 ghost use Rattle.history_model.specs.text.Replies.{answer_lines};
 
-/// A line has a token if its first word is REQ, in any case, and its second word is a token. A command may be missing. A REQ behind
-/// the token brings no second one.
+/// A line has a token if its first word is REQ, in any case, and its second word is a token. A command may be missing. A REQ
+/// after the token brings no second token.
 pub fn tokens_of_lines()
     ensures command { text_token (codes "REQ a1 PLAY 1-0 RED") ≡ Some (codes "a1") }
     ensures small { text_token (codes "req b INFO") ≡ Some (codes "b") }
@@ -23,7 +23,7 @@ pub fn tokens_of_lines()
     ensures other { text_token (codes "INFO REQ g") ≡ None }
 {}
 
-/// The token stands before the first line of a reply. A 500 has none.
+/// The first line of a reply begins with the token. A 500 has none.
 pub fn replies_with_tokens()
     ensures done { answer_lines one_pixel.config [] (Some (codes "a1")) (reply.Done name.Play) ≡ codes "RES a1 202 PLAY OK" ∷ [] }
     ensures unknown { answer_lines one_pixel.config [] (Some (codes "d")) (reply.Unknown (codes "REQ d REQ e INFO"))

@@ -11,7 +11,7 @@ ghost use Rattle.play_types.specs.declared.transition.Kind.TheVariants.{Mix};
 ghost use Rattle.history_model.specs.pictures.Source.{last_foregrounds, source};
 ghost use Rattle.history_model.specs.Worked.{ask, at, automatic, blue, by, clip, number, one, plays, red, rightward, route, row_text, sets, layer_route, three, ticking};
 
-/// What producers show: a clip and a colour themselves, routes nothing before the first tick and later what was there.
+/// What producers show: a clip and a colour themselves, routes nothing before the first tick, and then what was shown at the tick before.
 pub fn sources()
     ensures clip { source None (Clip 4) 7 ≡ Frame 4 7 }
     ensures colour { source None (Colour 0xFFFF0000) 0 ≡ OneColour 0xFFFF0000 }
@@ -38,7 +38,7 @@ pub fn route_to_a_route()
         × (row_text three 3 (history ++ ticking 2) ≡ codes "0000ffff") }
 {}
 
-/// A layer route shows what stood there at the tick before, without its transition and its mixer values.
+/// A layer route shows the clip or colour of its place at the tick before, without its transition and its mixer values.
 pub fn layer_route_one_tick_behind()
     ensures colours { let history = plays (at 1 0) red ∷ plays (at 1 1) (layer_route 1 0) ∷ Tick ∷ plays (at 1 0) blue ∷ [] in
         (row_text (one 1) 1 history ≡ codes "0000ffff") × (row_text (one 1) 1 (history ++ ticking 1) ≡ codes "ff0000ff") }

@@ -1,4 +1,4 @@
-//! What becomes of a command or a batch that a script's line asks for, and a whole script.
+//! Whether the stage takes a command or a batch of a script's line, and a whole script.
 
 ghost use Rattle.std.specs.Prelude.{◌≡◌, ◌∷◌, [], codes, pos, true, false};
 ghost use Rattle.play_types.specs.declared.command.Cmd.TheVariants.{ClearLayer, Pause, PlayTake, Set};
@@ -10,8 +10,7 @@ ghost use Rattle.history_model.specs.scripts.History.{JournalFull, OutOfMemory, 
 ghost use Rattle.history_model.specs.scripts.Output.{ask_reply, batch_reply, script_output};
 ghost use Rattle.history_model.specs.Worked.{at, batch, loads, number, one_pixel, played, plays, red, setting, turn_after};
 
-/// The journal of these turns takes one command. Ticks are no commands. What is above the limit of the journal is refused first,
-/// and then what there is no memory for.
+/// The journal of these requests holds at most one command, and does not count ticks as commands. Its limit is checked before memory.
 pub fn verdicts_in_order()
     ensures taken { verdict (turn_after (Tick ∷ Tick ∷ []) false) 1 ≡ Taken }
     ensures no_memory { verdict (turn_after [] true) 1 ≡ OutOfMemory }
@@ -19,14 +18,14 @@ pub fn verdicts_in_order()
     ensures batch { verdict (turn_after [] true) 2 ≡ JournalFull }
 {}
 
-/// The replies to these.
+/// A command for which there is no memory is answered 501, and one above the limit of the journal 503.
 pub fn replies_to_commands()
     ensures no_memory { ask_reply (turn_after [] true) (Pause (at 1 5)) ≡ reply.Refused 501 name.Pause }
     ensures full { ask_reply (turn_after (plays (at 1 0) red ∷ []) true) (Pause (at 1 5)) ≡ reply.Refused 503 name.Pause }
 {}
 
-/// A batch of one command has room in the journal of these turns, and one of two has none. In a larger journal the stage's answer
-/// is the reply: a batch is done, or refused if one channel would have too many live places.
+/// The journal of these requests has room for a batch of one command, and not for one of two. In a larger journal the stage's
+/// answer is the reply: a batch is done, or refused if one channel would have too many live places.
 #[tactic(auto, unfolding(crate::specs::stage::Acts::acts, crate::specs::stage::Acts::is_refused))]
 pub fn replies_to_batches()
     ensures no_memory { batch_reply (turn_after [] true) (Pause (at 1 5) ∷ []) ≡ reply.Refused 501 name.Commit }

@@ -1,4 +1,4 @@
-//! Mixer values: tweens, deferred settings, resets, and values of places without a content.
+//! Mixer values: tweens, deferred settings, resets, and values of places without content.
 #![tactic(auto, unfolding(crate::specs::stage::Acts::acts, crate::specs::stage::Value::value, crate::specs::pictures::Frame::frame_pixel))]
 
 ghost use Rattle.std.specs.Prelude.{◌≡◌, ◌∷◌, ◌++◌, [], pos, neg_ℤ, true, false, codes};
@@ -12,7 +12,7 @@ ghost use Rattle.history_model.specs.stage.Resolved.{resolved_acts, waiting_sett
 ghost use Rattle.history_model.specs.stage.Value.{value};
 ghost use Rattle.history_model.specs.Worked.{ask, at, batch, blue, deferred, defers, number, numbers, one, plays, red, row_text, set_along, sets, setting, ticking};
 
-/// A place without a content has its defaults, and the values that were set.
+/// A place without content has the default values, and those that were set.
 pub fn place_without_a_content()
     ensures default { value [] (at 1 7) Fill 0 ≡ numbers (pos 0) (pos 0) (pos 1000000) (pos 1000000) }
     ensures set { value (sets (at 1 7) Volume (number (pos 250000)) ∷ []) (at 1 7) Volume 0 ≡ number (pos 250000) }
@@ -49,8 +49,8 @@ pub fn curved_tweens()
         ≡ codes "0000efef" }
 {}
 
-/// A tween that is interrupted by one of another curve goes on from the value that was reached, along the new curve. A commit and
-/// a swap of layers with their values leave the curve.
+/// A tween that is interrupted by one of another curve goes on from the value that was reached, along the new curve. A commit
+/// and a swap of layers with transforms keep the curve.
 pub fn curves_are_kept()
     ensures interrupted { let history =
         ask (Set (set_along EaseInQuad (setting (at 1 0) Opacity (number (pos 0)) 4)))
@@ -90,8 +90,8 @@ pub fn deferred_group()
         × (waiting_settings history 1 ≡ []) }
 {}
 
-/// A deferred setting stands in the place of the first commit of its own channel that follows it, with the ticks of that
-/// commit, and behind the settings that came between. One that no commit of its channel follows waits.
+/// A deferred setting takes effect at the first commit of its own channel that follows it, with the ticks of that commit, and
+/// behind the settings that came between. One that no commit of its channel follows waits.
 pub fn groups_of_two_channels()
     ensures { let history =
         acts (defers (at 1 1) Opacity (number (pos 0)) ∷ defers (at 2 1) Opacity (number (pos 500000)) ∷ Tick
@@ -115,8 +115,8 @@ pub fn deferred_group_shown()
         × (row_text (one 1) 1 (history ++ Tick ∷ ask (CommitMixer 1) ∷ []) ≡ codes "00008080") }
 {}
 
-/// A deferred setting names its place as it is at the commit: a swap with transforms does not move it. It moves a
-/// setting that took place before.
+/// A deferred setting names its place as it is at the commit: a swap with transforms does not move it. It moves a setting that
+/// took effect before.
 pub fn deferred_setting_and_a_swap()
     ensures deferred { let history =
         plays (at 1 1) red ∷ defers (at 1 1) Opacity (number (pos 500000))
@@ -134,7 +134,7 @@ pub fn deferred_setting_and_a_swap()
         (value history (at 1 1) Opacity 0 ≡ number (pos 500000)) × (row_text (one 1) 1 history ≡ codes "0000ffff") }
 {}
 
-/// A reset sets the defaults at once, and leaves waiting settings.
+/// A reset sets the defaults at once, and does not change waiting settings.
 pub fn resets()
     ensures layer { let history = sets (at 1 1) Opacity (number (pos 0)) ∷ ask (ResetLayer (at 1 1)) ∷ [] in
         value history (at 1 1) Opacity 0 ≡ number (pos 1000000) }

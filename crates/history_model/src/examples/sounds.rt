@@ -22,7 +22,7 @@ pub fn half_volume_and_clamping()
         ≡ pos 1500 ∷ neg_ℤ (pos 1500) ∷ pos 32767 ∷ neg_ℤ (pos 32768) ∷ pos 0 ∷ pos 0 ∷ [] }
 {}
 
-/// A volume's quotient is taken toward zero. A keyer and an opacity leave the sound.
+/// A volume's quotient is taken toward zero. A keyer and an opacity do not change the sound.
 pub fn volume()
     ensures third { samples_of three 1 (plays (at 1 0) (clip 3 1) ∷ sets (at 1 0) Volume (number (pos 333333)) ∷ [])
         ≡ pos 333 ∷ neg_ℤ (pos 333) ∷ pos 10922 ∷ neg_ℤ (pos 10922) ∷ pos 0 ∷ pos 0 ∷ [] }

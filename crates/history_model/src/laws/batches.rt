@@ -15,8 +15,9 @@ ghost use Rattle.history_model.specs.pictures.Frame.{frame_pixel};
 ghost use Rattle.history_model.specs.pictures.Media.{Setup};
 ghost use Rattle.history_model.specs.pictures.Sound.{frame_sample};
 
-/// After an accepted batch every answer is that after its commands one after another in its place, with no tick between. So
-/// is each frame, sample, value and status, and each of these commands is accepted. In the timeline they are one.
+/// After an accepted batch every answer but the position of a stop, and every frame, sample, value and status, is what it would
+/// be with its commands one after another in its place, with no tick between. Each of these commands is accepted, and both
+/// histories have one timeline.
 pub fn batch_is_its_commands()
     ensures answers { (setup : Setup) (before : List Event) (tag : Tag) (cmds : List Cmd) (later : List Event) (next : Event) →
         is_refused before (Batch tag cmds) ≡ false → is_stop next ≡ false →
@@ -43,8 +44,8 @@ pub fn batch_is_its_commands()
         timeline (before ++ Batch tag cmds ∷ later) ≡ timeline (before ++ map (Do tag) cmds ++ later) }
 {}
 
-/// A batch is refused if one of its commands is refused after those before it, and then it changes no later answer, and so
-/// no frame, sample, value or status: the timeline is that of the history without it.
+/// In a refused batch one command is refused after those before it. The batch changes no later answer but the position of a
+/// stop, and so no frame, sample, value or status: the timeline is that of the history without it.
 pub fn refused_batch_changes_nothing()
     ensures one { (before : List Event) (tag : Tag) (cmds : List Cmd) → is_refused before (Batch tag cmds) ≡ true →
         (first : List Cmd) × (cmd : Cmd) × (rest : List Cmd) × (cmds ≡ first ++ cmd ∷ rest)

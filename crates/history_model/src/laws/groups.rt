@@ -1,6 +1,6 @@
 //! Groups of deferred settings: what an operator relies on.
 //!
-//! The first laws speak of timelines, and the others of histories by theirs.
+//! The first two laws are about timelines, and the others about histories.
 ghost use Rattle.std.specs.Prelude.{◌≡◌, ℕ, ◌==◌, ◌∷◌, ◌++◌, [], List, map, Bool, true, false};
 ghost use Rattle.play_types.specs.Place.{PlaceView};
 ghost use Rattle.play_types.specs.declared.command.Cmd.TheVariants.{CommitMixer};
@@ -19,8 +19,9 @@ ghost use Rattle.history_model.specs.pictures.Media.{Setup};
 ghost use Rattle.history_model.specs.pictures.Sound.{frame_sample};
 ghost use Rattle.history_model.specs.pictures.TimelineFrame.{IsLikeTimeline, timeline_pixel, timeline_sample, timeline_statuses};
 
-/// Without the settings that wait, of all channels or of some, a timeline shows, sounds, answers and reports the same, after
-/// its end and at each moment before it: what stands there is what stood there, again without settings that wait.
+/// Without its waiting settings, of all channels or of some, a timeline shows, sounds, answers and reports what it does with
+/// them. An earlier part of the shorter timeline is that part of the timeline, without waiting settings of some channels. On a
+/// channel whose waiting settings are left out no setting waits.
 pub fn waiting_settings_change_nothing()
     ensures pixels { (setup : Setup) (which : ℕ → Bool) (entries : List Entry) (channel x y : ℕ) →
         timeline_pixel setup (without_waiting which entries) channel x y ≡ timeline_pixel setup entries channel x y }
@@ -36,9 +37,9 @@ pub fn waiting_settings_change_nothing()
         waiting_settings (timeline_acts (without_waiting which entries)) channel ≡ [] }
 {}
 
-/// After a commit a timeline shows, sounds, answers and reports what it does if the settings that waited for the commit
-/// stand in its place, in their order and not deferred, and no longer where they waited. All of them take place after the ticks
-/// before the commit, and so every tween of the group counts from the same tick.
+/// After a commit a timeline shows, sounds, answers and reports what it does with the settings that waited for the commit in
+/// its place, in their order and not deferred. All of them take effect after the ticks before the commit, so every tween of the
+/// group counts from one tick.
 pub fn commit_starts_its_group()
     ensures pixels { (setup : Setup) (later before : List Entry) (committed channel x y : ℕ) →
         timeline_pixel setup (later ++ Did (CommitMixer committed) ∷ before) channel x y
@@ -58,13 +59,13 @@ pub fn commit_starts_its_group()
         ++ timeline_acts (without_waiting (λ other. committed == other) before) }
 {}
 
-/// A commit is never refused, after whatever history.
+/// A commit is never refused, whatever the history before it.
 pub fn commits_are_accepted()
     ensures { (history : List Event) (tag : Tag) (committed : ℕ) → is_refused history (Do tag (CommitMixer committed)) ≡ false }
 {}
 
-/// A history shows, sounds, answers and reports what its timeline does without the settings that wait, of all channels or of
-/// some. So does each of its first parts: what the timeline has up to there is what it shows.
+/// A history shows, sounds, answers and reports what its timeline does without its waiting settings, of all channels or of
+/// some. So does each first part of a history, by an earlier part of the timeline without waiting settings.
 pub fn waiting_settings_of_histories_change_nothing()
     ensures pixels { (setup : Setup) (which : ℕ → Bool) (history : List Event) (channel x y : ℕ) →
         frame_pixel setup history channel x y ≡ timeline_pixel setup (without_waiting which (timeline history)) channel x y }
@@ -80,8 +81,8 @@ pub fn waiting_settings_of_histories_change_nothing()
         × (without_waiting which (timeline (history ++ later)) ≡ more ++ stood) × IsLikeTimeline setup history stood }
 {}
 
-/// If a commit stands in the timeline of a history, alone or in a batch, the history shows, sounds, answers and reports
-/// what the timeline does with the group in the commit's place.
+/// If the timeline of a history has a commit, alone or in a batch, the history shows, sounds, answers and reports what the
+/// timeline does with the group in the commit's place.
 pub fn commit_in_a_history_starts_its_group()
     ensures pixels { (setup : Setup) (history : List Event) (later before : List Entry) (committed channel x y : ℕ) →
         timeline history ≡ later ++ Did (CommitMixer committed) ∷ before →

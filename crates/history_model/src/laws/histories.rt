@@ -34,7 +34,7 @@ pub fn value_queries_change_nothing()
         frame_pixel setup (before ++ Do tag (Value place prop) ∷ later) channel x y ≡ frame_pixel setup (before ++ later) channel x y }
 {}
 
-/// Nor does a query of the statuses.
+/// A query of the statuses changes no later answer and no frame. Only the position of a stop counts it.
 pub fn status_queries_change_nothing()
     ensures answers { (setup : Setup) (before : List Event) (tag : Tag) (later : List Event) (event : Event) → is_stop event ≡ false →
         answer setup (before ++ Do tag Info ∷ later) event ≡ answer setup (before ++ later) event }

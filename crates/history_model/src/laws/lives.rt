@@ -5,7 +5,7 @@ ghost use Rattle.history_model.specs.stage.Life.{Life, after, delay, life, ready
 ghost use Rattle.history_model.specs.stage.Live.{is_live};
 ghost use Rattle.history_model.specs.stage.Steps.{steps};
 
-/// Ticks one after another are all of them at once, and some ticks and then some more are their sum.
+/// `n` ticks one after another are `n` ticks at once, and `j` ticks and then `k` more are `j + k` ticks.
 pub fn stepping_is_jumping()
     ensures steps { (n : ℕ) (s : Life) → steps n s ≡ after s n }
     ensures sum { (s : Life) (j k : ℕ) → after (after s j) k ≡ after s (j + k) }
@@ -13,8 +13,7 @@ pub fn stepping_is_jumping()
         life (act ∷ before) (t + k) ≡ after (life (act ∷ before) t) k }
 {}
 
-/// An automatic start comes at one tick, whether one steps or jumps there: not before its delay has passed, and then at
-/// once.
+/// An automatic start comes once its delay has passed and not before, whether the ticks pass one by one or at once.
 pub fn automatic_start_at_its_tick()
     ensures not_before { (s : Life) (a j : ℕ) → delay s ≡ Some a → j < a → ready (steps j s) ≡ steps j s }
     ensures due { (s : Life) (a : ℕ) → delay s ≡ Some a → ready (steps a s) ≡ start (run_for a s) }
@@ -22,7 +21,7 @@ pub fn automatic_start_at_its_tick()
     ensures due_by_jump { (s : Life) (a : ℕ) → delay s ≡ Some a → ready (after s a) ≡ start (run_for a s) }
 {}
 
-/// Ticks leave a place live, or not.
+/// Ticks do not change whether a place is live.
 pub fn ticks_keep_a_place_live()
     ensures place { (s : Life) (k : ℕ) → is_live (after s k) ≡ is_live s }
     ensures acts { (acts : List Act) (t u : ℕ) → is_live (life acts t) ≡ is_live (life acts u) }

@@ -20,7 +20,7 @@ pub fn places_by_layer()
     ensures list { (places : Places) (layer : ℕ) (life : Life) → ArePlaces places → ArePlaces (with_place places layer life) }
 {}
 
-/// The live places of a channel rise, each is live, and they have at each layer what stands there. A layer that they lack
+/// The live places of a channel are in rising layer, each is live, and they give what each layer holds. A layer that they lack
 /// holds nothing.
 pub fn live_places_are_the_states()
     ensures list { (acts : List Act) (t channel : ℕ) → ArePlaces (live_places acts t channel) }
@@ -28,9 +28,8 @@ pub fn live_places_are_the_states()
         standing (live_places acts t channel) layer ≡ state acts t (record { channel = channel; layer = layer }) }
 {}
 
-/// After one more act at the tick that comes, a place on whose content it acts has the effect of the act, and another place
-/// is unchanged, if the act is no swap of the place. One tick later a place is that place after one tick, if no act
-/// is later.
+/// After one more act that is no swap of the place, a place on whose content it acts has the effect of the act, and another
+/// place is unchanged. One tick later a place is its former state after one tick, if no act is later.
 pub fn states_one_by_one()
     ensures act { (acts : List Act) (t : ℕ) (cmd : Cmd) (place : PlaceView) → content_origin cmd place ≡ place →
         state (act_after t cmd ∷ acts) t place
@@ -39,14 +38,14 @@ pub fn states_one_by_one()
         state acts (t + 1) place ≡ after (state acts t place) 1 }
 {}
 
-/// There are no live places before the first act, and one tick later each of them is that place after one tick.
+/// There are no live places before the first act, and one tick later each of them is its former state after one tick.
 pub fn live_places_one_by_one()
     ensures start { (t channel : ℕ) → live_places [] t channel ≡ [] }
     ensures tick { (acts : List Act) (t channel : ℕ) → AreBy t acts →
         live_places acts (t + 1) channel ≡ map one_tick_later (live_places acts t channel) }
 {}
 
-/// The live places of a channel after a history: none before the first event, and each with what stands there.
+/// The live places of a channel after a history are given with what they hold. There are none before the first event.
 pub fn places_of_a_history()
     ensures start { (channel : ℕ) → places [] channel ≡ [] }
     ensures states { (history : List Event) (channel : ℕ) →

@@ -7,8 +7,8 @@ ghost use Rattle.pixel_math.specs.Pixel.{PixelView};
 ghost use Rattle.history_model.specs.pictures.Placing.{placed_pixel, visible_column};
 ghost use Rattle.history_model.specs.stage.Value.{default_of};
 
-/// By the default fill and clip every raster column and row shows itself, at every size, and at full opacity a placed pixel
-/// is the raster's.
+/// With the default fill and clip every column and row of a frame shows the raster's column and row of its number, at every
+/// size, and at full opacity a placed pixel is the raster's.
 pub fn default_placing()
     ensures columns { (width x : ℕ) → x < width → visible_column width (default_of Fill) (default_of Clip) 0 x ≡ Some x }
     ensures rows { (height y : ℕ) → y < height → visible_column height (default_of Fill) (default_of Clip) 1 y ≡ Some y }

@@ -16,8 +16,8 @@ ghost use Rattle.history_model.specs.recordings.Film.{film};
 ghost use Rattle.history_model.specs.stage.Acts.{is_refused};
 ghost use Rattle.history_model.specs.stage.Answer.{answer};
 
-/// A mark of a recording that is no part of a batch is never refused, after whatever history. It changes no later answer: no
-/// frame, sound, value, status or refusal. Only the position of a stop counts it.
+/// A mark of a recording that is no part of a batch is never refused, whatever the history before it. It changes no later
+/// answer: no frame, sound, value, status or refusal. Only the position of a stop counts it.
 pub fn marks_change_nothing()
     ensures accepted { (history : List Event) (tag : Tag) (cmd : Cmd) (mark : Recording) → mark_of cmd ≡ Some mark →
         is_refused history (Do tag cmd) ≡ false }
@@ -32,7 +32,7 @@ pub fn marks_change_nothing()
         frame_sample setup (before ++ Do tag cmd ∷ later) channel pair side ≡ frame_sample setup (before ++ later) channel pair side }
 {}
 
-/// A film is a clip, if the size of its channel is in range: it has 1 to 1,000,000 frames, and its bytes are just theirs.
+/// A film is a clip, if the size of its channel is in range: it has 1 to 1,000,000 frames, and exactly the bytes of these.
 pub fn films_are_clips()
     ensures { (setup : Setup) (history : List Event) (name : List ℕ) (clip : ClipView) → film setup history name ≡ Some clip →
         IsSize clip.geometry.width clip.geometry.height clip.geometry.pairs → IsClip clip }

@@ -1,4 +1,4 @@
-//! Deferred settings by a list that is kept of those that wait, as an implementation keeps it.
+//! Deferred settings by a list of those that wait, as an implementation keeps it.
 ghost use Rattle.std.specs.Prelude.{◌≡◌, ℕ, ◌∷◌, ◌++◌, List};
 ghost use Rattle.play_types.specs.Place.{PlaceView};
 ghost use Rattle.play_types.specs.declared.setting.Prop.{Prop};
@@ -7,8 +7,8 @@ ghost use Rattle.history_model.specs.stage.Act.{Act};
 ghost use Rattle.history_model.specs.stage.Resolved.{resolved_acts, waiting_settings};
 ghost use Rattle.history_model.specs.stage.Value.{value_at};
 
-/// The list holds the settings that wait, what each commit takes of it stands in the place of the commit, and the values are
-/// those of the acts so listed.
+/// The list holds the settings that wait, the resolved acts are the acts with each commit replaced by its list, and both give
+/// equal values.
 pub fn settings_by_the_list()
     ensures waiting { (acts : List Act) (channel : ℕ) → waiting_settings acts channel ≡ waiting_list acts channel }
     ensures acts { (acts : List Act) → resolved_acts acts ≡ listed_acts acts }

@@ -38,8 +38,8 @@ pub fn stage_one_by_one()
         stage_state acts (t + 1) ≡ state_one_tick_later (stage_state acts t) }
 {}
 
-/// After a swap there stands at each place what stood at the one that it was exchanged with. The acts of commands after `t`
-/// ticks are no later than these.
+/// After a swap each place holds what the place that it was exchanged with held. The acts of commands after `t` ticks are no
+/// later than `t` ticks, if those before them are not.
 pub fn acts_of_commands()
     ensures swap { (acts : List Act) (t now : ℕ) (a b place : PlaceView) (transforms : Bool) →
         state (act_after t (SwapLayers a b transforms) ∷ acts) now place ≡ state acts now (swapped_place a b place) }
@@ -49,8 +49,8 @@ pub fn acts_of_commands()
     ensures by_all { (acts : List Act) (t : ℕ) (cmds : List Cmd) → AreBy t acts → AreBy t (acts_after_all t cmds acts) }
 {}
 
-/// After a command the places of a channel are again live ones in rising layer. After a swap of two places there stands at
-/// each what stood at the other. A command leaves the channels that it does not name.
+/// After a command the places of a channel are again live and in rising layer. After a swap of two places each holds what the
+/// other held. A command changes nothing on a channel that it does not name.
 pub fn places_of_a_command()
     ensures list { (cmd : Cmd) (before : ℕ → Places) → ((channel : ℕ) → ArePlaces (before channel)) →
         (channel : ℕ) → ArePlaces (live_after cmd before channel) }
@@ -63,7 +63,7 @@ pub fn places_of_a_command()
         waiting_count_after cmd channel before ≡ before }
 {}
 
-/// If each channel is within its limits, the stage tells whether a command is refused, and whether one of a list of them
+/// If each channel is within its limits, the stage determines whether a command is refused, and whether one of a list of them
 /// is. After commands that are not refused each channel is within its limits again.
 pub fn refusals_by_the_stage()
     ensures command { (acts : List Act) (t : ℕ) (cmd : Cmd) → IsWithinLimits (stage_state acts t) →
@@ -90,7 +90,7 @@ pub fn refusals_by_the_limits()
     ensures history { (history : List Event) (channel : ℕ) → is_over (acts history) (ticks history) channel ≡ false }
 {}
 
-/// A list of commands in two parts is judged part by part, the second after the first.
+/// Whether a list of commands is refused, and the stage and the acts after it, follow from its two parts, the second after the first.
 pub fn commands_in_two_parts()
     ensures refused { (front back : List Cmd) (state : StageState) →
         some_is_refused (front ++ back) state
@@ -101,8 +101,8 @@ pub fn commands_in_two_parts()
         acts_after_all t (front ++ back) acts ≡ acts_after_all t back (acts_after_all t front acts) }
 {}
 
-/// The stage after a history: nothing stands before the first event, each list of places has at each layer what stands
-/// there, and each channel is within its limits. No act of the history is later than its last tick.
+/// The stage after a history is that of its acts: it is empty before the first event, each list of places gives what each layer
+/// holds, and each channel is within its limits. No act of the history is later than its last tick.
 pub fn stage_of_a_history()
     ensures start { stage_after [] ≡ empty_stage }
     ensures acts { (history : List Event) → stage_after history ≡ stage_state (acts history) (ticks history) }
@@ -114,7 +114,7 @@ pub fn stage_of_a_history()
     ensures by { (history : List Event) → AreBy (ticks history) (acts history) }
 {}
 
-/// Whether a command or a batch after a history is refused is told by the stage then.
+/// The stage after a history determines whether a command or a batch is refused.
 pub fn refusals_after_a_history()
     ensures command { (history : List Event) (tag : Tag) (cmd : Cmd) →
         is_refused history (Do tag cmd) ≡ is_refused_by cmd (stage_after history) }
@@ -136,8 +136,8 @@ pub fn stage_after_one_more_event()
     ensures stop { (history : List Event) (tag : Tag) → stage_after (history ++ Stop tag ∷ []) ≡ stage_after history }
 {}
 
-/// The live places of a channel after one event more, and the settings that wait on it. A command leaves the channels that
-/// it does not name.
+/// The live places of a channel after one event more, and the settings that wait on it. A command does not change the live
+/// places of a channel that it does not name.
 pub fn channel_after_one_more_event()
     ensures command { (history : List Event) (tag : Tag) (cmd : Cmd) (channel : ℕ) →
         places (history ++ Do tag cmd ∷ []) channel

@@ -13,7 +13,7 @@ ghost use Rattle.history_model.specs.pictures.Media.{Setup};
 ghost use Rattle.history_model.specs.pictures.Sound.{frame_sample};
 ghost use Rattle.history_model.specs.pictures.TimelineFrame.{timeline_pixel, timeline_sample, timeline_statuses};
 
-/// A history has the acts and the ticks of its timeline, and each frame, sample, value and status.
+/// A history and its timeline have equal acts, ticks, frames, samples, values and statuses.
 pub fn histories_are_timelines()
     ensures acts { (history : List Event) → acts history ≡ timeline_acts (timeline history) }
     ensures ticks { (history : List Event) → ticks history ≡ timeline_ticks (timeline history) }
@@ -27,8 +27,7 @@ pub fn histories_are_timelines()
         statuses setup history ≡ timeline_statuses setup (timeline history) }
 {}
 
-/// One event more adds its entries, and none if it is refused. What follows a history adds entries after those of the
-/// history.
+/// One event more adds its entries, and none if it is refused. Later events add entries after those of the history.
 pub fn timeline_of_more_events()
     ensures one { (history : List Event) (event : Event) →
         timeline (history ++ event ∷ []) ≡ (if is_refused history event then timeline history else entries_of event ++ timeline history) }

@@ -21,7 +21,7 @@ pub fn swaps_done_twice()
         trail (act_after n (SwapChannels a b second) ∷ act_after m (SwapChannels a b first) ∷ before) place ≡ trail before place }
 {}
 
-/// With transforms it gives the settings and resets of every place back too.
+/// A swap with transforms that is done twice gives the settings and resets of every place back too.
 pub fn swaps_with_transforms_done_twice()
     ensures layers { (a b : PlaceView) (m n : ℕ) (before : List Act) (place : PlaceView) →
         tuning (act_after n (SwapLayers a b true) ∷ act_after m (SwapLayers a b true) ∷ before) place ≡ tuning before place }

@@ -7,7 +7,7 @@ use Rattle.play_outside.specs.declared.folder.FileFault.TheVariants.{Failed, Out
 use Rattle.host_system.specs.declared.read_fault.ReadFault.{ReadFault}
 use Rattle.host_system.specs.declared.read_fault.ReadFault.TheVariants.{NotRegular, System}
 
--- out of memory is told apart from every other error of the system
+-- lack of memory has a fault of its own, and every other error of the system is a failure
 abbrev pub fault_of_kind : ErrorKind → FileFault
 fault_of_kind kind.OutOfMemory = OutOfMemory
 fault_of_kind _ = Failed

@@ -122,7 +122,7 @@ pub enum Step {
     Mixes(Source, Source, &'static [(u32, u32, u32)]),
 }
 
-/// A life, and what it shows of the rules.
+/// A life, whose name says which rule it shows.
 pub struct Life {
     pub name: &'static str,
     pub steps: &'static [Step],

@@ -5,7 +5,7 @@ use super::lives::{
     BLUE_NEXT, BLUE_NEXT_IN_2, BLUE_NEXT_IN_9, CLIP, LOOP, Life, OTHER_NEXT, PART, RED, ROUTE,
 };
 
-/// Over what a background with AUTO starts by itself.
+/// Over which foregrounds a background with AUTO starts by itself.
 pub static AUTOMATIC_STARTS: [Life; 9] = [
     Life {
         name: "AUTO over nothing",
@@ -76,7 +76,7 @@ pub static AUTOMATIC_STARTS: [Life; 9] = [
     },
 ];
 
-/// When it starts by itself.
+/// When such a background starts.
 pub static DUE_STARTS: [Life; 8] = [
     Life {
         name: "AUTO over a clip that is paused on its last frame",

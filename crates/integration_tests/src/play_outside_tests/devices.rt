@@ -67,7 +67,7 @@ fn links_read_and_write_pieces_and_fail_as_planned(rt: HostRuntime) -> Result<()
     Ok(())
 }
 
-/// Returns in a word what the door answers, and gives a link that came back.
+/// Returns the answer of the door as a word, and gives back a link that came.
 fn ask<D: Listener>(door: &mut D) -> &'static str
     requires { (D.state door.old).away ≡ 0 }
     ensures { (D.state door.new).away ≡ 0 }

@@ -24,10 +24,10 @@ key_at old keys k = scaled (slice_index old k) (red_at keys k)
 abbrev pub AreBelowAlpha : List ℕ → Type 0
 AreBelowAlpha lanes = (k : ℕ) → k < 16 → slice_index lanes k ≤ alpha_at lanes k
 
--- each of the lanes is one byte
+-- each lane is at most 255
 abbrev pub AreBytes : List ℕ → Type 0
 AreBytes lanes = Each1 (λ (x : ℕ). x ≤ 255) lanes
 
--- the byte at k times the 255ths of its two bytes
+-- the byte at k times the number of 255ths of its pair of bytes
 abbrev pub scaled_at : List ℕ → List ℕ → ℕ → ℕ
 scaled_at values by k = scaled (slice_index values k) (slice_index by (k / 2))

@@ -13,7 +13,7 @@ outgoing_of front = record { take = front.take; shown = front.shown; paused = fr
 abbrev pub kept_of : Outgoing → Front
 kept_of old = record { take = old.take; shown = old.shown; paused = old.paused }
 
--- a content that is kept is given back
+-- a content that is converted to the form of the definitions and back is as before
 pub kept_of-outgoing_of : (old : Option Front) → option_map kept_of (option_map outgoing_of old) ≡ old
 kept_of-outgoing_of None = refl
 kept_of-outgoing_of (Some front) = refl

@@ -1,4 +1,4 @@
--- Parts of the lines that tell the status.
+-- Parts of the lines of the status.
 use Rattle.std.specs.Prelude.{ℕ, nat_lt, ◌&&◌, Bool, List, [], ◌∷◌, ◌++◌, codes, decimal}
 use Rattle.std.specs.List.{list_all}
 use Rattle.hex.specs.Hex.{encode_lower}

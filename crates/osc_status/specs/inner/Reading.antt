@@ -11,22 +11,22 @@ use Rattle.osc_status.specs.declared.message.OscFault.TheVariants.{NoMessage, Ou
 use Rattle.osc_status.specs.Texts.{is_zero, is_other}
 use Rattle.osc_status.specs.Message.{begins_with}
 
--- the next step, if there was a value
+-- the next step with the value, if there is one
 infixl 10 ◌>>=◌
 abbrev pub ◌>>=◌ : {A B : Type 0} → Option A → (A → Option B) → Option B
 None >>= f = None
 (Some x) >>= f = f x
 
--- up to where a text of this many bytes reaches with its padding
+-- the length, with its padding, of a text of this many bytes
 abbrev pub whole_len : ℕ → ℕ
 whole_len len = len / 4 * 4 + 4
 
--- whether other bytes than zeros, or none, stand where the padding of that many bytes stands
+-- whether the padding after the first `len` bytes is cut short, or has a byte that is not zero
 abbrev pub lacks_padding : List ℕ → ℕ → Bool
 lacks_padding bytes len =
     nat_lt (length bytes) (whole_len len) || list_any is_other (take (whole_len len - len) (drop len bytes))
 
--- the bytes before the padding at the front, and the bytes after it
+-- the bytes before the first zero, and the bytes after their padding
 unfoldable pub padded_at : List ℕ → Option (List ℕ × List ℕ)
 padded_at bytes = do
   len ← position is_zero bytes
@@ -55,7 +55,7 @@ value_at kind bytes =
     if kind == 105 then option_map number_value (number_at bytes)
     else (if kind == 115 then option_map word_value (text_at bytes) else None)
 
--- the arguments of these kinds that are all of the bytes
+-- the arguments of these kinds, if the bytes are these arguments and nothing follows
 unfoldable pub values_at : List ℕ → List ℕ → Option (List OscValue)
 values_at [] bytes = if length bytes == 0 then Some [] else None
 values_at (kind ∷ kinds) bytes = do
@@ -63,12 +63,12 @@ values_at (kind ∷ kinds) bytes = do
   others ← values_at kinds first.1
   Some (first.0 ∷ others)
 
--- the letters after the comma that they begin with
+-- the letters after the comma at the front
 unfoldable pub kinds_of : List ℕ → Option (List ℕ)
 kinds_of [] = None
 kinds_of (c ∷ kinds) = if c == 44 then Some kinds else None
 
--- the address that begins with a slash, the kinds of the arguments, and the bytes of the arguments
+-- the address, which must begin with a slash, the kinds of the arguments, and the bytes of the arguments
 unfoldable pub parts_at : List ℕ → Option (List ℕ × List ℕ × List ℕ)
 parts_at bytes = if begins_with 47 bytes then (do
   address ← text_at bytes
@@ -76,14 +76,14 @@ parts_at bytes = if begins_with 47 bytes then (do
   kinds ← kinds_of letters.0
   Some (address.0, kinds, letters.1)) else None
 
--- the message that the bytes are
+-- the message whose bytes these are
 unfoldable pub message_at : List ℕ → Option Message
 message_at bytes = do
   parts ← parts_at bytes
   args ← values_at parts.1 parts.2
   Some (record { address = parts.0; args = args })
 
--- the message was read, or memory ran out before it was, or there is none
+-- the message was read; or there is none; or there is one, and memory ran out
 abbrev pub IsReadAs : Option Message → Result Message OscFault → Type 0
 IsReadAs found (Ok message) = found ≡ Some message
 IsReadAs found (Err NoMessage) = found ≡ None

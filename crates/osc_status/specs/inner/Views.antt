@@ -1,4 +1,4 @@
--- What contracts see of what was found at the front of bytes.
+-- The parts that were found at the front of bytes, as contracts see them.
 use Rattle.std.specs.Prelude.{ℕ, ℤ, List}
 use Rattle.std.specs.Borrow.{Bor}
 use Rattle.std.specs.Str.{chars}

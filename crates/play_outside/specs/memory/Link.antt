@@ -9,15 +9,15 @@ use Rattle.play_outside.specs.declared.link.LinkStep.TheVariants.{Got, End, Agai
 abbrev pub input_left : MemLink → List ℕ
 input_left link = link.input.left
 
--- for how many more bytes that are written there is room
+-- how many more written bytes there is room for
 abbrev pub room_left : MemLink → ℕ
 room_left link = sink.room_left link.out
 
--- for how many more reads there is room
+-- how many more reads there is room for
 abbrev pub looks_left : MemLink → ℕ
 looks_left link = vec_capacity link.looks - vec_len link.looks
 
--- what a read gave are the first bytes of those that were left, and at the end none was left
+-- what a read gave are the first of the bytes that were left, at the end none was left, and else nothing is used up
 abbrev pub LeavesInput : LinkStep → List ℕ → List ℕ → List ℕ → Type 0
 LeavesInput (Got count) buffer before after = before ≡ take count buffer ++ after
 LeavesInput End buffer before after = (before ≡ []) × (after ≡ [])

@@ -1,4 +1,4 @@
--- Files in memory, as a folder tells of them.
+-- Files in memory, as a folder exposes them.
 use Rattle.std.specs.Prelude.{List, map, string_bytes}
 use Rattle.play_outside.specs.FolderState.{ConfigFile, MediaFile, Files}
 use Rattle.play_outside.specs.declared.memory.media.MemConfig.{MemConfig}

@@ -13,8 +13,8 @@ pub struct HeldClock {
 }
 
 impl HeldClock {
-    /// Holds the call of `waits` until its flag is set, or fails it after 2,000,000,000 turns, and sets the flag of
-    /// `sets` at its call.
+    /// Creates a clock that holds the call of `waits` until its flag is set, or fails it after 2,000,000,000 turns, and sets
+    /// the flag of `sets` at its call.
     pub fn new(clock: MemClock, waits: Option<FlaggedCall>, sets: Option<FlaggedCall>) -> HeldClock
         ensures { ⟦<HeldClock as Clock>⟧.state result ≡ ⟦<MemClock as Clock>⟧.state clock }
     {

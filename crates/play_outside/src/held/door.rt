@@ -15,8 +15,8 @@ pub struct HeldDoor<D: Listener> {
 }
 
 impl<D: Listener> HeldDoor<D> {
-    /// Holds the call of `waits` until its flag is set, or fails it after 2,000,000,000 turns, and sets the flag of
-    /// `sets` at its call. A call that fails so does not reach the door.
+    /// Creates a door that holds the call of `waits` until its flag is set, or fails it after 2,000,000,000 turns, and sets
+    /// the flag of `sets` at its call. A call that fails in this way does not reach `door`.
     pub fn new(door: D, waits: Option<FlaggedCall>, sets: Option<FlaggedCall>) -> HeldDoor<D>
         ensures door { result.door ≡ door }
         ensures state { (D.state door).faults < 2 ^ 64 → ⟦<HeldDoor<D> as Listener>⟧.state result ≡ D.state door }

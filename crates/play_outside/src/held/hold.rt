@@ -30,7 +30,7 @@ pub(crate) struct Hold {
 }
 
 impl Hold {
-    /// Plans these before the first call.
+    /// Creates the plan of these calls, before the first call.
     pub(crate) fn new(waits: Option<FlaggedCall>, sets: Option<FlaggedCall>) -> Hold
         ensures { result ≡ record { waits = waits; sets = sets; calls = 0 } }
     {

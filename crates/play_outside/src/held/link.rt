@@ -13,8 +13,8 @@ pub struct HeldLink {
 }
 
 impl HeldLink {
-    /// Holds the call of `waits` until its flag is set, or fails it after 2,000,000,000 turns, and sets the flag of
-    /// `sets` at its call.
+    /// Creates a link that holds the call of `waits` until its flag is set, or fails it after 2,000,000,000 turns, and sets
+    /// the flag of `sets` at its call.
     pub fn new(link: MemLink, waits: Option<FlaggedCall>, sets: Option<FlaggedCall>) -> HeldLink
         ensures { ⟦<HeldLink as Sink>⟧.state result ≡ ⟦<MemLink as Sink>⟧.state link }
     {

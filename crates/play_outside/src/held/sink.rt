@@ -3,7 +3,7 @@ ghost use Rattle.std.specs.Prelude.{◌≡◌};
 
 use super::FlaggedCall;
 use super::hold::Hold;
-use crate::{MemSink, Sink, WriteStep};
+use crate::{MemSink, Rest, Sink, WriteStep};
 
 /// A sink in memory, of which one write waits for a flag.
 #[derive(Drop)]
@@ -13,8 +13,8 @@ pub struct HeldSink {
 }
 
 impl HeldSink {
-    /// Holds the write of `waits` until its flag is set, or fails it after 2,000,000,000 turns, and sets the flag of
-    /// `sets` at its write.
+    /// Creates a sink that holds the write of `waits` until its flag is set, or fails it after 2,000,000,000 turns, and sets
+    /// the flag of `sets` at its write.
     pub fn new(sink: MemSink, waits: Option<FlaggedCall>, sets: Option<FlaggedCall>) -> HeldSink
         ensures { ⟦<HeldSink as Sink>⟧.state result ≡ ⟦<MemSink as Sink>⟧.state sink }
     {
@@ -42,4 +42,8 @@ impl Sink for HeldSink {
             self.sink.fail_call()
         }
     }
+}
+
+impl Rest for HeldSink {
+    fn rest(&mut self) {}
 }

@@ -4,7 +4,7 @@ ghost use Rattle.std.specs.Prelude.{◌≡◌, Some, false};
 use super::planned_faults::PlannedFaults;
 use crate::{Beat, Clock, PlainClock};
 
-/// A clock that gives a number of pulses, and is then closed. It tells what it gave.
+/// A clock that gives a number of pulses, and is then closed. It exposes what it gave.
 #[derive(Drop)]
 pub struct MemClock {
     pulses: PlainClock,
@@ -15,7 +15,7 @@ impl MemClock {
     ghost use Rattle.play_outside.specs.memory.Clock.{pulses_left};
     ghost use Rattle.play_outside.specs.ClockState.{after_clock_fault};
 
-    /// Creates a clock that gives so many pulses. The calls whose numbers, counted from 1, are in `fails` return
+    /// Creates a clock that gives `pulses` pulses. The calls whose numbers, counted from 1, are in `fails` return
     /// `Failed`.
     pub fn new(pulses: u64, fails: Vec<u64>) -> MemClock
         ensures fresh { ⟦<MemClock as Clock>⟧.state result ≡ record { told = Some (record { pulses = 0; closed = false }); faults = 0 } }

@@ -10,7 +10,7 @@ use crate::{Arrival, Link, Listener, MOST_AWAY};
 use std::alloc::{AllocError, Global};
 use std::collections::VecDeque;
 
-/// What a door in memory is to answer.
+/// A planned answer of a door in memory.
 #[derive(Drop)]
 pub enum DoorAnswer<L> {
     /// This link comes.
@@ -20,7 +20,7 @@ pub enum DoorAnswer<L> {
 }
 
 /// A door that gives planned answers in their order, and is then closed. It keeps the links that were given back, in
-/// room that it has from its making, and tells them.
+/// room that it has from its creation, and exposes them.
 #[derive(Drop)]
 pub struct MemDoor<L: Link> {
     answers: VecDeque<DoorAnswer<L>>,

@@ -11,11 +11,11 @@ use std::alloc::{AllocError, Global};
 pub struct LinkPlan {
     /// The bytes that reads give, before they find the end.
     pub input: Vec<u8>,
-    /// How many bytes a call gives or takes at most.
+    /// The most bytes that a call gives or takes.
     pub piece: usize,
-    /// For how many bytes that are written there is room.
+    /// How many written bytes there is room for.
     pub room: usize,
-    /// For how many reads there is room.
+    /// How many reads there is room for.
     pub looks: usize,
     /// The numbers of the calls that return `Failed`.
     pub fails: Vec<u64>,
@@ -23,8 +23,8 @@ pub struct LinkPlan {
     pub waits: Vec<u64>,
 }
 
-/// A link that gives bytes from memory, and takes bytes into room that it has from its making. It tells all its calls
-/// that do not fail.
+/// A link that gives bytes from memory, and takes bytes into room that it has from its creation. It exposes all its
+/// calls that do not fail.
 #[derive(Drop)]
 pub struct MemLink {
     input: Unread,

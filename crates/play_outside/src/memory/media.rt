@@ -21,7 +21,7 @@ pub struct MemFile {
     pub bytes: Vec<u8>,
 }
 
-/// Configurations and media files in memory. It tells what it holds.
+/// Configurations and media files in memory. It exposes what it holds.
 #[derive(Drop)]
 pub struct MemMedia {
     configs: Vec<MemConfig>,
@@ -30,7 +30,7 @@ pub struct MemMedia {
 }
 
 impl MemMedia {
-    /// Holds these files. The calls whose numbers, counted from 1 over all three methods, are in `fails` return
+    /// Creates a folder of these files. The calls whose numbers, counted from 1 over all three methods, are in `fails` return
     /// `Failed`, and so does each call for a file that is not there.
     pub fn new(configs: Vec<MemConfig>, files: Vec<MemFile>, fails: Vec<u64>) -> MemMedia
         ensures { ⟦<MemMedia as MediaDir>⟧.state result ≡ record { files = Some (files_of configs.items files.items); faults = 0 } }

@@ -4,10 +4,10 @@ ghost use Rattle.std.proofs.Props.{props};
 
 use super::pieces::push_all_reserved;
 use super::planned_faults::PlannedFaults;
-use crate::{Sink, WriteStep};
+use crate::{Rest, Sink, WriteStep};
 use std::alloc::{AllocError, Global};
 
-/// Takes bytes into room that it has from its making. Contracts see what it took.
+/// A sink that takes bytes into room that it has from its creation, and exposes them.
 #[derive(Drop)]
 pub struct MemSink {
     pub(crate) taken: Vec<u8>,
@@ -54,7 +54,7 @@ impl MemSink {
         self.taken.as_slice()
     }
 
-    /// Returns for how many more bytes there is room.
+    /// Returns how many more bytes there is room for.
     pub fn room(&self) -> usize
         ensures { result ≡ room_left self.now }
     {
@@ -100,4 +100,8 @@ impl Sink for MemSink {
         push_all_reserved(&mut self.taken, &piece[..count]);
         WriteStep::Took(count)
     }
+}
+
+impl Rest for MemSink {
+    fn rest(&mut self) {}
 }

@@ -5,7 +5,7 @@ use super::planned_faults::PlannedFaults;
 use super::unread::Unread;
 use crate::{ReadStep, Source};
 
-/// Bytes in memory, given in pieces from the first to the last. It tells what is left.
+/// Bytes in memory, given in pieces from the first to the last. It exposes what is left.
 #[derive(Drop)]
 pub struct MemSource {
     unread: Unread,

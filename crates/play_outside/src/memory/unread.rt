@@ -22,7 +22,7 @@ impl Model for Unread {
 }
 
 impl Unread {
-    /// Keeps the bytes, none of them given yet.
+    /// Creates the value with none of the bytes given yet.
     pub(crate) fn new(bytes: Vec<u8>) -> Unread
         ensures { result ≡ record { given = []; left = bytes.items } }
     {

@@ -4,7 +4,7 @@ ghost use Rattle.play_outside.specs.Clock.{Beats, LeavesPulses};
 
 use crate::{Beat, Clock};
 
-/// A clock that gives a number of pulses, and is then closed. It never fails, and tells what it gave.
+/// A clock that gives a number of pulses, and is then closed. It never fails, and exposes what it gave.
 #[derive(Drop)]
 pub struct PlainClock {
     pulses: u64,
@@ -16,7 +16,7 @@ pub struct PlainClock {
 impl PlainClock {
     ghost use Rattle.play_outside.specs.plain.Clock.{pulses_left};
 
-    /// Creates a clock that gives so many pulses.
+    /// Creates a clock that gives `pulses` pulses.
     pub fn new(pulses: u64) -> PlainClock
         ensures fresh { ⟦<PlainClock as Clock>⟧.state result ≡ record { told = Some (record { pulses = 0; closed = false }); faults = 0 } }
         ensures pulses { pulses_left result ≡ pulses }

@@ -4,7 +4,7 @@ ghost use Rattle.std.specs.Prelude.{◌≡◌, None};
 use super::PlainLink;
 use crate::{Arrival, Listener};
 
-/// A door that gives a number of plain links, and is then closed. It never fails, and does not tell what was given back.
+/// A door that gives a number of plain links, and is then closed. It never fails, and does not expose what was given back.
 #[derive(Drop)]
 pub struct PlainDoor {
     mark: u64,
@@ -13,7 +13,7 @@ pub struct PlainDoor {
 }
 
 impl PlainDoor {
-    /// Creates a door that gives so many links. It and the links have this mark.
+    /// Creates a door that gives `lines` links. The door and the links have this mark.
     pub fn new(mark: u64, lines: u32) -> PlainDoor
         ensures { ⟦<PlainDoor as Listener>⟧.state result ≡ record { told = None; away = 0; idle = 0; faults = 0; mark = mark } }
     {

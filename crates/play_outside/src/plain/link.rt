@@ -4,8 +4,8 @@ ghost use Rattle.play_outside.specs.Sink.{Writes};
 
 use crate::{Link, LinkStep, Sink, WriteStep};
 
-/// A link that is at its end, takes every piece whole, and keeps none. It never fails, and does not tell what it took or
-/// how it was read.
+/// A link that is at its end, takes every piece whole, and keeps none. It never fails, and does not expose what it took
+/// or how it was read.
 #[derive(Clone, Copy)]
 pub struct PlainLink {
     mark: u64,

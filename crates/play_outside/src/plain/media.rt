@@ -4,7 +4,7 @@ ghost use Rattle.std.specs.Prelude.{◌≡◌, None, IsOkAnd, []};
 use crate::{FileFault, MediaDir};
 use std::alloc::Global;
 
-/// A folder in which every file is empty, and none is listed. It never fails, and does not tell what it holds.
+/// A folder in which every file is empty, and none is listed. It never fails, and does not expose what it holds.
 #[derive(Clone, Copy)]
 pub struct PlainMedia;
 

@@ -2,9 +2,9 @@
 ghost use Rattle.std.specs.Prelude.{◌≡◌, ◌<◌, None, length};
 ghost use Rattle.play_outside.specs.Sink.{Writes};
 
-use crate::{Sink, WriteStep};
+use crate::{Rest, Sink, WriteStep};
 
-/// A sink that takes every piece whole, and keeps none. It never fails, and does not tell what it took.
+/// A sink that takes every piece whole, and keeps none. It never fails, and does not expose what it took.
 #[derive(Clone, Copy)]
 pub struct PlainSink {
     mark: u64,
@@ -29,4 +29,8 @@ impl Sink for PlainSink {
     {
         WriteStep::Took(piece.len())
     }
+}
+
+impl Rest for PlainSink {
+    fn rest(&mut self) {}
 }

@@ -5,8 +5,8 @@ ghost use Rattle.play_outside.specs.Source.{Reads, whole_read};
 use crate::memory::Unread;
 use crate::{ReadStep, Source};
 
-/// Bytes in memory, given from the first to the last, as many a read as the buffer takes. It never fails, and tells
-/// what is left.
+/// Bytes in memory, given from the first to the last, at each read as many as the buffer takes. It never fails, and
+/// exposes what is left.
 #[derive(Drop)]
 pub struct PlainSource {
     unread: Unread,

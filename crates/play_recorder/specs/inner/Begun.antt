@@ -11,12 +11,12 @@ use Rattle.play_recorder.specs.Finder.{FinderView}
 abbrev pub begun_at : List ℕ → ℕ → Recording → Option Begun
 begun_at name ticks mark = option_map (λ channel. record { channel = channel; first = ticks; end = None }) (begun_on name mark)
 
--- a recording after a mark behind `ticks` ticks
+-- a recording after a mark that comes after `ticks` ticks
 abbrev pub marked : ℕ → Recording → Begun → Begun
 marked ticks mark begun =
     if is_none begun.end && (recording_channel mark == begun.channel) then record begun { end = Some ticks } else begun
 
--- the recording that a finder knows after a mark
+-- the recording of a finder after a mark
 abbrev pub begun_next : FinderView → Recording → Option Begun
 begun_next finder mark = elim finder.begun [
   | None ↦ begun_at finder.name finder.ticks mark

@@ -15,7 +15,7 @@ abbrev pub keyer_above : (Drawn → PixelView) → List Drawn → Option ℕ
 keyer_above placed [] = None
 keyer_above placed (next ∷ below) = if next.keyer then Some (placed next).r else None
 
--- a pixel is that of these layers, the uppermost first, and a keyer is the one that keys a layer above them
+-- `shown` is the pixel of these layers, the uppermost first, and `above` is the red that keys a layer above them, if any does
 pub record IsComposed (placed : Drawn → PixelView) (layers : List Drawn) (shown : PixelView) (above : Option ℕ) : Type 0 where
   pub pixel : shown ≡ composed_pixel placed layers
   pub keyer : above ≡ keyer_above placed layers

@@ -3,8 +3,8 @@
 ghost use Rattle.std.specs.Prelude.{◌≡◌, ◌∷◌, []};
 ghost use Rattle.play_scene.specs.WorkedScenes.{changing_layers, keyed_layers, placed_layers, row_of_layers};
 
-/// Fills that are mirrored, that have no width and that lie outside, and clips that keep some columns and rows, or none. An
-/// edge of a clip lies at the middle of a column: the left one keeps it, and the right one does not.
+/// Fills that are mirrored, that have no width and that lie outside, and clips that keep some columns and rows, or none. If an edge
+/// of a clip lies at the middle of a column, a left edge keeps the column, and a right edge does not.
 pub fn placed_scene()
     ensures top { row_of_layers placed_layers 0 ≡ 0xA6214182 ∷ 0xA6214182 ∷ 0x53530000 ∷ 0 ∷ 0 ∷ [] }
     ensures middle { row_of_layers placed_layers 1 ≡ 0 ∷ 0xFF204060 ∷ 0xFFA73D5D ∷ 0xFF204060 ∷ 0 ∷ [] }

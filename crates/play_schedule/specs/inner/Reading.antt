@@ -7,7 +7,7 @@ use Rattle.play_schedule.specs.declared.sheet.SheetFault.TheVariants as fault
 use Rattle.play_schedule.specs.Line.{SheetLine, line_of}
 use Rattle.play_schedule.specs.Sheet.{cues_of, end_of, first_fault, is_faulty, sheet_of, sheet_unless}
 
--- what was read is what these lines say
+-- the reading has the contents of these lines
 pub record HasRead (reading : Reading) (before : List SheetLine) : Type 0 where
   pub cues : reading.cues.items ≡ cues_of before
   pub ticks : reading.ticks ≡ end_of before

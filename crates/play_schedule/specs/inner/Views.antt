@@ -1,4 +1,4 @@
--- What the code's values denote that hold references.
+-- The values that contracts see of code values with references.
 use Rattle.std.specs.Prelude.{ℕ, List}
 use Rattle.std.specs.Borrow.{Bor}
 use Rattle.play_types.specs.declared.event.Tag.{Tag}
@@ -20,7 +20,7 @@ number_view parts = (parts.0, parts.1.now)
 abbrev pub copies_view : Copies × (Bor (List ℕ)) → Copies × List ℕ
 copies_view parts = (parts.0, parts.1.now)
 
--- a connection and the bytes that it says
+-- a connection and the bytes that it sends
 abbrev pub said_view : Tag × (Bor (List ℕ)) → Tag × List ℕ
 said_view parts = (parts.0, parts.1.now)
 

@@ -1,5 +1,5 @@
 -- The connection workers of a run.
-use Rattle.std.specs.Prelude.{◌≡◌, ◌<◌, None}
+use Rattle.std.specs.Prelude.{◌≡◌, ◌<◌, None, List, map}
 use Rattle.play_types.specs.History.{stop_at}
 use Rattle.play_outside.specs.ListenerState.{ListenerState}
 use Rattle.play_outside.specs.SinkState.{SinkState}
@@ -8,16 +8,27 @@ use Rattle.stage_lock.specs.Views.{PassView, SharedView}
 use Rattle.conn_worker.specs.Server.{setting_in}
 use Rattle.conn_worker.specs.Work.{HasWorked}
 use Rattle.conn_worker.specs.declared.server.Server.{Server}
+use Rattle.conn_worker.specs.declared.work_end.WorkEnd.{WorkEnd}
 use Rattle.play_server.specs.declared.connection_workers.ConnectionWorker.{ConnectionWorker}
 
--- how doors and links are read: what each of them tells
+-- the functions that give the state of a door and of a link
 pub record DoorStates (D L : Type 0) : Type 0 where
   pub door : D → ListenerState L
   pub line : L → SinkState
 
--- how the doors of a run and their links are read
+-- the functions that give the states of the doors of a run and of their links
 abbrev pub door_states : {D L : Type 0} → (D → ListenerState L) → (L → SinkState) → DoorStates D L
 door_states door line = record { door = door; line = line }
+
+-- the passes, the doors and the ends of connection workers
+abbrev pub passes_of : {D : Type 0} → List (ConnectionWorker D) → List PassView
+passes_of {D} connection_workers = map (λ (worker : ConnectionWorker D). worker.pass) connection_workers
+
+abbrev pub doors_of : {D : Type 0} → List (ConnectionWorker D) → List D
+doors_of {D} connection_workers = map (λ (worker : ConnectionWorker D). worker.door) connection_workers
+
+abbrev pub ends_of : {D : Type 0} → List (ConnectionWorker D) → List WorkEnd
+ends_of {D} connection_workers = map (λ (worker : ConnectionWorker D). worker.end) connection_workers
 
 -- a pass of the stage that has seen no stop
 pub record IsRunning (stage : SharedView) (pass : PassView) : Type 0 where

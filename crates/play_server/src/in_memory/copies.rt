@@ -1,4 +1,4 @@
-//! Copies of what a site in memory is told.
+//! Copies of the arguments of `ready`, which a site in memory keeps.
 ghost use Rattle.std.specs.Prelude.{◌≡◌, ◌∷◌, ◌++◌, ◌+◌, ◌<◌, [], false, IfOk, length, option_map, vec_len, vec_capacity};
 ghost use Rattle.play_server.specs.Site.{ready_call};
 
@@ -6,7 +6,7 @@ use crate::site::ReadyCall;
 use play_types::{ByteList, Channel, ChannelList, Config, Text};
 use std::alloc::{AllocError, Global};
 
-/// Copies what `ready` is called with, as a call that gave no devices, and reserves the room to keep it among `calls`.
+/// Copies the arguments of `ready` as a call that gave no devices, and reserves room for it in `calls`.
 pub(crate) fn new_call(
     alloc: Global,
     config: &Config,
@@ -22,7 +22,7 @@ pub(crate) fn new_call(
     Ok(call)
 }
 
-/// Copies what `ready` is called with, as a call that gave no devices.
+/// Copies the arguments of `ready` as a call that gave no devices.
 fn copy_call(alloc: Global, config: &Config, history: Option<&str>) -> Result<ReadyCall, AllocError>
     ensures { IfOk result (λ call. call ≡ ready_call config.now (option_map (λ path. path.now) history.entry) false) }
 {
@@ -77,7 +77,7 @@ fn copy_channel(alloc: Global, channel: &Channel) -> Result<Channel, AllocError>
     Ok(copy.unwrap())
 }
 
-/// Adds a line and its line feed at the end, in the room that is there.
+/// Appends `line` and a line feed. There must be room for both.
 pub(crate) fn push_line(to: &mut Vec<u8>, line: &[u8])
     requires { vec_len to.old + length line.now < vec_capacity to.old }
     ensures { to.new.items ≡ to.old.items ++ line.now ++ 10 ∷ [] }

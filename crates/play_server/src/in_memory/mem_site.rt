@@ -7,12 +7,14 @@ ghost use Rattle.play_server.specs.MemSite.{fails_next, finish_step, is_ready};
 use super::copies::{new_call, push_line};
 use super::kept_devices::KeptDevices;
 use crate::site::{FinishStep, ReadyCall, Site};
-use play_outside::{Clock, Devices, FileFault, Listener, MemMedia, PlannedFaults, Sink, WriteStep};
+use play_outside::{
+    Clock, Devices, FileFault, Listener, MemMedia, PlannedFaults, Rest, Sink, WriteStep,
+};
 use play_types::Config;
 use std::alloc::{AllocError, Global};
 
-/// A site that hands out the devices that it was made with, once. It keeps its calls, the devices that came back and the
-/// lines that were said, and tells them.
+/// A site that hands out, once, the devices that it was created with. It records its calls, the devices that came back and
+/// the lines that were printed.
 #[derive(Drop)]
 pub struct MemSite<C: Clock, D: Listener, O: Sink> {
     media: MemMedia,
@@ -25,12 +27,13 @@ pub struct MemSite<C: Clock, D: Listener, O: Sink> {
     planned: PlannedFaults,
 }
 
-impl<C: Clock, D: Listener, O: Sink + Send> MemSite<C, D, O> {
-    /// Creates a site with this folder and these devices, and with room for `room` bytes of lines that are said. The calls
-    /// of `ready`, `finish` and `say` whose numbers, counted from 1 over all three, are in `fails` return `Failed`.
+impl<C: Clock, D: Listener, O: Rest + Send> MemSite<C, D, O> {
+    /// Creates a site with the folder `media` and these devices, and with room for `room` bytes of printed lines. The calls of
+    /// `ready`, `finish` and `say` whose numbers are in `fails` return `Failed`. The numbers count from 1 over all three
+    /// functions, without the calls of `ready` that run out of memory.
     ///
-    /// So does each call of `ready` for another number of doors or outputs or after the devices were handed out, and each
-    /// call of `say` that finds no room for the line and its line feed.
+    /// `ready` also fails for another number of doors or outputs, and after the devices were handed out; `say` also fails if
+    /// there is no room for the line and its line feed.
     pub fn new(
         alloc: Global,
         media: MemMedia,
@@ -71,21 +74,21 @@ impl<C: Clock, D: Listener, O: Sink + Send> MemSite<C, D, O> {
         self.calls_without_memory
     }
 
-    /// Returns the devices that were finished last.
+    /// Returns the devices that the last call of `finish` took back, if there was one.
     pub fn finished(&self) -> Option<&Devices<C, D, O>>
         ensures { option_map (λ told. told.finished) (⟦<MemSite<C, D, O> as Site>⟧.state self.now).told ≡ Some (option_map (λ devices. devices.now) result) }
     {
         self.finished.as_ref()
     }
 
-    /// Returns how often devices were finished.
+    /// Returns the number of calls of `finish`.
     pub fn finishes(&self) -> u64
         ensures { option_map (λ told. told.finishes) (⟦<MemSite<C, D, O> as Site>⟧.state self.now).told ≡ Some result }
     {
         self.finishes
     }
 
-    /// Returns the bytes of the lines that were said, each with a line feed at its end.
+    /// Returns the bytes of the lines that were printed, each with a line feed at its end.
     pub fn said(&self) -> &[u8]
         ensures { option_map (λ told. told.said) (⟦<MemSite<C, D, O> as Site>⟧.state self.now).told ≡ Some result.now }
     {
@@ -100,7 +103,7 @@ impl<C: Clock, D: Listener, O: Sink + Send> MemSite<C, D, O> {
     }
 }
 
-impl<C: Clock, D: Listener, O: Sink + Send> Site for MemSite<C, D, O> {
+impl<C: Clock, D: Listener, O: Rest + Send> Site for MemSite<C, D, O> {
     type Media = MemMedia;
 
     type Clock = C;

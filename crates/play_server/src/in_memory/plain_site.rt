@@ -1,4 +1,4 @@
-//! A site that never fails.
+//! A site whose devices never fail.
 ghost use Rattle.std.specs.Prelude.{◌≡◌, None, refl, IfOk, All, vec_len};
 ghost use Rattle.play_server.specs.Site.{AreNumbered, AreReady, Finishes, IsNewDoor};
 ghost use Rattle.play_outside.specs.Fresh.{IsNewSink};
@@ -10,8 +10,8 @@ use play_outside::{
 use play_types::Config;
 use std::alloc::{AllocError, Global};
 
-/// A site that gives plain devices at each call, as many as the configuration names. It never fails, and does not tell its
-/// calls.
+/// A site that gives plain devices at each call, as many as the configuration names. It fails only if memory runs out, and
+/// does not record its calls.
 #[derive(Clone, Copy)]
 pub struct PlainSite {
     media: PlainMedia,
@@ -64,6 +64,7 @@ impl Site for PlainSite {
             doors,
             outs,
             history: PlainSink::new(0),
+            log: PlainSink::new(0),
         })
     }
 

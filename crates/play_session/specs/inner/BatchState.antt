@@ -1,4 +1,4 @@
--- The batch of a connection, and what an ask does to it.
+-- The batch of a connection, and the effect of a line on it.
 use Rattle.std.specs.Prelude.{nat_lt, Bool, true, false, if◌then◌else◌, List, [], ◌∷◌, ◌++◌, length}
 use Rattle.play_types.specs.declared.command.Cmd.{Cmd}
 use Rattle.play_types.specs.declared.command.TheConstants.{MAX_BATCH_COMMANDS}
@@ -43,13 +43,13 @@ after_inside batch Version = batch
 after_inside batch Bye = batch
 after_inside batch Kill = batch
 
--- the batch after what a line means
+-- the batch after a line of this meaning
 abbrev pub after_meaning : BatchState → LineMeaning → BatchState
 after_meaning batch Blank = batch
 after_meaning batch (Wrong reply) = batch
 after_meaning batch (Asks asked) = if batch.is_open then after_inside batch asked else after_outside batch asked
 
--- what is done for what a line means
+-- the step of a line of this meaning
 abbrev pub step_for : BatchState → LineMeaning → model.Step
 step_for batch Blank = model.Skip
 step_for batch (Wrong reply) = model.Local reply

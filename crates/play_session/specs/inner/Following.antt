@@ -1,4 +1,4 @@
--- What a session does with what a line means.
+-- The effect on a session of a line that was read.
 use Rattle.std.specs.Prelude.{◌≡◌, ℕ, Option, Some, None, Result, Ok, Err, List}
 use Rattle.play_types.specs.declared.reply.Reply.TheVariants as reply
 use Rattle.play_session.specs.inner.BatchState.{BatchState, after_meaning, step_for}
@@ -18,8 +18,8 @@ abbrev pub token_read : {E : Type 0} → Result ReadLine E → Option (List ℕ)
 token_read (Ok read) = read.token
 token_read (Err fault) = None
 
--- the step and the batch after it are those of the meaning; a line that was not read, out of memory, is given up, and leaves
--- the batch as it was
+-- the step and the batch after it are those of the meaning; a line that was not read because memory ran out is given up, and
+-- leaves the batch as it was
 abbrev pub Follows : {E : Type 0} → Result ReadLine E → Step → BatchState → BatchState → Type 0
 Follows (Ok read) result before after =
     (viewed result after.commands ≡ Some (step_for before (meaning_view read.meaning))) × (after ≡ after_meaning before (meaning_view read.meaning))

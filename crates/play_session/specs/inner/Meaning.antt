@@ -1,4 +1,4 @@
--- What a line of a connection was read as.
+-- The meaning of a line that was read.
 use Rattle.std.specs.Prelude.{ℕ, Bool, false, List, [], ◌∷◌}
 use Rattle.history_model.specs.sessions.Request.{is_req}
 use Rattle.history_model.specs.sessions.Line as line

@@ -1,4 +1,4 @@
--- Sums of samples from a pair of a sound on: by place, the left and the right one of each pair by turns.
+-- Sums of samples from a pair of a sound on: in turn the left and the right one of each pair.
 use Rattle.std.specs.Prelude.{◌≡◌, ℕ, ◌+◌, ◌*◌, ◌/◌, ◌%◌, ◌<◌, ℤ, ◌+ℤ◌, ◌*ℤ◌, int_div, List, length}
 use Rattle.play_types.specs.Setting.{number_at}
 use Rattle.play_types.specs.declared.setting.TheConstants.{MICROS_PER_UNIT}
@@ -16,7 +16,7 @@ still_at sounds first place still = still_sample sounds.setup sounds.samples (fi
 abbrev pub sample_at : List ℕ → ℕ → ℤ
 sample_at sound place = sample_of_bytes sound (2 * place)
 
--- a sample at a volume in millionths, the quotient taken toward zero
+-- a sample at a volume in millionths, rounded toward zero
 abbrev pub at_volume : ℤ → ℤ → ℤ
 at_volume sample volume = int_div (sample *ℤ volume) MICROS_PER_UNIT
 
@@ -24,7 +24,7 @@ at_volume sample volume = int_div (sample *ℤ volume) MICROS_PER_UNIT
 abbrev pub AreSums : ℕ → List ℤ → Type 0
 AreSums layers sums = (i : ℕ) → i < length sums → IsNear (32768000 * layers) (number_at sums i)
 
--- each sum has the sample of one layer more, of 16 bits at a volume of at most 1000
+-- each sum has one more sample, of 16 bits at a volume of at most 1000
 pub record AreAdded (more : ℕ → ℤ) (before after : List ℤ) : Type 0 where
   pub len : length after ≡ length before
   pub sums : (i : ℕ) → i < length before → number_at after i ≡ number_at before i +ℤ more i

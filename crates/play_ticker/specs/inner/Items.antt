@@ -22,9 +22,9 @@ staged_after channels past (Batch tag cmds ∷ rest) = staged_after channels (pa
 staged_after channels past (Tick ∷ rest) = staged_item channels past ∷ staged_after channels (past ++ Tick ∷ []) rest
 staged_after channels past (Stop tag ∷ rest) = staged_after channels (past ++ Stop tag ∷ []) rest
 
--- the sets of all ticks of a history
-abbrev pub staged_of : ℕ → List Event → List Taken
-staged_of channels history = staged_after channels [] history
+-- the sets of all ticks of a history that comes after given events
+abbrev pub staged_of : ℕ → List Event → List Event → List Taken
+staged_of channels given history = staged_after channels given history
 
 -- whether there is no end mark
 abbrev pub is_open : List Taken → Bool
@@ -32,7 +32,7 @@ is_open [] = true
 is_open (Staged tick scenes ∷ items) = is_open items
 is_open (Done ∷ items) = false
 
--- whether an item says that an output has failed
+-- whether an item reports that an output has failed
 abbrev pub is_broken : Returned → Bool
 is_broken (Free scenes) = false
 is_broken (Broken channel scenes) = true

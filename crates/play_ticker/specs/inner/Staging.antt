@@ -30,38 +30,38 @@ pub record Staging : Type 0 where
   pub clock : ClockState
   pub pipe : StageView
 
--- scenes to fill were got
+-- the pipe gave scenes to fill
 pub record GetsRoom (old new : StageView) : Type 0 where
   pub scenes : List (List Drawn)
   pub room : GivesRoom (Free scenes) old new
 
--- a tick was made after a history
-pub record MakesTick (old new : PassView) : Type 0 where
+-- a tick was made after the given events and a history
+pub record MakesTick (given : List Event) (old new : PassView) : Type 0 where
   pub history : List Event
   pub found : IsFound old history
-  pub time : ticks history < MAX_TICKS
+  pub time : ticks (given ++ history) < MAX_TICKS
   pub after : new ≡ added old history Tick
 
--- scenes to fill were got, then a pulse, and then a tick was made and its scenes were sent
-pub record StagesTick (old new : Staging) : Type 0 where
+-- the pipe gave scenes to fill, then the clock gave a pulse, and then a tick was made and its scenes were sent
+pub record StagesTick (given : List Event) (old new : Staging) : Type 0 where
   pub got : StageView
   pub room : GetsRoom old.pipe got
-  pub tick : MakesTick old.pass new.pass
+  pub tick : MakesTick given old.pass new.pass
   pub clock : new.clock ≡ after_pulse old.clock
-  pub sent : new.pipe ≡ record got { sent = got.sent ++ staged_item got.channels tick.history ∷ [] }
+  pub sent : new.pipe ≡ record got { sent = got.sent ++ staged_item got.channels (given ++ tick.history) ∷ [] }
 
--- what one step leaves, by what was met
-abbrev pub MakesStep : Result (Unit {0}) TickEnd → Staging → Staging → Type 0
-MakesStep (Ok done) old new = StagesTick old new
-MakesStep (Err ClockClosed) old new = GetsRoom old.pipe new.pipe × (new.pass ≡ old.pass) × (new.clock ≡ after_clock_closed old.clock)
-MakesStep (Err (Ended at)) old new =
-    GetsRoom old.pipe new.pipe × Looks old.pass (λ history. stop_at history ≡ Some at) new.pass × (new.clock ≡ after_pulse old.clock)
-MakesStep (Err TicksOver) old new =
-    GetsRoom old.pipe new.pipe × Looks old.pass (λ history. (stop_at history ≡ None) × (MAX_TICKS ≤ ticks history)) new.pass × (new.clock ≡ after_pulse old.clock)
-MakesStep (Err ClockFault) old new = GetsRoom old.pipe new.pipe × (new.pass ≡ old.pass) × (new.clock ≡ after_clock_fault old.clock)
-MakesStep (Err (OutFault channel)) old new = GivesRoom (Broken channel) old.pipe new.pipe × (new.pass ≡ old.pass) × (new.clock ≡ old.clock)
+-- what one step does, by the end that was met, if any
+abbrev pub MakesStep : List Event → Result (Unit {0}) TickEnd → Staging → Staging → Type 0
+MakesStep given (Ok done) old new = StagesTick given old new
+MakesStep given (Err ClockClosed) old new = GetsRoom old.pipe new.pipe × (new.pass ≡ old.pass) × (new.clock ≡ after_clock_closed old.clock)
+MakesStep given (Err (Ended at)) old new =
+    GetsRoom old.pipe new.pipe × Looks old.pass (λ history. stop_at (given ++ history) ≡ Some at) new.pass × (new.clock ≡ after_pulse old.clock)
+MakesStep given (Err TicksOver) old new =
+    GetsRoom old.pipe new.pipe × Looks old.pass (λ history. (stop_at (given ++ history) ≡ None) × (MAX_TICKS ≤ ticks (given ++ history))) new.pass × (new.clock ≡ after_pulse old.clock)
+MakesStep given (Err ClockFault) old new = GetsRoom old.pipe new.pipe × (new.pass ≡ old.pass) × (new.clock ≡ after_clock_fault old.clock)
+MakesStep given (Err (OutFault channel)) old new = GivesRoom (Broken channel) old.pipe new.pipe × (new.pass ≡ old.pass) × (new.clock ≡ old.clock)
 
--- no news of a failed output came, save at the end that tells it
+-- no report of a failed output came, or, if the end is OutFault, one came last
 abbrev pub IsTold : TickEnd → ℕ → List Returned → Type 0
 IsTold ClockClosed channels returned = list_any (is_news channels) returned ≡ false
 IsTold (Ended at) channels returned = list_any (is_news channels) returned ≡ false
@@ -69,34 +69,34 @@ IsTold TicksOver channels returned = list_any (is_news channels) returned ≡ fa
 IsTold ClockFault channels returned = list_any (is_news channels) returned ≡ false
 IsTold (OutFault channel) channels returned = EndsWithNews channels returned
 
--- the end is of the same pipe
+-- the end of the pipe has kept its pipe and its channels
 pub record IsSamePipe (old new : StageView) : Type 0 where
   pub pipe : new.pipe ≡ old.pipe
   pub channels : new.channels ≡ old.channels
 
 -- no more ticks are made, and the stage is not stopped yet
-pub record EndsStaging (end : TickEnd) (old new : Staging) : Type 0 where
+pub record EndsStaging (given : List Event) (end : TickEnd) (old new : Staging) : Type 0 where
   pub first : new.pass.number ≡ 0
   pub seen : IsPrefix old.pass.seen new.pass.seen
-  pub made : IsKnown new.pass → MadeTicks new.pass
+  pub made : IsKnown new.pass → MadeTicks given new.pass
   pub clock : new.clock ≡ clock_at_end end (length new.pass.made) old.clock
   pub turns : new.pass.turns ≡ old.pass.turns + pulses_taken end (length new.pass.made)
   pub ends : new.pass.ends ≡ old.pass.ends
-  pub cause : IsAtEnd end new.pass
-  pub sent : IsKnown new.pass → new.pipe.sent ≡ staged_of old.pipe.channels new.pass.seen
+  pub cause : IsAtEnd given end new.pass
+  pub sent : IsKnown new.pass → new.pipe.sent ≡ staged_of old.pipe.channels given new.pass.seen
   pub few : length new.pipe.sent ≤ SETS + free_count old.pipe.channels new.pipe.returned
   pub told : IsTold end old.pipe.channels new.pipe.returned
   pub same : IsSamePipe old.pipe new.pipe
 
 -- all ticks were made and their scenes sent, the end mark too, and the stage was stopped
-pub record HasStaged (end : TickEnd) (old new : Staging) : Type 0 where
+pub record HasStaged (given : List Event) (end : TickEnd) (old new : Staging) : Type 0 where
   pub first : new.pass.number ≡ 0
   pub seen : IsPrefix old.pass.seen new.pass.seen
   pub made : new.pass.made ≡ tick_positions new.pass.seen
   pub clock : new.clock ≡ clock_at_end end (ticks new.pass.seen) old.clock
   pub turns : new.pass.turns ≡ old.pass.turns + turns_won end (ticks new.pass.seen)
-  pub pass : EndsPass end old.pass new.pass
-  pub sent : new.pipe.sent ≡ staged_of old.pipe.channels new.pass.seen ++ Done ∷ []
+  pub pass : EndsPass given end old.pass new.pass
+  pub sent : new.pipe.sent ≡ staged_of old.pipe.channels given new.pass.seen ++ Done ∷ []
   pub few : ticks new.pass.seen ≤ SETS + free_count old.pipe.channels new.pipe.returned
   pub told : IsTold end old.pipe.channels new.pipe.returned
   pub same : IsSamePipe old.pipe new.pipe

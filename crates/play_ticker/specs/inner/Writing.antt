@@ -8,7 +8,6 @@ use Rattle.play_types.specs.declared.event.Event.{Event}
 use Rattle.play_outside.specs.SinkState.{SinkState, after_taking}
 use Rattle.play_outside.specs.Sink.{Fails}
 use Rattle.clip_format.specs.Table.{Entry}
-use Rattle.history_model.specs.pictures.Media.{Setup}
 use Rattle.play_scene.specs.Frames.{FrameView, frame_at}
 use Rattle.band_render.specs.Rendered.{AreRendered}
 use Rattle.scene_pipe.specs.declared.item.Taken.{Taken}
@@ -19,7 +18,7 @@ use Rattle.scene_pipe.specs.Calls.{GetsTaken}
 use Rattle.scene_pipe.specs.Counts.{free_before_news}
 use Rattle.scene_pipe.specs.Items.{IsClosed}
 use Rattle.scene_pipe.specs.Views.{WriteView}
-use Rattle.play_ticker.specs.Outputs.{AllTakeFrames, EachOutput, IsCutAt}
+use Rattle.play_ticker.specs.Outputs.{AllTakeFrames, Beginning, EachOutput, IsCutAt, shown_from}
 use Rattle.play_ticker.specs.inner.Items.{AllFit, is_broken, staged_item, staged_of}
 use Rattle.play_ticker.specs.declared.writing.Step.{Step}
 use Rattle.play_ticker.specs.declared.writing.Step.TheVariants as step
@@ -28,7 +27,7 @@ use Rattle.play_ticker.specs.declared.writing.Step.TheVariants as step
 abbrev pub bytes_in : List FrameView → ℕ → List ℕ
 bytes_in frames channel = (frame_at channel frames).bytes ++ (frame_at channel frames).sound
 
--- the outputs of the channels below one took their bytes, that of the one failed on them, and those above took nothing
+-- the outputs of the channels below `failed` took their bytes, the output of `failed` failed on its bytes, and those above took nothing
 pub record FailsAt (failed : ℕ) (bytes : ℕ → List ℕ) (channel : ℕ) (old new : SinkState) : Type 0 where
   pub below : channel < failed → new ≡ after_taking old (bytes channel)
   pub failing : channel ≡ failed → Fails (bytes channel) old new
@@ -40,7 +39,7 @@ pub record Writing (O : Type 0) : Type 0 where
   pub frames : List FrameView
   pub outs : List O
 
--- the end is of the same pipe
+-- the end of the pipe has kept its pipe and its channels
 pub record IsSameEnd (old new : WriteView) : Type 0 where
   pub pipe : new.pipe ≡ old.pipe
   pub channels : new.channels ≡ old.channels
@@ -54,7 +53,7 @@ pub record GivesBack (old new : WriteView) : Type 0 where
   pub free : list_any is_broken back ≡ false
   pub same : IsSameEnd old new
 
--- the news that the output of a channel has failed was given back once
+-- the report that the output of a channel failed was given back once
 pub record TellsOnce (failed : ℕ) (given : List Returned) : Type 0 where
   pub before : List Returned
   pub scenes : List (List Drawn)
@@ -64,7 +63,7 @@ pub record TellsOnce (failed : ℕ) (given : List Returned) : Type 0 where
   pub once : list_any is_broken after ≡ false
 
 module _ {O : Type 0} where
-  -- a set was taken and rendered, this became of the outputs, and it was given back so
+  -- a set was taken and rendered, `Holds` is true of each output, and the set was given back with `back`
   pub record WritesSet (entries : List Entry) (Holds : List FrameView → ℕ → O → O → Type 0) (back : List (List Drawn) → Returned) (old new : Writing O) : Type 0 where
     pub tick : ℕ
     pub scenes : List (List Drawn)
@@ -74,7 +73,7 @@ module _ {O : Type 0} where
     pub outs : EachOutput (Holds new.frames) 1 old.outs new.outs
     pub gives : new.pipe ≡ record got { given = got.given ++ back scenes ∷ [] }
 
-  -- what one step leaves
+  -- what one step does
   abbrev pub MakesWrite : (O → SinkState) → List Entry → Step → Writing O → Writing O → Type 0
   MakesWrite state entries step.Written old new =
       WritesSet entries (λ frames channel before after. state after ≡ after_taking (state before) (bytes_in frames channel)) (λ scenes. Free scenes) old new
@@ -83,7 +82,7 @@ module _ {O : Type 0} where
       IsConfigured (length old.frames) failed × WritesSet entries (λ frames channel before after. FailsAt failed (bytes_in frames) channel (state before) (state after)) (λ scenes. Broken failed scenes) old new
 
   -- the output of a channel failed at one of the sets that were taken
-  pub record IsCutTaken (state : O → SinkState) (setup : Setup) (failed : ℕ) (old new : Writing O) : Type 0 where
+  pub record IsCutTaken (state : O → SinkState) (beginning : Beginning) (failed : ℕ) (old new : Writing O) : Type 0 where
     pub before : List Taken
     pub tick : ℕ
     pub scenes : List (List Drawn)
@@ -91,21 +90,21 @@ module _ {O : Type 0} where
     pub whole : before ++ Staged tick scenes ∷ after ≡ new.pipe.taken
     pub told : TellsOnce failed new.pipe.given
     pub free : free_before_news new.pipe.given ≡ length before
-    pub outs : (history : List Event) → staged_of new.pipe.channels history ≡ before → staged_item new.pipe.channels history ≡ Staged tick scenes
-        → EachOutput (λ channel b a. IsCutAt failed (record { setup = setup; history = history }) channel (state b) (state a)) 1 old.outs new.outs
+    pub outs : (history : List Event) → staged_of new.pipe.channels beginning.given history ≡ before → staged_item new.pipe.channels (beginning.given ++ history) ≡ Staged tick scenes
+        → EachOutput (λ channel b a. IsCutAt failed (shown_from beginning history) channel (state b) (state a)) 1 old.outs new.outs
 
   -- no output failed: each took the frames of every history that has the sets that were taken
-  pub record IsWhole (state : O → SinkState) (setup : Setup) (old new : Writing O) : Type 0 where
+  pub record IsWhole (state : O → SinkState) (beginning : Beginning) (old new : Writing O) : Type 0 where
     pub free : list_any is_broken new.pipe.given ≡ false
-    pub outs : (history : List Event) → staged_of new.pipe.channels history ++ Done ∷ [] ≡ new.pipe.taken → AllTakeFrames state (record { setup = setup; history = history }) old.outs new.outs
+    pub outs : (history : List Event) → staged_of new.pipe.channels beginning.given history ++ Done ∷ [] ≡ new.pipe.taken → AllTakeFrames state (shown_from beginning history) old.outs new.outs
 
   -- what was written, by whether an output failed
-  abbrev pub IsWrittenBy : (O → SinkState) → Setup → Option ℕ → Writing O → Writing O → Type 0
-  IsWrittenBy state setup None old new = IsWhole state setup old new
-  IsWrittenBy state setup (Some failed) old new = IsConfigured (length old.frames) failed × IsCutTaken state setup failed old new
+  abbrev pub IsWrittenBy : (O → SinkState) → Beginning → Option ℕ → Writing O → Writing O → Type 0
+  IsWrittenBy state beginning None old new = IsWhole state beginning old new
+  IsWrittenBy state beginning (Some failed) old new = IsConfigured (length old.frames) failed × IsCutTaken state beginning failed old new
 
   -- all sets up to the end mark were taken, and written up to the first failure
-  pub record HasWritten (state : O → SinkState) (setup : Setup) (failed : Option ℕ) (old new : Writing O) : Type 0 where
+  pub record HasWritten (state : O → SinkState) (beginning : Beginning) (failed : Option ℕ) (old new : Writing O) : Type 0 where
     pub closed : IsClosed new.pipe.taken
     pub same : IsSameEnd old.pipe new.pipe
-    pub written : AllFit new.pipe.channels new.pipe.taken → IsWrittenBy state setup failed old new
+    pub written : AllFit new.pipe.channels new.pipe.taken → IsWrittenBy state beginning failed old new

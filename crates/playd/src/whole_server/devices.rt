@@ -15,7 +15,7 @@ use std::sync::{Arc, Wait};
 use std::test::Fail;
 use std::thread::Threads;
 
-/// A door of which a call may wait, and so may one of its links.
+/// A door of which a call may wait, as may a call of one of its links.
 pub type Door = HeldDoor<MemDoor<HeldLink>>;
 
 /// A site of which a call of each device may wait.
@@ -24,11 +24,11 @@ pub type HeldSite = MemSite<HeldClock, Door, HeldSink>;
 /// The devices of such a site.
 pub type HeldDevices = Devices<HeldClock, Door, HeldSink>;
 
-/// The room of an output, in bytes: more than any run writes.
+/// The room of an output in bytes: more than any run writes.
 const ROOM: usize = 20_000_000;
 
-/// The configurations, each after its path: one channel without sound, with one door and with two, two channels, and one that is
-/// refused.
+/// The configurations, each after its path: one channel without sound with one connection, the same channel with two
+/// connections, two channels, and one that is refused.
 const CONFIGS: [(&str, &str); 4] = [
     (
         "one",
@@ -48,7 +48,8 @@ const CONFIGS: [(&str, &str); 4] = [
     ),
 ];
 
-/// Returns a folder with the configurations and with empty clip files of these names. Its calls of these numbers fail.
+/// Returns a folder with the configurations and with empty clip files named `clips`. Its calls with the numbers in
+/// `fails` fail.
 pub fn folder_of(alloc: Global, clips: &[&str], fails: &[u64]) -> Result<MemMedia, Fail> {
     let mut configs = Vec::new(alloc);
     for (path, text) in CONFIGS {
@@ -78,7 +79,7 @@ pub fn words_of(alloc: Global, words: &[&str]) -> Result<Vec<String>, Fail> {
     Ok(copies)
 }
 
-/// Serves over a site as these words say, and returns the exit status.
+/// Serves over a site with these words, and returns the exit status.
 pub fn run<R: Threads + Wait + Sync, S: Site>(
     rt: &R,
     alloc: Global,
@@ -89,7 +90,8 @@ pub fn run<R: Threads + Wait + Sync, S: Site>(
     Ok(serve_main(rt, alloc, words.as_slice(), site))
 }
 
-/// Returns a site with this folder and the planned devices. The calls of `ready` and `say` of these numbers fail.
+/// Returns a site with this folder and the planned devices. Its calls of `ready`, `finish` and `say` with the numbers
+/// in `fails` fail.
 pub fn site_of(
     alloc: Global,
     plan: &Plan,
@@ -143,15 +145,17 @@ fn devices_of(alloc: Global, plan: &Plan) -> Result<HeldDevices, Fail>
     let doors = doors_of(alloc, &flags, plan)?;
     let outs = outputs_of(alloc, &flags, plan.outputs)?;
     let history = output_of(alloc, &flags, 0, &plan.history)?;
+    let log = output_of(alloc, &flags, 0, &plan.log)?;
     Ok(Devices {
         clock,
         doors,
         outs,
         history,
+        log,
     })
 }
 
-/// Returns a clock.
+/// Returns a clock that gives `pulses` pulses.
 fn clock_of(alloc: Global, flags: &Flags, pulses: u64, calls: &Calls) -> Result<HeldClock, Fail>
     ensures { IfOk result (λ clock. IsNewClock (⟦<HeldClock as Clock>⟧.state clock)) }
 {
@@ -159,7 +163,7 @@ fn clock_of(alloc: Global, flags: &Flags, pulses: u64, calls: &Calls) -> Result<
     Ok(HeldClock::new(clock, flags.at(calls.waits)?, flags.at(calls.sets)?))
 }
 
-/// Returns an output for each channel, marked by their places from 1 on.
+/// Returns an output for each channel, with the marks 1, 2 and so on.
 fn outputs_of(alloc: Global, flags: &Flags, calls: &[Calls]) -> Result<Vec<HeldSink>, Fail>
     ensures new { IfOk result (λ outs. All (λ out. IsNewSink (⟦<HeldSink as Sink>⟧.state out)) outs.items) }
     ensures marks { IfOk result (λ outs. AreNumbered (λ out. (⟦<HeldSink as Sink>⟧.state out).mark) outs.items) }
@@ -172,7 +176,7 @@ fn outputs_of(alloc: Global, flags: &Flags, calls: &[Calls]) -> Result<Vec<HeldS
     Ok(outs)
 }
 
-/// Returns an output with this mark.
+/// Returns an output with the mark `mark`.
 fn output_of(alloc: Global, flags: &Flags, mark: u64, calls: &Calls) -> Result<HeldSink, Fail>
     ensures new { IfOk result (λ output. IsNewSink (⟦<HeldSink as Sink>⟧.state output)) }
     ensures mark { IfOk result (λ output. (⟦<HeldSink as Sink>⟧.state output).mark ≡ mark) }
@@ -182,7 +186,7 @@ fn output_of(alloc: Global, flags: &Flags, mark: u64, calls: &Calls) -> Result<H
     Ok(HeldSink::new(sink, flags.at(calls.waits)?, flags.at(calls.sets)?))
 }
 
-/// Returns a door for each client, marked by their places from 1 on.
+/// Returns a door for each client, with the marks 1, 2 and so on.
 fn doors_of(alloc: Global, flags: &Flags, plan: &Plan) -> Result<Vec<Door>, Fail>
     ensures new { IfOk result (λ doors. All (λ door. IsNewDoor (⟦<Door as Listener>⟧.state door)) doors.items) }
     ensures marks { IfOk result (λ doors. AreNumbered (λ door. (⟦<Door as Listener>⟧.state door).mark) doors.items) }
@@ -195,7 +199,7 @@ fn doors_of(alloc: Global, flags: &Flags, plan: &Plan) -> Result<Vec<Door>, Fail
     Ok(doors)
 }
 
-/// Returns a door that has no link at first, and then the one of the client.
+/// Returns a door at which no link comes at first, and then the link of the client.
 fn door_of(
     alloc: Global,
     flags: &Flags,

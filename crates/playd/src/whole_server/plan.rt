@@ -7,7 +7,7 @@ pub enum Moment {
     Answered,
     /// An output was written to.
     Written,
-    /// A link came to the call for which the clock waits.
+    /// A call of a link, a door or the clock was made for which another call waits.
     Released,
 }
 
@@ -18,7 +18,7 @@ pub struct Calls {
     pub fails: &'static [u64],
     /// The call that waits for a moment.
     pub waits: Option<(u64, Moment)>,
-    /// The call that is a moment.
+    /// The call that sets a moment.
     pub sets: Option<(u64, Moment)>,
 }
 
@@ -31,21 +31,21 @@ impl Calls {
     };
 }
 
-/// A client, to whom one link belongs. The link's calls are its reads and its writes, each reply in one write.
+/// A client with one link. The calls of the link are its reads and its writes; each reply is one write.
 #[derive(Clone, Copy)]
 pub struct Client {
     /// What it sends.
     pub lines: &'static str,
-    /// How many bytes a read gives at most.
+    /// The most bytes that a read gives.
     pub piece: usize,
-    /// The calls that are reads which find nothing yet.
+    /// The numbers of the reads that find nothing yet.
     pub idle: &'static [u64],
     pub calls: Calls,
-    /// What it is answered.
+    /// The replies that it gets.
     pub replies: &'static str,
 }
 
-/// The devices of a run: a door for each client, an output for each channel, and one for the history.
+/// The devices of a run: a door for each client, an output for each channel, one for the history and one for the log.
 #[derive(Clone, Copy)]
 pub struct Plan {
     pub clients: &'static [Client],
@@ -56,4 +56,5 @@ pub struct Plan {
     pub clock: Calls,
     pub outputs: &'static [Calls],
     pub history: Calls,
+    pub log: Calls,
 }

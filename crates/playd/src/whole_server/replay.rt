@@ -7,11 +7,11 @@ use std::alloc::Global;
 use std::test::Fail;
 use std::thread::Threads;
 
-/// How many bytes of output there are at most for each digit of a frame, and beside the frames.
+/// The most bytes of output for each digit of a frame, and those besides the frames.
 const ROOM: (usize, usize) = (10, 1000);
 
-/// Plays the text of a history on the configuration of this path, and returns the exit status and the output. There are `digits`
-/// hexadecimal digits in its frames.
+/// Plays the text of a history with the configuration at path `config`, and returns the exit status and the output. Its
+/// frames have `digits` hexadecimal digits in all.
 pub fn replay<R: Threads + Sync>(
     rt: &R,
     alloc: Global,
@@ -62,7 +62,7 @@ pub fn without_tokens(alloc: Global, replies: &str) -> Result<String, Fail> {
     Ok(plain)
 }
 
-/// Returns the hexadecimal digits of the frames in an output, each of which has one row.
+/// Returns the hexadecimal digits of the frames in an output. Each frame has one row.
 pub fn frames_in(alloc: Global, output: &str) -> Result<String, Fail> {
     let mut frames = String::new(alloc);
     let mut is_frame = false;

@@ -19,7 +19,7 @@ struct Show {
     plan: Plan,
     /// The last frame in hexadecimal digits.
     last_frame: &'static str,
-    /// Whether all lines of the clients stand in the text of the history: no VERSION or INFO.
+    /// Whether the text of the history has all lines of the clients, which are neither VERSION nor INFO then.
     is_replayed: bool,
 }
 
@@ -32,11 +32,12 @@ const SHOWS: [Show; 6] = [
     BATCH,
 ];
 
-/// One client sets a value, asks for it and stops the server, while another one plays. The clock begins when the KILL is
-/// read, and has more pulses than are taken by then.
+/// One client sets a value, asks for it and stops the server, while another one plays. The clock begins when the KILL
+/// is read, and has more pulses than are used by then.
 ///
-/// The read of the KILL waits for the fifth frame, and the first frame for the reply to the PLAY. At most four ticks are made
-/// before the first frame is taken, so the PLAY is answered and its picture is shown before the stop. The lines of the first client are of one length, since a read gives pieces of one length.
+/// The read of the KILL waits for the fifth frame, and the first frame waits for the reply to the PLAY. At most four
+/// ticks are made before the first frame is taken, so the PLAY is answered and its picture is shown before the stop.
+/// The lines of the first client have one length, since all reads of a link have one length.
 const TWO_CONNECTIONS: Show = Show {
     name: "two connections",
     config: "two",
@@ -82,9 +83,10 @@ const TWO_CLIENTS: Plan = Plan {
         ..Calls::FREE
     }],
     history: Calls::FREE,
+    log: Calls::FREE,
 };
 
-/// The same with a token on each line of the first client. A replay writes its replies without the tokens.
+/// `TWO_CONNECTIONS` with a token on each line of the first client. A replay writes its replies without the tokens.
 const TOKENS: Show = Show {
     name: "tokens",
     plan: Plan {
@@ -152,12 +154,13 @@ const READ_AFTER_REPLY: Show = Show {
         },
         outputs: &[Calls::FREE],
         history: Calls::FREE,
+        log: Calls::FREE,
     },
     last_frame: "00000000",
     is_replayed: false,
 };
 
-/// The first write of an output waits until a command was answered. The command comes when that write has begun.
+/// The first write of an output waits until a command was answered. The command is read after that write has begun.
 const WRITE_AFTER_REPLY: Show = Show {
     name: "a write of an output waits for a reply",
     config: "one",
@@ -185,6 +188,7 @@ const WRITE_AFTER_REPLY: Show = Show {
             ..Calls::FREE
         }],
         history: Calls::FREE,
+        log: Calls::FREE,
     },
     last_frame: "00000000",
     is_replayed: true,
@@ -217,6 +221,7 @@ const READ_AFTER_WRITE: Show = Show {
             ..Calls::FREE
         }],
         history: Calls::FREE,
+        log: Calls::FREE,
     },
     last_frame: "00000000",
     is_replayed: false,
@@ -258,6 +263,7 @@ const BATCH: Show = Show {
         },
         outputs: &[Calls::FREE],
         history: Calls::FREE,
+        log: Calls::FREE,
     },
     last_frame: "7f0080ff",
     is_replayed: true,
@@ -276,7 +282,7 @@ fn clients_are_served_beside_the_ticker(rt: HostRuntime) -> Result<(), Fail> {
     Ok(())
 }
 
-/// Checks the replies and the history of a run.
+/// Checks the replies, the history and the log of a run.
 fn check_site<R: Threads + Sync + Abort>(
     rt: &R,
     alloc: Global,
@@ -303,8 +309,7 @@ fn check_replies(rt: &impl Abort, show: &Show, devices: &HeldDevices) -> Result<
     Ok(())
 }
 
-/// Checks that the text of the history, played as a script, gives the frames that were written, and the replies without their
-/// tokens.
+/// Checks the frames that were written, and that the text of the history and the log replay them.
 fn check_history<R: Threads + Sync + Abort>(
     rt: &R,
     alloc: Global,
@@ -316,12 +321,25 @@ fn check_history<R: Threads + Sync + Abort>(
         return Err("one output")?;
     };
     let frames = hex::encode(alloc, out.sink().taken())?;
-    assert!(rt; frames.as_str().ends_with(show.last_frame), "{name}");
-    let text = devices.history.sink().taken();
+    let frames = frames.as_str();
+    assert!(rt; frames.ends_with(show.last_frame), "{name}");
+    check_text(rt, alloc, show, frames, devices.history.sink().taken())?;
+    check_text(rt, alloc, show, frames, devices.log.sink().taken())
+}
+
+/// Checks that a text, played as a script, gives the frames that were written, and the replies without their tokens.
+fn check_text<R: Threads + Sync + Abort>(
+    rt: &R,
+    alloc: Global,
+    show: &Show,
+    frames: &str,
+    text: &[u8],
+) -> Result<(), Fail> {
+    let name = show.name;
     let (status, played) = replay(rt, alloc, text, show.config, frames.len())?;
     let output = str::from_utf8(played.taken())?;
     assert_eq!(rt; status, 0, "{name}");
-    assert_eq!(rt; frames_in(alloc, output)?, frames, "{name}");
+    assert_eq!(rt; frames_in(alloc, output)?.as_str(), frames, "{name}");
     if show.is_replayed {
         for (place, client) in show.plan.clients.iter().enumerate() {
             let worker = place.saturating_add(1);

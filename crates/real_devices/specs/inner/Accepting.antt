@@ -1,12 +1,12 @@
 -- When a listening socket has failed.
 use Rattle.std.specs.Prelude.{◌≡◌, ℤ, pos, ◌⊎◌, Option, Some, None}
 
--- Linux's numbers of the errors of accept that do not pass: a bad descriptor (9), a bad address (14), an invalid
--- argument or a socket that does not listen (22), and no socket (88)
+-- Linux's error numbers of `accept` that do not pass: bad descriptor (9), bad address (14), invalid argument or a socket that does not
+-- listen (22), and not a socket (88)
 abbrev pub IsLasting : ℤ → Type 0
 IsLasting code = (code ≡ pos 9) ⊎ (code ≡ pos 14) ⊎ (code ≡ pos 22) ⊎ (code ≡ pos 88)
 
--- an error that is none of the system's passes, too
+-- an error without a number of the system passes; one with a number does not pass if it is one of those
 abbrev pub HasFailed : Option ℤ → Type 0
 HasFailed None = ⊥
 HasFailed (Some code) = IsLasting code

@@ -10,11 +10,11 @@ is_line_end byte = byte == 10
 abbrev pub is_word_byte : ℕ → Bool
 is_word_byte byte = not (byte == 10 || byte == 32 || byte == 9 || byte == 13)
 
--- whether bytes end a line that has a word, after a line so far that has one or not: before their last LF there is a word
+-- whether `bytes` end a line that has a word: they have an LF, and the line so far has a word or one comes before their last LF
 abbrev pub ends_word : Bool → List ℕ → Bool
 ends_word has_word bytes = list_any is_line_end bytes && (has_word || list_any is_word_byte (before_last is_line_end bytes))
 
--- whether the line so far has a word after these bytes
+-- whether the line that is open after `bytes` has a word: after their last LF, or, without an LF, in the line so far or in `bytes`
 abbrev pub leaves_word : Bool → List ℕ → Bool
 leaves_word has_word bytes =
     if list_any is_line_end bytes then list_any is_word_byte (after_last is_line_end bytes) else (has_word || list_any is_word_byte bytes)

@@ -7,29 +7,28 @@ use Rattle.real_devices.specs.declared.schedule.Schedule.{Schedule}
 use Rattle.real_devices.specs.declared.schedule.Step.{Step}
 use Rattle.real_devices.specs.declared.schedule.Step.TheVariants.{Wait, PassOver}
 
--- the next pulse is due at this time in nanoseconds: at `rate` pulses a second, as many seconds after the beginning as all pulses with
--- it last, but for a part of a nanosecond
+-- the next pulse is due at `due` nanoseconds of the clock: (given + 1) / rate seconds after the beginning, rounded down to a nanosecond
 pub record IsDue (rate : ℕ) (schedule : Schedule) (due : ℕ) : Type 0 where
   pub after : ℕ
   pub since : due ≡ instant_nanos schedule.begun + after
   pub reached : after * rate ≤ (schedule.given + 1) * 1_000_000_000
   pub not_passed : (schedule.given + 1) * 1_000_000_000 < (after + 1) * rate
 
--- so many pulses are due in so many nanoseconds, and no more
+-- `pulses` is how many whole pulses fit in `nanos` nanoseconds
 abbrev pub AreIn : ℕ → ℕ → ℕ → Type 0
 AreIn rate nanos pulses = (pulses * 1_000_000_000 ≤ nanos * rate) × (nanos * rate < (pulses + 1) * 1_000_000_000)
 
--- the pulse that is due is given, which is not late by more than a second
+-- the next pulse is given, at most a second late
 pub record GivesPulse (left rate now : ℕ) (before after : Schedule) : Type 0 where
   pub due : ℕ
   pub is_due : IsDue rate before due
   pub in_time : now ≤ due + 1_000_000_000
-  -- what is left to wait
+  -- how long to wait before it: nothing if it is late
   pub waits : left ≡ due - now
   pub begun : after.begun ≡ before.begun
   pub given : after.given ≡ min (before.given + 1) (2 ^ 64 - 1)
 
--- a pulse that is late by more than a second is the first of a new schedule, and all that were due since are passed over
+-- the next pulse is more than a second late: a new schedule begins now, and the pulses that were due since are passed over
 pub record BeginsAnew (pulses rate : ℕ) (now : Instant) (before after : Schedule) : Type 0 where
   pub due : ℕ
   pub is_due : IsDue rate before due
@@ -38,7 +37,8 @@ pub record BeginsAnew (pulses rate : ℕ) (now : Instant) (before after : Schedu
   pub begun : after.begun ≡ now
   pub given : after.given ≡ 0
 
--- what a clock does for its next pulse. Nothing happens at a time that no clock reads
+-- the next step of a clock: no step and no change if the pulse is due at a time that no clock reads, a pulse after a wait, or a new
+-- schedule
 abbrev pub Advances : Option Step → ℕ → Instant → Schedule → Schedule → Type 0
 Advances None rate now before after = after ≡ before
 Advances (Some (Wait time)) rate now before after = GivesPulse (as_nanos time) rate (instant_nanos now) before after

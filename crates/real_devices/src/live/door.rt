@@ -6,12 +6,12 @@ use std::alloc::Global;
 use std::net::SocketAddr;
 use std::sync::Arc;
 
-/// What a reader did, or became of the path of a pipe.
+/// What a reader did, or what happened to the path of a pipe.
 #[derive(Clone, Copy, Debug, Drop, PartialEq, Eq)]
 pub enum Visit {
     /// A reader came, from this address if it has one.
     Came(Option<SocketAddr>),
-    /// A reader left.
+    /// A reader left, with its address if it has one.
     Left(Option<SocketAddr>),
     /// Another pipe has the path now, and is the output from then on.
     NewPipe,
@@ -19,41 +19,41 @@ pub enum Visit {
     NoPipe,
 }
 
-/// How the thread of a live output tells what its readers do.
+/// The thread's side of what it shares with the run: visits and counts.
 #[derive(Drop)]
-pub struct Teller {
+pub struct VisitSender {
     shared: Arc<Shared, Global>,
     visits: Producer<Visit>,
 }
 
-impl Teller {
-    /// Returns one that tells through these.
-    pub(crate) fn new(shared: Arc<Shared, Global>, visits: Producer<Visit>) -> Teller {
-        Teller { shared, visits }
+impl VisitSender {
+    /// Returns a sender over these two.
+    pub(crate) fn new(shared: Arc<Shared, Global>, visits: Producer<Visit>) -> VisitSender {
+        VisitSender { shared, visits }
     }
 
-    /// What it shares with the run.
+    /// Returns what the thread shares with the run.
     pub(crate) fn shared(&self) -> &Shared {
         &self.shared
     }
 
-    /// Tells of a visit, unless there are more than can be told.
-    pub(crate) fn tell(&mut self, visit: Visit) {
+    /// Sends a visit, or drops it if there is no room.
+    pub(crate) fn send(&mut self, visit: Visit) {
         let _ = self.visits.push(visit);
     }
 }
 
-/// Where readers of a live output come, to each of which it writes by a `W`.
+/// Where the readers of a live output come. The output writes to each by a `W`.
 pub(crate) trait ReaderDoor<W>: Drop {
     /// Waits until the first reader comes, or somebody ends the wait.
     fn wait_for_first(&mut self);
 
-    /// Looks for readers, and adds those that came.
-    fn look(&mut self, output: &mut LiveOutput<W>, teller: &mut Teller);
+    /// Adds the readers that came.
+    fn look(&mut self, output: &mut LiveOutput<W>, sender: &mut VisitSender);
 
-    /// Notes that a reader is there: it took something, or would once there is room for it.
-    fn note_there(&mut self, teller: &mut Teller);
+    /// Notes that a reader is there: it took something, or has no room for more.
+    fn note_there(&mut self, sender: &mut VisitSender);
 
-    /// Takes back what was written to for the reader at a place, which nobody reads any more.
-    fn leave(&mut self, at: usize, stream: W, teller: &mut Teller);
+    /// Takes back the `W` of the reader at place `at`, which has left.
+    fn leave(&mut self, at: usize, stream: W, sender: &mut VisitSender);
 }

@@ -1,5 +1,5 @@
 //! The readers of a named pipe.
-use crate::live::door::{ReaderDoor, Teller, Visit};
+use crate::live::door::{ReaderDoor, Visit, VisitSender};
 use crate::pace::millis;
 use crate::used_files::is_same_file;
 use live_output::LiveOutput;
@@ -12,13 +12,13 @@ use std::os::unix::fs::FileTypeExt;
 use std::rt::Files;
 use std::time::Clock;
 
-/// For how many milliseconds the path of a pipe is not looked at again.
+/// How many milliseconds lie between two looks at the path of a pipe.
 const LOOK_MILLIS: u64 = 100;
 
-/// How many times a pipe is read at most to empty it. It holds a megabyte at most.
+/// The most reads to empty a pipe. It holds a megabyte at most.
 const MOST_READS: u32 = 1_024;
 
-/// Returns whether a named pipe has this path.
+/// Returns whether a path is of a named pipe.
 pub(crate) fn is_pipe<R: Files>(rt: &R, path: &str) -> bool {
     match fs::metadata(rt, path) {
         Ok(found) => found.file_type().is_fifo(),
@@ -34,8 +34,8 @@ pub struct OpenPipe {
     pub(crate) found: Metadata,
 }
 
-/// Opens a named pipe to write, without a wait for a reader, and returns it with what the system tells of it. No write to it waits.
-/// An end that reads and writes is opened first, since nobody has to wait for one, and closed again.
+/// Opens a named pipe to write without waiting for a reader, and returns it with its metadata. No write to it waits. An
+/// end that reads and writes, whose open never waits, is opened first and closed again.
 pub(crate) fn open_pipe<R: Files<File = File>>(rt: &R, path: &str) -> io::Result<(File, Metadata)> {
     if !is_pipe(rt, path) {
         return Err(Error::from(ErrorKind::InvalidInput));
@@ -48,12 +48,13 @@ pub(crate) fn open_pipe<R: Files<File = File>>(rt: &R, path: &str) -> io::Result
     Ok((end, found))
 }
 
-/// Lets the calls on a pipe or a device return at once. The system has one call for these and for sockets.
+/// Makes the calls on a pipe or a device return at once. The system has one call for these and for sockets.
 pub(crate) fn set_nonblocking(file: &File) -> io::Result<()> {
     TcpStream::from(OwnedFd::from(file.try_clone()?)).set_nonblocking(true)
 }
 
-/// Opens the pipe of an end anew, to read and write. It is the same pipe whatever has its path now, and nobody has to wait.
+/// Opens the pipe of `end` once more, to read and write, even if another file has its path by now. The open never
+/// waits.
 pub(crate) fn open_again<R: Files<File = File>>(
     rt: &R,
     alloc: Global,
@@ -66,25 +67,25 @@ pub(crate) fn open_again<R: Files<File = File>>(
         .open(rt, path.as_str())
 }
 
-/// Returns the path by which Linux lets an open file be opened anew.
+/// Returns the path by which Linux lets an open file be opened again.
 fn path_of(alloc: Global, file: &File) -> io::Result<String> {
     Ok(format!(in alloc; "/proc/self/fd/{}", file.as_raw_fd())?)
 }
 
-/// A named pipe. The system tells of its readers only by what becomes of writes to it.
+/// A named pipe. Only the results of writes show whether it has readers.
 #[derive(Drop)]
 pub(crate) struct PipeDoor<T> {
     rt: T,
     alloc: Global,
     path: String,
-    /// The end that is written to, while it is not at the output.
+    /// The end that is written to, while the output does not have it.
     end: Option<File>,
-    /// What the system told of the pipe.
+    /// The metadata of the pipe.
     found: Metadata,
     is_read: bool,
-    /// Whether the path was of no pipe when it was last looked at.
+    /// Whether the path was of no pipe at the last look.
     is_lost: bool,
-    /// The millisecond of the clock from which on the path is looked at again.
+    /// The millisecond of the clock from which on it looks at the path again.
     due: u64,
 }
 
@@ -104,7 +105,7 @@ impl<T: Files<File = File> + Clock + Drop> PipeDoor<T> {
         }
     }
 
-    /// Returns the runtime over which it works.
+    /// Returns its runtime and its allocator.
     pub(crate) fn runtime(&self) -> (T, Global)
     where
         T: Copy,
@@ -112,8 +113,8 @@ impl<T: Files<File = File> + Clock + Drop> PipeDoor<T> {
         (self.rt, self.alloc)
     }
 
-    /// Looks whether another pipe has the path, and takes that in place of the one that is open.
-    fn look_at_path(&mut self, output: &mut LiveOutput<File>, teller: &mut Teller) {
+    /// Looks whether another pipe has the path, and if so, takes it in place of the open one.
+    fn look_at_path(&mut self, output: &mut LiveOutput<File>, sender: &mut VisitSender) {
         let Ok(found) = fs::metadata(&self.rt, self.path.as_str()) else {
             return;
         };
@@ -124,22 +125,23 @@ impl<T: Files<File = File> + Clock + Drop> PipeDoor<T> {
         match open_pipe(&self.rt, self.path.as_str()) {
             Ok((end, found)) => {
                 if output.count() > 0 {
-                    drop(output.remove(0));
+                    let reader = output.remove(0);
+                    drop(output.take_back(reader));
                 }
                 self.end = Some(end);
                 self.found = found;
                 self.is_lost = false;
-                teller.tell(Visit::NewPipe);
+                sender.send(Visit::NewPipe);
             }
             Err(_) if !self.is_lost => {
                 self.is_lost = true;
-                teller.tell(Visit::NoPipe);
+                sender.send(Visit::NoPipe);
             }
             Err(_) => {}
         }
     }
 
-    /// Takes out of the pipe what a reader that has left did not read.
+    /// Removes from the pipe what a reader that has left did not read.
     fn drain(&self, end: &File) {
         let Ok(mut both) = open_again(&self.rt, self.alloc, end) else {
             return;
@@ -169,14 +171,14 @@ impl<T: Files<File = File> + Clock + Drop> ReaderDoor<File> for PipeDoor<T> {
         }
     }
 
-    /// Looks at the path now and then while nobody reads the pipe. The pipe itself always is a reader, of which the next frame shows
-    /// whether anybody is there.
-    fn look(&mut self, output: &mut LiveOutput<File>, teller: &mut Teller) {
+    /// Looks at the path now and then while nobody reads the pipe. The pipe itself is always a reader of the output;
+    /// the next frame shows whether anybody reads it.
+    fn look(&mut self, output: &mut LiveOutput<File>, sender: &mut VisitSender) {
         if !self.is_read {
             let now = millis(&self.rt);
             if now >= self.due {
                 self.due = now.saturating_add(LOOK_MILLIS);
-                self.look_at_path(output, teller);
+                self.look_at_path(output, sender);
             }
         }
         if let Some(end) = self.end.take() {
@@ -184,22 +186,22 @@ impl<T: Files<File = File> + Clock + Drop> ReaderDoor<File> for PipeDoor<T> {
         }
     }
 
-    fn note_there(&mut self, teller: &mut Teller) {
+    fn note_there(&mut self, sender: &mut VisitSender) {
         if !self.is_read {
             self.is_read = true;
-            teller.tell(Visit::Came(None));
+            sender.send(Visit::Came(None));
         }
     }
 
-    /// Empties the pipe if somebody has read it, so that the next reader gets nothing of an old frame. If nobody has, a frame was not
-    /// read.
-    fn leave(&mut self, _at: usize, stream: File, teller: &mut Teller) {
+    /// Empties the pipe if somebody has read it, so that the next reader gets no rest of an old frame. Otherwise counts
+    /// a frame that nobody read.
+    fn leave(&mut self, _at: usize, stream: File, sender: &mut VisitSender) {
         if self.is_read {
             self.is_read = false;
             self.drain(&stream);
-            teller.tell(Visit::Left(None));
+            sender.send(Visit::Left(None));
         } else {
-            teller.shared().add_unread();
+            sender.shared().add_unread();
         }
         self.end = Some(stream);
     }

@@ -1,16 +1,16 @@
 //! What the thread of a live output shares with the run.
 use std::sync::atomic::{AtomicBool, AtomicU64, Ordering};
 
-/// Counts of frames that were dropped, and how far a live output is.
+/// Counts of frames that were dropped, and the progress of a live output.
 #[derive(Drop)]
 pub struct Shared {
-    /// How many frames came to the thread that nobody read, and that were not told yet.
+    /// How many frames that came to the thread nobody read, since this was last taken.
     unread: AtomicU64,
-    /// For how many frames a reader was too slow, and that were not told yet.
+    /// For how many frames a reader was too slow, since this was last taken.
     slow: AtomicU64,
     /// Whether frames are handed on to the thread.
     is_wanted: AtomicBool,
-    /// Whether the thread waits for its first reader no longer.
+    /// Whether the thread no longer waits for its first reader.
     has_waited: AtomicBool,
     /// Whether the run has ended.
     is_ending: AtomicBool,
@@ -19,7 +19,7 @@ pub struct Shared {
 }
 
 impl Shared {
-    /// Returns that of an output whose thread has not begun.
+    /// Returns the state of an output whose thread has not begun.
     pub(crate) const fn new(is_wanted: bool) -> Shared {
         Shared {
             unread: AtomicU64::new(0),
@@ -43,12 +43,12 @@ impl Shared {
         }
     }
 
-    /// Returns how many frames nobody read, and begins to count anew.
+    /// Returns how many frames nobody read, and resets the count.
     pub(crate) fn take_unread(&self) -> u64 {
         self.unread.swap(0, Ordering::SeqCst)
     }
 
-    /// Returns for how many frames readers were too slow, and begins to count anew.
+    /// Returns for how many frames readers were too slow, and resets the count.
     pub(crate) fn take_slow(&self) -> u64 {
         self.slow.swap(0, Ordering::SeqCst)
     }
@@ -63,12 +63,12 @@ impl Shared {
         self.is_wanted.load(Ordering::SeqCst)
     }
 
-    /// Notes that the thread waits for its first reader no longer.
+    /// Notes that the thread no longer waits for its first reader.
     pub(crate) fn note_waited(&self) {
         self.has_waited.store(true, Ordering::SeqCst);
     }
 
-    /// Returns whether the thread waits for its first reader no longer.
+    /// Returns whether the thread no longer waits for its first reader.
     pub(crate) fn has_waited(&self) -> bool {
         self.has_waited.load(Ordering::SeqCst)
     }

@@ -12,33 +12,33 @@ use std::sync::Arc;
 use std::time::{Clock, Duration};
 use std::{mem, thread};
 
-/// For how many milliseconds after a line an output says no other.
+/// For how many milliseconds after a line an output writes no other line.
 const PAUSE_MILLIS: u64 = 1_000;
 
-/// How many times the end of a run looks whether the thread of an output has ended, and how many milliseconds lie between two looks:
-/// three seconds in all.
+/// How many times the end of a run looks whether the thread of an output has ended. With `END_LOOK_MILLIS` milliseconds
+/// between two looks that is three seconds.
 const END_LOOKS: u32 = 300;
 
 const END_LOOK_MILLIS: u64 = 10;
 
-/// How many visits are told of at a time.
+/// How many visits may wait to be counted, and how many are counted at a time.
 pub(crate) const VISITS: usize = 64;
 
-/// Takes every byte of an output, and waits for nobody. A thread of the output's own hands the frames to readers. It says of them, once
-/// a second at most, who came and left, and how many frames were dropped.
+/// Takes every byte of an output, and waits for nobody. A thread of the output's own hands the frames to readers. The
+/// sink reports on standard error, once a second at most, who came and left, and how many frames were dropped.
 #[derive(Drop)]
 pub(crate) struct LiveSink {
     cutter: FrameCutter,
     visits: Consumer<Visit>,
     end: RunEnd,
     tally: Tally,
-    /// How many frames the cutter had dropped when that was last counted.
+    /// How many frames the cutter had dropped at the last count.
     counted: u64,
-    /// The millisecond of the clock from which on a line may be said.
+    /// The millisecond of the clock from which on a line may be written.
     due: u64,
 }
 
-/// What ends the thread of an output once it is dropped.
+/// Asks the thread of an output to end when it is dropped.
 struct RunEnd {
     shared: Arc<Shared, Global>,
 }
@@ -51,7 +51,7 @@ impl Drop for RunEnd {
 }
 
 impl LiveSink {
-    /// Returns the sink of an output whose thread shares this and tells of these visits.
+    /// Returns the sink of an output whose thread shares `shared` and sends `visits`.
     pub(crate) fn new(
         cutter: FrameCutter,
         visits: Consumer<Visit>,
@@ -67,12 +67,12 @@ impl LiveSink {
         }
     }
 
-    /// Returns what it shares with its thread.
+    /// Returns a handle of what it shares with its thread.
     pub(crate) fn share(&self) -> Result<Arc<Shared, Global>, AllocError> {
         Arc::try_clone(&self.end.shared)
     }
 
-    /// Takes the piece, and says what happened.
+    /// Takes the piece, and reports what happened.
     pub(crate) fn write<E: Clock + Eprint>(&mut self, errors: &E, name: &str, piece: &[u8]) {
         let is_wanted = self.end.shared.is_wanted();
         self.cutter.write(piece, is_wanted);
@@ -82,12 +82,12 @@ impl LiveSink {
         }
     }
 
-    /// Ends the output once its thread has handed out what waits, or its time is up.
+    /// Asks the thread to end once it has handed out what waits, or its time is up.
     pub(crate) fn note_ending(&self) {
         self.end.shared.note_ending();
     }
 
-    /// Waits until the thread has ended, for three seconds at most, and says what was not said.
+    /// Waits until the thread has ended, for three seconds at most, and reports what was not reported yet.
     pub(crate) fn finish<E: Clock + Eprint>(self, errors: &E, name: &str) {
         let mut sink = self;
         sink.note_ending();
@@ -103,7 +103,7 @@ impl LiveSink {
         }
     }
 
-    /// Counts what happened since the last time.
+    /// Counts what happened since the last call.
     fn count(&mut self, is_wanted: bool) {
         for _ in 0..VISITS {
             match self.visits.pop() {
@@ -122,7 +122,7 @@ impl LiveSink {
         self.tally.slow = self.tally.slow.saturating_add(slow);
     }
 
-    /// Says what happened, unless it said something in the last second.
+    /// Reports what happened, unless a line was written in the last second.
     fn say_in_time<E: Clock + Eprint>(&mut self, errors: &E, name: &str) {
         let now = millis(errors);
         if now < self.due {

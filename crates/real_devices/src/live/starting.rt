@@ -1,9 +1,10 @@
 //! Starting live outputs.
-use crate::live::door::Teller;
+use crate::live::door::VisitSender;
 use crate::live::pipe::{OpenPipe, is_pipe, open_again};
 use crate::live::shared::Shared;
 use crate::live::sink::{LiveSink, VISITS};
 use crate::live::threads::{LiveRuntime, ThreadEnds};
+use crate::signals::Signals;
 use live_output::{MAX_READERS, queue};
 use play_types::Config;
 use rtrb::RingBuffer;
@@ -16,16 +17,16 @@ use std::sync::Arc;
 use std::thread::{self, Threads};
 use std::time::{Clock, Duration};
 
-/// How the path of an output begins that listens, before its address.
+/// The beginning of the path of an output that listens, before its address.
 const TCP: &str = "tcp://";
 
-/// How many times it is looked whether the first readers of all pipes are there, and how many milliseconds lie between two looks: two
-/// seconds in all.
+/// How many times the start looks whether all pipes have their first readers. With `FIRST_LOOK_MILLIS` milliseconds
+/// between two looks that is two seconds.
 const FIRST_LOOKS: u32 = 200;
 
 const FIRST_LOOK_MILLIS: u64 = 10;
 
-/// Returns the address that an output listens on, if it is one that listens.
+/// Returns the address that an output listens on, if it listens.
 pub(crate) fn address_of(output: &str) -> Option<&str> {
     output.strip_prefix(TCP)
 }
@@ -72,7 +73,7 @@ pub(crate) fn start_listener<R: Threads, T: LiveRuntime>(
     Ok(sink)
 }
 
-/// Returns the two sides of an output for frames of `size` bytes and so many readers.
+/// Returns the two sides of an output for frames of `size` bytes and at most `places` readers.
 fn make_ends(
     alloc: Global,
     size: usize,
@@ -82,9 +83,9 @@ fn make_ends(
     let (cutter, window) = queue(alloc, size.max(1), places)?;
     let (tells, visits) = RingBuffer::new(alloc, VISITS)?;
     let shared = Arc::new(alloc, Shared::new(is_wanted))?;
-    let teller = Teller::new(Arc::try_clone(&shared)?, tells);
+    let sender = VisitSender::new(Arc::try_clone(&shared)?, tells);
     let sink = LiveSink::new(cutter, visits, shared);
-    Ok((sink, ThreadEnds { window, teller }))
+    Ok((sink, ThreadEnds { window, sender }))
 }
 
 /// The pipes whose first readers are waited for.
@@ -102,7 +103,7 @@ struct FirstReader {
 }
 
 impl FirstReaders {
-    /// Returns no pipes.
+    /// Returns an empty set of pipes.
     pub(crate) fn new(alloc: Global) -> FirstReaders {
         FirstReaders {
             alloc,
@@ -118,9 +119,13 @@ impl FirstReaders {
         }
     }
 
-    /// Waits until each pipe has a reader, for two seconds at most. Returns whether each has.
-    pub(crate) fn wait<R: Clock>(&self, rt: &R) -> bool {
+    /// Waits until each pipe has a reader, for two seconds at most, or until a signal asks for the end. Returns whether
+    /// each has one.
+    pub(crate) fn wait<R: Clock>(&self, rt: &R, signals: &Signals) -> bool {
         for _ in 0..FIRST_LOOKS {
+            if signals.pending().is_some() {
+                break;
+            }
             if self.have_waited() {
                 return true;
             }
@@ -129,7 +134,8 @@ impl FirstReaders {
         false
     }
 
-    /// Lets all outputs go on without a reader: each pipe is read for a moment. Nothing was written to it yet.
+    /// Makes the threads of all pipes go on without a reader, by opening each pipe to read for a moment. Nothing was
+    /// written to it yet.
     pub(crate) fn go_on<R: Files<File = File> + Clock>(&self, rt: &R) {
         for pipe in &self.pipes {
             if pipe.shared.has_waited() {

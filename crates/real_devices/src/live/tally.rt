@@ -1,4 +1,4 @@
-//! What a live output has to say.
+//! What a live output reports.
 use crate::live::door::Visit;
 use std::fmt::{self, Display, Formatter, Write};
 use std::net::SocketAddr;
@@ -11,7 +11,7 @@ struct Visits {
 }
 
 impl Visits {
-    /// Returns none.
+    /// Returns no visits.
     const fn new() -> Visits {
         Visits {
             count: 0,
@@ -19,7 +19,7 @@ impl Visits {
         }
     }
 
-    /// Returns these and one more.
+    /// Returns these visits and one more.
     fn and(self, last: Option<SocketAddr>) -> Visits {
         Visits {
             count: self.count.saturating_add(1),
@@ -37,7 +37,7 @@ impl Display for Visits {
     }
 }
 
-/// What happened at a live output since it last said something.
+/// What happened at a live output since its last report.
 #[derive(Clone, Copy)]
 pub(crate) struct Tally {
     came: Visits,
@@ -46,11 +46,11 @@ pub(crate) struct Tally {
     pub(crate) unread: u64,
     /// For how many frames a reader was too slow.
     pub(crate) slow: u64,
-    /// What became of the path of a pipe.
+    /// What happened to the path of a pipe.
     path: PathChange,
 }
 
-/// What became of the path of a pipe.
+/// What happened to the path of a pipe.
 #[derive(Clone, Copy, Debug, PartialEq, Eq)]
 enum PathChange {
     Same,
@@ -59,7 +59,7 @@ enum PathChange {
 }
 
 impl Tally {
-    /// Returns that of an output at which nothing happened.
+    /// Returns the tally of an output at which nothing happened.
     pub(crate) const fn new() -> Tally {
         Tally {
             came: Visits::new(),
@@ -80,12 +80,13 @@ impl Tally {
         }
     }
 
-    /// Returns whether there is something to say before the run ends. Frames that nobody reads are said with the next reader.
+    /// Returns whether there is something to report before the run ends. Frames that nobody read are reported with the
+    /// next reader.
     pub(crate) fn is_news(&self) -> bool {
         self.came.count > 0 || self.left.count > 0 || self.slow > 0 || self.path != PathChange::Same
     }
 
-    /// Returns whether there is anything to say.
+    /// Returns whether there is anything to report.
     pub(crate) fn is_any(&self) -> bool {
         self.is_news() || self.unread > 0
     }

@@ -1,5 +1,5 @@
 //! Starting the threads of live outputs.
-use crate::live::door::Teller;
+use crate::live::door::VisitSender;
 use crate::live::listener::ReaderListener;
 use crate::live::pipe::{OpenPipe, PipeDoor};
 use crate::live::thread::serve;
@@ -9,14 +9,15 @@ use std::io;
 use std::net::TcpListener;
 use std::thread::{self, Threads};
 
-/// What the thread of a live output gets.
+/// What the thread of a live output is given, besides its pipe or listener.
 #[derive(Drop)]
 pub struct ThreadEnds {
     pub(crate) window: FrameWindow,
-    pub(crate) teller: Teller,
+    pub(crate) sender: VisitSender,
 }
 
-/// The runtime of the threads of live outputs. It is one type, since what a thread is given has to be known where the thread is started.
+/// The runtime of the threads of live outputs. It is one type, since the types that a thread is given must be known
+/// where the thread is started.
 pub trait LiveRuntime {
     /// Starts the thread that writes to a pipe.
     fn start_pipe<S: Threads>(
@@ -46,8 +47,8 @@ impl LiveRuntime for HostRuntime {
         ends: ThreadEnds,
     ) -> io::Result<()> {
         let door = PipeDoor::new(*self, alloc, pipe);
-        let ThreadEnds { window, teller } = ends;
-        start(threads, door, window, teller)
+        let ThreadEnds { window, sender } = ends;
+        start(threads, door, window, sender)
     }
 
     fn start_listener<S: Threads>(
@@ -58,31 +59,31 @@ impl LiveRuntime for HostRuntime {
         ends: ThreadEnds,
     ) -> io::Result<()> {
         let door = ReaderListener::new(*self, alloc, listener)?;
-        let ThreadEnds { window, teller } = ends;
-        start(threads, door, window, teller)
+        let ThreadEnds { window, sender } = ends;
+        start(threads, door, window, sender)
     }
 }
 
-/// What a thread does with two things that it is given.
+/// The work of a thread that is given two values.
 trait Work<A, B> {
     fn run(self, first: A, second: B);
 }
 
-impl Work<FrameWindow, Teller> for PipeDoor<HostRuntime> {
-    fn run(self, first: FrameWindow, second: Teller) {
+impl Work<FrameWindow, VisitSender> for PipeDoor<HostRuntime> {
+    fn run(self, first: FrameWindow, second: VisitSender) {
         let (rt, alloc) = self.runtime();
         serve(rt, alloc, first, 1, self, second)
     }
 }
 
-impl Work<FrameWindow, Teller> for ReaderListener<HostRuntime> {
-    fn run(self, first: FrameWindow, second: Teller) {
+impl Work<FrameWindow, VisitSender> for ReaderListener<HostRuntime> {
+    fn run(self, first: FrameWindow, second: VisitSender) {
         let (rt, alloc) = self.runtime();
         serve(rt, alloc, first, MAX_READERS, self, second)
     }
 }
 
-/// Starts a thread that does its work with what it is given.
+/// Starts a thread that does `work` with the two values.
 fn start<
     S: Threads,
     A: Send + Drop + 'static,

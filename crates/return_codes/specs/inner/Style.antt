@@ -3,11 +3,11 @@ use Rattle.std.specs.Prelude.{ℕ, Option, None, List, [], ◌∷◌, ◌++◌, 
 use Rattle.history_model.specs.text.Replies.{token_text, wrapped}
 use Rattle.return_codes.specs.declared.line.LineStyle.{LineStyle}
 
--- the token that stands before the first line
+-- the token of the first line
 abbrev pub token_of : LineStyle → Option (List ℕ)
 token_of style = option_map (λ token. token.now) style.token
 
--- what stands before a line
+-- the beginning of a line: the parts, and the token
 abbrev pub head_of : LineStyle → List ℕ
 head_of style = flat_map (λ part. part.now) style.before.now ++ token_text (token_of style)
 
@@ -15,7 +15,7 @@ head_of style = flat_map (λ part. part.now) style.before.now ++ token_text (tok
 abbrev pub later : LineStyle → LineStyle
 later style = record style { token = None }
 
--- a line with what stands before it and what ends it
+-- a line with its beginning and its end
 abbrev pub styled : LineStyle → List ℕ → List ℕ
 styled style line = wrapped (head_of style) style.after.now line
 

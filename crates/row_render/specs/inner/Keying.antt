@@ -9,7 +9,8 @@ use Rattle.lane_blend.specs.Rows.{IsRow}
 abbrev pub keyed_pixel_by : Bool → PixelView → PixelView → PixelView
 keyed_pixel_by keyed pixel by = if keyed then key pixel by.r else pixel
 
--- a row keys the layers above these, the uppermost first, if the uppermost is a keyer, and it is the row of that keyer
+-- without layers the next layer is not keyed; otherwise it is keyed exactly if the uppermost of these layers, the first in the list,
+-- is a keyer, and then `keys` is the row of that keyer
 abbrev pub Keys : (ℕ → Drawn → PixelView) → ℕ → List Drawn → Bool → List ℕ → Type 0
 Keys placed width [] keyed keys = keyed ≡ false
 Keys placed width (next ∷ below) keyed keys = (keyed ≡ next.keyer) × (next.keyer ≡ true → IsRow width (λ x. placed x next) keys)

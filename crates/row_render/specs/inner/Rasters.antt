@@ -22,7 +22,7 @@ pub record IsRunOf (width : ℕ) (run : Run) : Type 0 where
   pub inside : run.to ≤ width
   pub shown : EndsInRaster width run
 
--- a column is none of a run
+-- a column is outside a run
 abbrev pub IsOutside : ℕ → Run → Type 0
 IsOutside x run = (x < run.from) ⊎ (run.to ≤ x)
 

@@ -4,16 +4,18 @@ use Rattle.history_model.specs.scripts.History.{Playout}
 use Rattle.server_setup.specs.declared.setup.ServerSetup.{ServerSetup}
 use Rattle.server_setup.specs.declared.fault.RunFault.{RunFault}
 use Rattle.server_setup.specs.Setup.{SetsUp}
-use Rattle.run_script.specs.declared.ending.Ending.{Ending}
-use Rattle.run_script.specs.Ending.{fault_in, fault_of}
+use Rattle.script_player.specs.declared.ending.Ending.{Ending}
+use Rattle.script_player.specs.Ending.{fault_in, fault_of}
 use Rattle.run_script.specs.CommandLine.{CommandLine, Plain, Configured, Generated, Converted, Planned, Recorded}
-use Rattle.run_script.specs.Generating.{Generates}
+use Rattle.made_script.specs.Generating.{Generates}
 use Rattle.run_script.specs.Converting.{Converts}
-use Rattle.run_script.specs.Planning.{PlaysPlan}
-use Rattle.run_script.specs.Recording.{RecordsFilm}
-use Rattle.run_script.specs.Run.{Streams, RunsScript}
-use Rattle.run_script.specs.Program.{Outside, film_of, streams_of, plain_playout, playout_of}
-use Rattle.run_script.specs.Shown.{Shown, Frames}
+use Rattle.cue_player.specs.Planning.{PlaysPlan}
+use Rattle.script_film.specs.Recording.{RecordsFilm}
+use Rattle.script_player.specs.Run.{Streams, RunsScript}
+use Rattle.run_script.specs.Program.{Outside, streams_of}
+use Rattle.script_film.specs.Recording.{film_of}
+use Rattle.script_player.specs.Playouts.{plain_playout, playout_of}
+use Rattle.script_player.specs.Shown.{Shown, Frames}
 
 -- a script was run, with this outcome
 pub record HasRun (shown : Shown) (playout : Playout) (outcome : Result (Unit {0}) RunFault) (before after : Streams) : Type 0 where
@@ -21,13 +23,13 @@ pub record HasRun (shown : Shown) (playout : Playout) (outcome : Result (Unit {0
   pub fault : fault_in outcome ≡ fault_of ending
   pub run : RunsScript shown playout ending before after
 
--- nothing was set up from the configuration of this path, and nothing was read or written after it
+-- nothing was set up from the configuration of this path, and nothing else was read or written
 abbrev pub RefusesPath : List ℕ → Result (Unit {0}) RunFault → Outside → Outside → Type 0
 RefusesPath path (Ok done) before after = ⊥
 RefusesPath path (Err fault) before after =
     SetsUp path (Err fault) before.media after.media × (after.input ≡ before.input) × (after.out ≡ before.out)
 
--- what a command line names was set up and run, or could not be set up
+-- a command line was set up and run, or could not be set up
 abbrev pub PlaysCommandLine : CommandLine → Result (Unit {0}) RunFault → Outside → Outside → Type 0
 PlaysCommandLine (Plain size) outcome before after =
     (after.media ≡ before.media) × HasRun Frames (plain_playout size) outcome (streams_of before) (streams_of after)

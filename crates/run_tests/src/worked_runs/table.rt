@@ -1,6 +1,6 @@
 //! Runs that were worked out by hand from what the documents say, with the bytes that each has to write.
 
-/// A run of the program, and what has to come of it.
+/// A run of the program, with the status and the output that it must have.
 #[derive(Clone, Copy)]
 pub struct Run {
     pub shows: &'static str,

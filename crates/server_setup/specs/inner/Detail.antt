@@ -1,4 +1,4 @@
--- What the line of a fault ends with.
+-- The end of the line of a fault.
 use Rattle.std.specs.Prelude.{ℕ, List, [], ◌∷◌, decimal}
 use Rattle.std.specs.Str.{encode_utf8_all}
 use Rattle.play_types.specs.declared.clip_fault.ClipFault.{ClipFault}
@@ -6,7 +6,7 @@ use Rattle.play_types.specs.declared.clip_fault.ClipFault.TheVariants as clip
 use Rattle.server_setup.specs.declared.fault.RunFault.{RunFault}
 use Rattle.server_setup.specs.declared.fault.RunFault.TheVariants.{Usage, ConfigText, ConfigKey, BadLine, InputTooLong, Plan, PlanEnd, Record, Clip, MediaTwice, MediaTotal, Device, OutOfMemory}
 
--- the first number of the line of a clip that is refused, and nothing if it has none
+-- the first number in the line of a refused clip, or nothing if it has none
 abbrev pub first_number : ClipFault → List ℕ
 first_number clip.BadMagic = []
 first_number clip.BadVersion = []
@@ -15,7 +15,7 @@ first_number (clip.Short needed had) = decimal needed
 first_number (clip.Long extra) = decimal extra
 first_number clip.OutOfMemory = []
 
--- the second number of this line, after a blank, and nothing if it has none
+-- the second number in that line, after a space, or nothing if it has none
 abbrev pub second_number : ClipFault → List ℕ
 second_number clip.BadMagic = []
 second_number clip.BadVersion = []
@@ -24,7 +24,7 @@ second_number (clip.Short needed had) = 32 ∷ decimal had
 second_number (clip.Long extra) = []
 second_number clip.OutOfMemory = []
 
--- the name or the first number, and nothing if the line has none
+-- the name or the first number in the line of a fault, or nothing if it has neither
 abbrev pub detail_of : RunFault → List ℕ
 detail_of Usage = []
 detail_of ConfigText = []
@@ -40,7 +40,7 @@ detail_of (MediaTotal total) = decimal total
 detail_of Device = []
 detail_of OutOfMemory = []
 
--- the second number after a blank, and nothing if the line has none
+-- the second number in the line of a fault, after a space, or nothing if it has none
 abbrev pub second_of : RunFault → List ℕ
 second_of Usage = []
 second_of ConfigText = []

@@ -1,4 +1,4 @@
--- The clips as they are read when a server is set up.
+-- Reading the clips when a server is set up.
 use Rattle.std.specs.Prelude.{◌≡◌, Result, Ok, Err}
 use Rattle.play_types.specs.Config.{ConfigView}
 use Rattle.play_outside.specs.Faults.{Rose}
@@ -10,7 +10,7 @@ use Rattle.server_setup.specs.declared.fault.RunFault.TheVariants.{Usage, Config
 use Rattle.server_setup.specs.declared.setup.ServerSetup.{ServerSetup}
 use Rattle.server_setup.specs.Setup.{Scans}
 
--- the clips of a configuration were read, or refused
+-- the clips of a configuration were read, or refused; or a read failed, or memory ran out
 abbrev pub ReadsMedia : ConfigView → Result ServerSetup RunFault → FolderState → FolderState → Type 0
 ReadsMedia config (Ok setup) before after =
     (setup.config ≡ config) × Scans config (Ok setup.media) before after × (setup.names ≡ media_names setup.media)

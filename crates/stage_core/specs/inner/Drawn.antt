@@ -78,12 +78,12 @@ abbrev pub with_picture_of : PlaceView → Option Picture → RoutesView → Rou
 with_picture_of place None routes = routes
 with_picture_of place (Some picture) routes = after_show place picture routes
 
--- the routes once the layers of a channel show this at the last tick
+-- the routes with these layers shown on a channel at the last tick
 abbrev pub with_shown_layers : ℕ → ShownLayers → RoutesView → RoutesView
 with_shown_layers channel layers routes =
     record { channels = routes.channels; past = routes.past; present = Some (with_channel_item channel layers (last_tick routes)) }
 
--- the routes once this is shown at the last tick
+-- the routes with these layers shown on each channel at the last tick
 abbrev pub with_present : List ShownLayers → RoutesView → RoutesView
 with_present tick routes = record { channels = routes.channels; past = routes.past; present = Some tick }
 
@@ -92,7 +92,7 @@ abbrev pub IsRoutedPicture : ℕ → Option Picture → Type 0
 IsRoutedPicture channels None = Unit {0}
 IsRoutedPicture channels (Some picture) = IsRouted channels picture.0
 
--- the pictures of a place are such ones, and its transition, if it takes time, has begun
+-- each picture of a place is no route, or one to a channel of the stage, and its transition, if it has a duration, has begun
 pub record IsShown (channels : ℕ) (shown : Shown) : Type 0 where
   pub now : IsRoutedPicture channels shown.now
   pub old : IsRoutedPicture channels shown.old

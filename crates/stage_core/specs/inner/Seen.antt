@@ -1,4 +1,4 @@
--- What is seen of a layer, by what is kept of it.
+-- What is seen of a layer, computed from its stored state.
 use Rattle.std.specs.Prelude.{ℕ, Option, option_map}
 use Rattle.play_types.specs.Playhead.{head}
 use Rattle.history_model.specs.stage.Life.{Life}

@@ -1,4 +1,4 @@
--- What a mixer needs for commands.
+-- The memory that a mixer needs for commands.
 use Rattle.std.specs.Prelude.{◌≡◌, ℕ, ◌+◌, false, List, [], ◌∷◌, length, if◌then◌else◌}
 use Rattle.play_types.specs.Shape.{shape_of}
 use Rattle.play_types.specs.declared.command.Cmd.{Cmd}
@@ -9,15 +9,16 @@ use Rattle.mixer_state.specs.Mixer.{MixerView, waiting_on}
 use Rattle.mixer_state.specs.Past.{Represents}
 use Rattle.stage_core.specs.LiveState.{count_of}
 
--- how many settings wait on each channel, by a list of these numbers, and by a mixer
+-- how many settings wait on each channel, by a list of these numbers
 abbrev pub counted : List ℕ → ℕ → ℕ
 counted waiting = λ channel. count_of channel waiting
 
+-- how many settings wait on each channel of a mixer
 abbrev pub waits_on : MixerView → ℕ → ℕ
 waits_on mixer = λ channel. length (waiting_on mixer channel)
 
--- for how many settings a mixer needs memory, so that a command takes no more: one for a setting that starts and for a swap of
--- mixer values, and for a commit as many as wait on its channel
+-- the number of settings for which a mixer needs memory to execute a command: one for a swap of the mixer values of two layers
+-- and for a setting that is not deferred, as many as wait on its channel for a commit, and none for another
 abbrev pub settings_of : (ℕ → ℕ) → Cmd → ℕ
 settings_of waiting cmd = elim (shape_of cmd) [
   | shape.Take at take ↦ 0
@@ -36,12 +37,12 @@ settings_of waiting cmd = elim (shape_of cmd) [
 abbrev pub waiting_with : Cmd → (ℕ → ℕ) → ℕ → ℕ
 waiting_with cmd waiting = λ channel. waiting_count_after cmd channel (waiting channel)
 
--- for how many it needs memory, so that commands take no more, each after the ones before it
+-- the number of settings for which a mixer needs memory to execute commands in order
 abbrev pub settings_of_all : (ℕ → ℕ) → List Cmd → ℕ
 settings_of_all waiting [] = 0
 settings_of_all waiting (cmd ∷ cmds) = settings_of waiting cmd + settings_of_all (waiting_with cmd waiting) cmds
 
--- a mixer represents acts after which none of these commands is refused, each after the ones before it
+-- a mixer represents acts after which none of these commands, executed in order, is refused
 pub record CanTake (cmds : List Cmd) (ticks : ℕ) (mixer : MixerView) : Type 0 where
   pub acts : List Act
   pub past : Represents mixer acts ticks

@@ -10,7 +10,7 @@ returns-in-Do g c =
 pub returns-in-Batch : goal.returns-in-Batch
 returns-in-Batch g c =
     let once : c.args.times ≡ 1 = rw c.in-Batch.is at c.requires in
-    rw (c.in-Batch.is, once, history_of_batch c.args.media.now c.in-Batch.tag c.in-Batch.cmds) c.add_batch.ensures
+    rw (c.in-Batch.is, once, history_of_batch c.args.media.now c.in-Batch.tag c.in-Batch.cmds, ← c.as_slice.ensures) c.add_batch.ensures
 
 pub returns-in-Tick : goal.returns-in-Tick
 returns-in-Tick g c = rw (c.in-Tick.is, history_of_ticks c.args.media.now c.args.times) c.add_ticks.ensures

@@ -1,5 +1,4 @@
-use Rattle.std.proofs.Common.{◌≡◌, cond, true, ap, ◌∙◌}
-use Rattle.std.specs.Prelude.{Some}
+use Rattle.std.proofs.Common.{◌≡◌, true}
 use Rattle.play_types.specs.RecNames.{is_rec_word}
 use Rattle.play_types.proofs.RecNames.{is_rec_word-name}
 use Rattle.cmd_print.specs.inner.Bytes.{spaced}

@@ -1,4 +1,4 @@
-use Rattle.history_replay.proofs.Histories.{text_accepted, text_plays}
+use Rattle.history_replay.proofs.Pieces.{text_accepted, text_plays}
 use Rattle.history_replay.proofs.laws.text_plays_its_history.Goals as goal
 
 pub returns-clause-accepted : goal.returns-clause-accepted

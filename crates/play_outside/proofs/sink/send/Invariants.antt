@@ -2,7 +2,7 @@ use Rattle.std.proofs.Common.{length, ◌-◌, ◌≡◌, ◌≤◌, take}
 use Rattle.play_outside.specs.SinkState.{after_taking}
 use Rattle.play_outside.proofs.sink.send.Given as goal
 
--- the bytes before the place were taken
+-- the bytes before `at` were taken
 abbrev pub invariant-loop-at : goal.invariant-loop-at
 invariant-loop-at g l = record {
   within : l.at ≤ length l.piece;

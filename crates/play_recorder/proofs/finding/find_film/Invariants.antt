@@ -4,7 +4,7 @@ use Rattle.play_recorder.specs.inner.Replay.{HasScenes, events_in, new_stage}
 use Rattle.play_recorder.proofs.Playing.{IsPlayedTo}
 use Rattle.play_recorder.proofs.finding.find_film.Given as goal
 
--- the events before this one were played, and the finder knows what they say of the name
+-- the events before this one were played, and the finder represents them
 abbrev pub invariant-loop-event : goal.invariant-loop-event
 invariant-loop-event l = record {
   scenes : HasScenes l.replay;

@@ -9,4 +9,4 @@ use Rattle.play_scene.proofs.composition.pixel.Given as goal
 abbrev pub invariant-loop-layer : goal.invariant-loop-layer
 invariant-loop-layer l =
     (pictures : Pictures) → ArePictures pictures l.prev l.media
-    → IsComposed (layer_pixel pictures l.size l.x l.y) (reverse (take l.layer-index l.layer-items)) l.pixel l.keyer
+    → IsComposed (layer_pixel pictures l.view.size l.x l.y) (reverse (take l.layer-index l.layer-items)) l.pixel l.keyer

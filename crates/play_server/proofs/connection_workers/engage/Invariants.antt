@@ -1,10 +1,9 @@
 use Rattle.std.proofs.Common.{◌≡◌, ◌+◌, ◌≤◌, ◌++◌, All, length, reverse, vec_capacity, vec_len}
 use Rattle.stage_lock.specs.Views.{SharedView}
-use Rattle.play_server.specs.inner.Workers.{IsRunning, MayCome, MayWork, door_states}
-use Rattle.play_server.proofs.HasWorkedAt.{doors_of, passes_of}
+use Rattle.play_server.specs.inner.Workers.{IsRunning, MayCome, MayWork, door_states, doors_of, passes_of}
 use Rattle.play_server.proofs.connection_workers.engage.Given as goal
 
--- the last doors stand in workers, and the others are left
+-- the last doors are in workers, and the others are left
 abbrev pub invariant-loop-door : goal.invariant-loop-door
 invariant-loop-door g l = record {
   connection_workers : vec_len l.connection_workers + vec_len l.doors ≡ vec_len l.initial.doors;

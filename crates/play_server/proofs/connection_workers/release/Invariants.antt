@@ -1,5 +1,5 @@
 use Rattle.std.proofs.Common.{◌≡◌, ◌+◌, ◌++◌, length, reverse, vec_capacity, vec_len}
-use Rattle.play_server.proofs.HasWorkedAt.{doors_of, passes_of}
+use Rattle.play_server.specs.inner.Workers.{doors_of, passes_of}
 use Rattle.play_server.proofs.connection_workers.release.Given as goal
 
 -- the last workers have given their passes and doors back, and the others are left

@@ -5,7 +5,7 @@ use Rattle.mixer_state.specs.Past.{Represents}
 use Rattle.stage_core.specs.inner.Settled.{CanTake, settings_of_all, waits_on}
 use Rattle.stage_core.proofs.settle.settle_all.Given as goal
 
--- the mixer can take the commands that are left and has the memory for them, and if these put it, all put the first one
+-- the mixer represents the acts of the commands so far, can take those that are left, and has the memory for them
 abbrev pub invariant-loop-cmd : goal.invariant-loop-cmd
 invariant-loop-cmd l = record {
   channels : l.mixer.channels ≡ l.fn.mixer.channels;

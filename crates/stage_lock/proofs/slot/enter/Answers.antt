@@ -9,5 +9,5 @@ pub store-requires : goal.store-requires
 store-requires c =
     (search rules, search rules, gives_after _ _ _ c.args.seat.now.me c.exchange.new.seat.me _ c.args.stage (omega (arith, c.requires.board.slots)) c.requires.out c.exchange.ensures.3 c.fetch_add.ensures.2 c.requires.event)
 
-pub returns-clause-me : goal.returns-clause-me
-returns-clause-me c = given_after c.args.seat.now.me c.exchange.new.seat.me c.fetch_add.new.seat.me c.store.new.seat.me c.args.stage c.requires.out c.exchange.ensures.3 c.fetch_add.ensures.2 c.store.ensures.2
+pub returns-clause-entered : goal.returns-clause-entered
+returns-clause-entered c = given_after c.args.seat.now.me c.exchange.new.seat.me c.fetch_add.new.seat.me c.store.new.seat.me c.args.stage c.requires.out c.exchange.ensures.3 c.fetch_add.ensures.2 c.store.ensures.2 c.requires.event

@@ -1,6 +1,6 @@
 use Rattle.std.proofs.Common.{◌≡◌, ◌∙◌, ap, arith, subst}
 use Rattle.play_journal.specs.Journal.{IsJournal, JournalView}
-use Rattle.stage_lock.proofs.Few.{few_events}
+use Rattle.play_journal.proofs.Few.{few_events}
 use Rattle.stage_lock.proofs.slot.has_few_events.Goals as goal
 
 pub returns : goal.returns

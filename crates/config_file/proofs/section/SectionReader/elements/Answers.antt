@@ -9,7 +9,7 @@ use Rattle.config_file.specs.Configuration.{some_elements}
 use Rattle.config_file.proofs.Elements.{few_elements, no_elements, too_many_elements}
 use Rattle.config_file.proofs.section.SectionReader.elements.Goals as goal
 
--- an array that stands at the key has the elements of its values
+-- an array at the key has the elements of its values
 at_key : (top : Option Data) (value : Data) (items : Items) (listed values : List Value) → Some value ≡ top → Some items ≡ as_array value → items ≡ items_view values → listed ≡ values
     → some_elements (items_view listed) ≡ option_and_then some_elements (option_and_then as_array top)
 at_key top value items listed values stands array seen same = rw (← stands, ← array, seen, same)

@@ -4,7 +4,7 @@ use Rattle.conn_worker.specs.inner.Steps.{service_in}
 use Rattle.conn_worker.specs.inner.UnderWay.{IsBetweenLooks}
 use Rattle.conn_worker.proofs.connection.Connection.serve.Given as goal
 
--- rounds have led here, after each of which all steps were followed
+-- rounds led to this turn of the loop, after each of which all steps were executed
 abbrev pub invariant-loop : goal.invariant-loop
 invariant-loop g l = record {
   of : l.pass.stage ≡ l.self.server.stage.now;

@@ -7,7 +7,7 @@ use Rattle.conn_worker.specs.inner.Steps.{service_in}
 use Rattle.conn_worker.specs.inner.UnderWay.{HasProgress, IsUnderWay, Past, with_piece}
 use Rattle.conn_worker.proofs.connection.Connection.take_piece.Given as goal
 
--- the bytes of the piece before `at` were fed, and the steps that were given have been followed
+-- the bytes of the piece before `at` were fed, and the steps that were given have been executed
 abbrev pub invariant-loop : goal.invariant-loop
 invariant-loop g l = record {
   within : l.at ≤ length l.piece;

@@ -16,7 +16,7 @@ returns-in-Over-clause-gives_back g c =
       came_is = refl;
       explained = c.serve-end.ensures.explained;
       door = c.give_back.ensures;
-      pass = looked_after_link c.look.result link_run c.look.new.pass other c.look.ensures.looks;
+      pass = looked_after_link c.args.self.now.stage.now.sizes.given c.look.result link_run c.look.new.pass other c.look.ensures.looks;
     }
 
 pub returns-in-Ended-clause-gives_back : goal.returns-in-Ended-clause-gives_back
@@ -28,5 +28,5 @@ returns-in-Ended-clause-gives_back g c =
       came_is = refl;
       explained = c.serve-end.ensures.explained;
       door = c.give_back.ensures;
-      pass = subst (λ e. StopsAfter c.in-Ended.at e after after) (sym c.in-Ended.is) (refl, refl);
+      pass = subst (λ e. StopsAfter c.args.self.now.stage.now.sizes.given c.in-Ended.at e after after) (sym c.in-Ended.is) (refl, refl);
     }

@@ -6,7 +6,7 @@ use Rattle.conn_worker.specs.Server.{setting_in}
 use Rattle.conn_worker.specs.Work.{TakesAll, Turn, number_came}
 use Rattle.conn_worker.proofs.server.Server.work.Given as goal
 
--- so many links were served, and the work goes on
+-- `served` links were served, and the work goes on
 abbrev pub invariant-loop : goal.invariant-loop
 invariant-loop g l = record {
   of : l.pass.stage ≡ l.self.stage.now;

@@ -30,7 +30,7 @@ four_lines = three_lines ++ played (codes "1.1 COMMIT") ∷ []
 abbrev half : SettingView
 half = setting (at 1 0) Opacity (number (pos 500000)) 0
 
--- what stands after each line
+-- the progress after each line
 abbrev opened : Progress
 opened = record { asked = Begin ∷ []; events = []; output = codes "1.1 202 BEGIN OK\n" }
 

@@ -1,23 +1,18 @@
-use Rattle.std.proofs.Common.{◌∷◌, ◌++◌, [], ◌∙◌, ap, length, arith}
-use Rattle.std.proofs.lemmas.List.{length-drop}
-use Rattle.rtrb.specs.Ring.{received}
+use Rattle.std.proofs.Common.{◌≤◌, List, ◌∙◌, subst, sym}
+use Rattle.std.specs.Prelude.{Any}
+use Rattle.live_output.specs.declared.reader.Reader.{Reader}
+use Rattle.live_output.proofs.Wanted.{any_more}
 use Rattle.live_output.proofs.output.LiveOutput.add.Goals as goal
 
 pub returns-clause-added : goal.returns-clause-added
-returns-clause-added g c =
-    let last = c.args.self.now.window.last in record {
-      reader = c.new.result;
-      came = (c.new.ensures.fresh.0, c.new.ensures.fresh.1);
-      first =
-          omega (
-            arith,
-            c.new.ensures.fresh.2,
-            c.in-Some.ensures,
-            c.len.ensures,
-            c.args.self.now.window.frames.ok,
-            last.some,
-            ap length last.rest,
-            length-drop c.args.self.now.window.gone (received c.args.self.now.window.inbox),
-          );
-      added = c.push_reserved.ensures.items ∙ ap (λ l. l ++ c.new.result ∷ []) c.try_reserve.ensures.items;
-    }
+returns-clause-added g c = record {
+  reader = c.new.result;
+  came = (c.new.ensures.fresh.0, c.new.ensures.fresh.1);
+  first = c.new.ensures.fresh.2 ∙ c.count-first.ensures;
+  added = c.push_reserved.ensures.items;
+}
+
+pub returns-clause-held : goal.returns-clause-held
+returns-clause-held g c =
+    λ held number since until. subst (λ (l : List (Reader g.row.W.Denot)). Any (λ (r : Reader g.row.W.Denot). r.next ≤ number) l) (sym c.push_reserved.ensures.items)
+    (any_more (λ (r : Reader g.row.W.Denot). r.next ≤ number) c.args.self.now.readers.items c.new.result (held number since until))

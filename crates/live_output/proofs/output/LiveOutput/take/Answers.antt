@@ -1,14 +1,9 @@
-use Rattle.std.proofs.Common.{subst}
-use Rattle.std.specs.Prelude.{get_or, List, ℕ}
-use Rattle.live_output.specs.Got.{HasGot}
+use Rattle.std.proofs.Common.{ap, sym, ◌∙◌}
 use Rattle.rtrb.specs.Ring.{received}
-use Rattle.live_output.proofs.Frames.{got_stays}
+use Rattle.live_output.proofs.Frames.{all_stay}
 use Rattle.live_output.proofs.output.LiveOutput.take.Goals as goal
 
 pub returns-clause-served : goal.returns-clause-served
 returns-clause-served g c =
-    λ served k d inside.
-    let more = c.take.ensures.more in
-    let reader = get_or c.args.self.now.readers.items k d in
-    subst (λ (l : List (List ℕ)). HasGot g.W.Write.contents l reader) more.1
-    (got_stays g.W.Write.contents (received c.args.self.now.window.inbox) more.0 reader (served k d inside))
+    λ served. let more = c.take-came.ensures.more in
+    all_stay g.W.Write.contents (received c.args.self.now.window.inbox) more.0 _ _ _ (more.1 ∙ sym c.let_go.ensures.rest.2) (ap (λ r. r.items) c.let_go.ensures.rest.0) served

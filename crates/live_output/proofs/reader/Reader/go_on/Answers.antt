@@ -4,8 +4,8 @@ use Rattle.std.proofs.lemmas.List.{take_rest}
 use Rattle.live_output.proofs.Frames.{got_part}
 use Rattle.live_output.proofs.reader.Reader.go_on.Goals as goal
 
-pub returns-in-Ok : goal.returns-in-Ok
-returns-in-Ok g c =
+pub returns-in-Ok-clause-got : goal.returns-in-Ok-clause-got
+returns-in-Ok-clause-got g c =
     λ frames got. let bytes : List ℕ = c.as_slice.result.now in let at = c.args.self.now.at in
     got_part g.W.Write.contents frames c.in-Some.frame c.in-Ok.count c.args.self.now _ got c.in-Some.is
     (subst (λ (l : List ℕ). Appends (g.W.Write.contents c.args.self.now.to) (g.W.Write.contents c.write.new.self) (take c.in-Ok.count l))

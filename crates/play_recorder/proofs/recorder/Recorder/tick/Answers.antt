@@ -1,14 +1,31 @@
-use Rattle.play_recorder.proofs.Recorders.{as_many, frame_after_tick, ready_after_tick}
+use Rattle.std.proofs.Common.{◌<◌, ◌≤◌, ap, ◌∙◌, refl, arith}
+use Rattle.play_types.specs.History.{ticks}
+use Rattle.play_journal.specs.Journal.{JournalView}
+use Rattle.play_recorder.specs.inner.Recorder.{events_in}
+use Rattle.play_recorder.proofs.Recorders.{as_many, frame_after_tick, ready_after_skipped, ready_after_tick}
 use Rattle.play_recorder.proofs.recorder.Recorder.tick.Goals as goal
 
 pub render-requires-after_bounds : goal.render-requires-after_bounds
 render-requires-after_bounds g c κs within =
     as_many c.args.self.now c.tick.new.self c.args.self.now.renderer c.requires.ready c.tick.ensures.made c.tick.ensures.scenes
 
-pub returns-clause-ready : goal.returns-clause-ready
-returns-clause-ready g c =
-    ready_after_tick c.args.self.now c.tick.new.self c.render.new.self c.requires.ready c.tick.ensures.made c.tick.ensures.scenes c.render.ensures.rendered
+pub returns-then-before-self-clause-ready : goal.returns-then-before-self-clause-ready
+returns-then-before-self-clause-ready g c =
+    let recorder = c.args.self.now in
+    let before = c.ticks-before.ensures.value ∙ ap (λ (j : JournalView). ticks j.events) c.journal.ensures in
+    let late : recorder.skipped ≤ ticks (events_in recorder) = omega (arith, c.if-before-self.true, before) in
+    ready_after_tick recorder c.tick.new.self c.render.new.self c.requires.ready c.tick.ensures.made c.tick.ensures.scenes c.render.ensures.rendered late
 
-pub returns-clause-frames : goal.returns-clause-frames
-returns-clause-frames g c =
-    frame_after_tick c.args.self.now c.tick.new.self c.render.new.self c.requires.ready c.tick.ensures.made c.tick.ensures.scenes c.render.ensures.rendered
+pub returns-then-before-self-clause-frames : goal.returns-then-before-self-clause-frames
+returns-then-before-self-clause-frames g c =
+    let recorder = c.args.self.now in
+    let before = c.ticks-before.ensures.value ∙ ap (λ (j : JournalView). ticks j.events) c.journal.ensures in
+    let late : recorder.skipped ≤ ticks (events_in recorder) = omega (arith, c.if-before-self.true, before) in
+    frame_after_tick recorder c.tick.new.self c.render.new.self c.requires.ready c.tick.ensures.made c.tick.ensures.scenes c.render.ensures.rendered late
+
+pub returns-else-before-self-clause-ready : goal.returns-else-before-self-clause-ready
+returns-else-before-self-clause-ready g c =
+    let recorder = c.args.self.now in
+    let before = c.ticks-before.ensures.value ∙ ap (λ (j : JournalView). ticks j.events) c.journal.ensures in
+    let early : ticks (events_in recorder) < recorder.skipped = omega (arith, c.if-before-self.false, before) in
+    ready_after_skipped recorder c.tick.new.self recorder.renderer c.requires.ready c.tick.ensures.made c.tick.ensures.scenes refl early

@@ -4,11 +4,11 @@ use Rattle.play_types.specs.History.{ticks}
 use Rattle.play_journal.specs.Journal.{JournalView}
 use Rattle.play_recorder.specs.inner.Recorder.{is_over}
 use Rattle.play_recorder.proofs.Playing.{next_can}
-use Rattle.play_recorder.proofs.Recorders.{all_recorded, film_over, none_recorded, one_recorded, still_configured, stopped_at}
+use Rattle.play_recorder.proofs.Recorders.{all_recorded, film_over, none_recorded, none_skipped, one_recorded, still_configured, stopped_at}
 use Rattle.play_recorder.proofs.recorder.Recorder.write_frames.Goals as goal
 
 pub loop-event-init : goal.loop-event-init
-loop-event-init g c = none_recorded _ _ _ _ c.requires.ready c.requires.new (rw c.into_iter-event-iterator.ensures.into_iter_gives c.each_event-event-items.ensures)
+loop-event-init g c = none_recorded _ _ _ _ c.requires.ready c.requires.new (rw c.into_iter-event-iterator.ensures.into_iter_gives c.each_event-event-items.ensures) c.requires.needed
 
 pub write_event-requires-clause-channel : goal.write_event-requires-clause-channel
 write_event-requires-clause-channel g c κs within =
@@ -17,6 +17,9 @@ write_event-requires-clause-channel g c κs within =
 pub write_event-requires-clause-can : goal.write_event-requires-clause-can
 write_event-requires-clause-can g c κs within =
     next_can _ _ _ _ _ (rw c.in-Some.ensures.steps at c.loop-event.invariant).played c.requires.can
+
+pub write_event-requires-clause-needed : goal.write_event-requires-clause-needed
+write_event-requires-clause-needed g c κs within = none_skipped _ _ _ _ _ _ _ (rw c.in-Some.ensures.steps at c.loop-event.invariant)
 
 pub loop-event-preserved : goal.loop-event-preserved
 loop-event-preserved g c =

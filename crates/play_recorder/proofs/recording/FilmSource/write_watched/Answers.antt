@@ -5,6 +5,10 @@ use Rattle.play_recorder.proofs.Recorders.{film_text}
 use Rattle.play_recorder.proofs.Served.{film_served}
 use Rattle.play_recorder.proofs.recording.FilmSource.write_watched.Goals as goal
 
+pub recorder-requires-clause-channel : goal.recorder-requires-clause-channel
+recorder-requires-clause-channel g c =
+    film_served (length c.args.self.config.now.channels) c.args.self.journal.now.events c.requires.found.0 c.args.self.film.now c.requires.found.1 c.requires.served
+
 pub write-requires-clause-channel : goal.write-requires-clause-channel
 write-requires-clause-channel g c κs within =
     subst₂ (λ config film. IsConfigured (length config.channels) film.channel) (sym c.in-Ok.ensures.config) (sym c.in-Ok.ensures.film)

@@ -4,9 +4,8 @@ use Rattle.std.proofs.lemmas.Iterator.{YieldsList-from_slice}
 use Rattle.std.proofs.lemmas.Iterator.Consumers.{YieldsList-turn, YieldsList-end}
 use Rattle.play_scene.specs.Frames.{FrameView, picture_length, zero_frame}
 use Rattle.play_scene.specs.Parts.{BeginAt, frames_of, parts_length, transparent}
-use Rattle.play_scene.proofs.Parts.{begin_more, frames_zero, parts_length-more, zero_parts}
+use Rattle.play_scene.proofs.Parts.{begin_more, frames_zero, parts_length-more, zero_frames-turn, zero_parts}
 use Rattle.play_scene.proofs.Rows.{picture_small}
-use Rattle.play_scene.proofs.Writing.{zero_frames-turn}
 use Rattle.play_scene.proofs.frames.Frames.new.Goals as goal
 
 pub overflow_add-count : goal.overflow_add-count

@@ -4,7 +4,7 @@ use Rattle.std.proofs.lemmas.List.{with_items_is}
 use Rattle.stage_lock.specs.Views.{SharedView}
 use Rattle.play_ticker.specs.Ends.{HasEnded}
 use Rattle.play_ticker.specs.Frames.{setup_for}
-use Rattle.play_ticker.specs.Outputs.{AreWritten, Shown}
+use Rattle.play_ticker.specs.Outputs.{AreWritten, Beginning, Shown, shown_from}
 use Rattle.play_ticker.specs.inner.Staging.{Staging}
 use Rattle.play_ticker.specs.inner.Writing.{Writing}
 use Rattle.play_ticker.specs.declared.ending.TickEnd.TheVariants.{OutFault}
@@ -13,7 +13,7 @@ use Rattle.play_ticker.proofs.ticks.Ticker.run.Goals as goal
 
 pub settle-requires-clause-finished : goal.settle-requires-clause-finished
 settle-requires-clause-finished g c =
-    sent_closed c.run_sides-failed.result.1
+    sent_closed c.args.self.now.stage.now.sizes.given c.run_sides-failed.result.1
     (record { pass = c.args.pass.now; clock = g.C.Clock.state c.args.clock.now; pipe = c.args.ends.now.stage_end })
     (record { pass = c.run_sides-failed.new.pass; clock = g.C.Clock.state c.run_sides-failed.new.clock; pipe = c.run_sides-failed.new.ends.stage_end })
     c.run_sides-failed.ensures.staged
@@ -25,12 +25,13 @@ returns-in-Some-clause-outs g c =
     let now : Writing g.row.O.Denot = record { pipe = c.run_sides-failed.new.ends.write_end; frames = c.run_sides-failed.new.renderer; outs = c.run_sides-failed.new.outs } in
     let first : Staging = record { pass = c.args.pass.now; clock = g.C.Clock.state c.args.clock.now; pipe = c.args.ends.now.stage_end } in
     let last : Staging = record { pass = c.run_sides-failed.new.pass; clock = g.C.Clock.state c.run_sides-failed.new.clock; pipe = c.run_sides-failed.new.ends.stage_end } in
-    let shown : Shown = record { setup = setup_for c.args.renderer.now c.args.self.now.media.now; history = last.pass.seen } in
+    let begin : Beginning = record { setup = setup_for c.args.renderer.now c.args.self.now.media.now; given = c.args.self.now.stage.now.sizes.given } in
+    let shown : Shown = shown_from begin last.pass.seen in
     let same : AreSettled channels now.pipe last.pipe =
     settled channels now.pipe c.settle.new.write last.pipe c.settle.new.stage c.settle.ensures.write c.settle.ensures.stage c.settle.ensures.taken c.settle.ensures.returned c.settle.ensures.none_passed
     (c.run_sides-failed.ensures.written.same.channels ∙ c.requires.pipe.write_channels) (c.run_sides-failed.ensures.staged.same.channels ∙ c.requires.pipe.stage_channels) in
     let written : AreWritten g.O.Sink.state (end_by c.run_sides-failed.result.0 c.run_sides-failed.result.1) shown base.outs now.outs =
-    joined_outs g.O.Sink.state c.run_sides-failed.result.0 c.run_sides-failed.result.1 channels shown.setup base now first last c.free_scenes_before_the_news.ensures same
+    joined_outs g.O.Sink.state c.run_sides-failed.result.0 c.run_sides-failed.result.1 channels begin base now first last c.free_scenes_before_the_news.ensures same
     c.run_sides-failed.ensures.written c.run_sides-failed.ensures.staged c.requires.pipe.stage_channels in
     let all : (with_items c.args.outs.now now.outs).items ≡ now.outs =
     with_items_is c.args.outs.now now.outs
@@ -46,12 +47,13 @@ returns-in-None-clause-outs g c =
     let now : Writing g.row.O.Denot = record { pipe = c.run_sides-failed.new.ends.write_end; frames = c.run_sides-failed.new.renderer; outs = c.run_sides-failed.new.outs } in
     let first : Staging = record { pass = c.args.pass.now; clock = g.C.Clock.state c.args.clock.now; pipe = c.args.ends.now.stage_end } in
     let last : Staging = record { pass = c.run_sides-failed.new.pass; clock = g.C.Clock.state c.run_sides-failed.new.clock; pipe = c.run_sides-failed.new.ends.stage_end } in
-    let shown : Shown = record { setup = setup_for c.args.renderer.now c.args.self.now.media.now; history = last.pass.seen } in
+    let begin : Beginning = record { setup = setup_for c.args.renderer.now c.args.self.now.media.now; given = c.args.self.now.stage.now.sizes.given } in
+    let shown : Shown = shown_from begin last.pass.seen in
     let same : AreSettled channels now.pipe last.pipe =
     settled channels now.pipe c.settle.new.write last.pipe c.settle.new.stage c.settle.ensures.write c.settle.ensures.stage c.settle.ensures.taken c.settle.ensures.returned c.settle.ensures.none_passed
     (c.run_sides-failed.ensures.written.same.channels ∙ c.requires.pipe.write_channels) (c.run_sides-failed.ensures.staged.same.channels ∙ c.requires.pipe.stage_channels) in
     let written : AreWritten g.O.Sink.state (end_by c.run_sides-failed.result.0 c.run_sides-failed.result.1) shown base.outs now.outs =
-    joined_outs g.O.Sink.state c.run_sides-failed.result.0 c.run_sides-failed.result.1 channels shown.setup base now first last c.free_scenes_before_the_news.ensures same
+    joined_outs g.O.Sink.state c.run_sides-failed.result.0 c.run_sides-failed.result.1 channels begin base now first last c.free_scenes_before_the_news.ensures same
     c.run_sides-failed.ensures.written c.run_sides-failed.ensures.staged c.requires.pipe.stage_channels in
     let all : (with_items c.args.outs.now now.outs).items ≡ now.outs =
     with_items_is c.args.outs.now now.outs
@@ -71,9 +73,9 @@ returns-in-Some-clause-ended g c =
     settled channels now.pipe c.settle.new.write last.pipe c.settle.new.stage c.settle.ensures.write c.settle.ensures.stage c.settle.ensures.taken c.settle.ensures.returned c.settle.ensures.none_passed
     (c.run_sides-failed.ensures.written.same.channels ∙ c.requires.pipe.write_channels) (c.run_sides-failed.ensures.staged.same.channels ∙ c.requires.pipe.stage_channels) in
     subst
-    (λ (failed : Option ℕ). HasEnded (end_by failed c.run_sides-failed.result.1) (record { pass = first.pass; clock = first.clock }) (record { pass = last.pass; clock = last.clock }))
+    (λ (failed : Option ℕ). HasEnded c.args.self.now.stage.now.sizes.given (end_by failed c.run_sides-failed.result.1) (record { pass = first.pass; clock = first.clock }) (record { pass = last.pass; clock = last.clock }))
     c.in-Some.is
-    (joined_end g.O.Sink.state c.run_sides-failed.result.0 c.run_sides-failed.result.1 channels (setup_for c.args.renderer.now c.args.self.now.media.now) base now first last same
+    (joined_end g.O.Sink.state c.run_sides-failed.result.0 c.run_sides-failed.result.1 channels (record { setup = setup_for c.args.renderer.now c.args.self.now.media.now; given = c.args.self.now.stage.now.sizes.given }) base now first last same
     c.run_sides-failed.ensures.written c.run_sides-failed.ensures.staged
     (c.requires.renderer ∙ sym (ap (λ (s : SharedView). s.sizes.channels) c.run_sides-failed.ensures.of)))
 
@@ -88,8 +90,8 @@ returns-in-None-clause-ended g c =
     settled channels now.pipe c.settle.new.write last.pipe c.settle.new.stage c.settle.ensures.write c.settle.ensures.stage c.settle.ensures.taken c.settle.ensures.returned c.settle.ensures.none_passed
     (c.run_sides-failed.ensures.written.same.channels ∙ c.requires.pipe.write_channels) (c.run_sides-failed.ensures.staged.same.channels ∙ c.requires.pipe.stage_channels) in
     subst
-    (λ (failed : Option ℕ). HasEnded (end_by failed c.run_sides-failed.result.1) (record { pass = first.pass; clock = first.clock }) (record { pass = last.pass; clock = last.clock }))
+    (λ (failed : Option ℕ). HasEnded c.args.self.now.stage.now.sizes.given (end_by failed c.run_sides-failed.result.1) (record { pass = first.pass; clock = first.clock }) (record { pass = last.pass; clock = last.clock }))
     c.in-None.is
-    (joined_end g.O.Sink.state c.run_sides-failed.result.0 c.run_sides-failed.result.1 channels (setup_for c.args.renderer.now c.args.self.now.media.now) base now first last same
+    (joined_end g.O.Sink.state c.run_sides-failed.result.0 c.run_sides-failed.result.1 channels (record { setup = setup_for c.args.renderer.now c.args.self.now.media.now; given = c.args.self.now.stage.now.sizes.given }) base now first last same
     c.run_sides-failed.ensures.written c.run_sides-failed.ensures.staged
     (c.requires.renderer ∙ sym (ap (λ (s : SharedView). s.sizes.channels) c.run_sides-failed.ensures.of)))

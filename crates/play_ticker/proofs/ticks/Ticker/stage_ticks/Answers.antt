@@ -1,4 +1,5 @@
-use Rattle.std.proofs.Common.{◌∙◌}
+use Rattle.std.proofs.Common.{◌∙◌, List}
+use Rattle.play_types.specs.declared.event.Event.{Event}
 use Rattle.play_ticker.specs.inner.Staging.{Staging}
 use Rattle.play_ticker.proofs.StagedTicks.{IsStaging, staging_ends, staging_first, staging_goes}
 use Rattle.play_ticker.proofs.ticks.Ticker.stage_ticks.Goals as goal
@@ -8,8 +9,8 @@ loop-init g c = record {
   of = c.requires.of;
   first = c.requires.first;
   channels = c.requires.channels;
-  staging = staging_first (record { pass = c.args.pass.now; clock = g.C.Clock.state c.args.clock.now; pipe = c.args.pipe.now })
-      c.requires.first c.requires.made c.requires.sent c.requires.returned c.requires.held;
+  staging = staging_first c.args.self.now.stage.now.sizes.given (record { pass = c.args.pass.now; clock = g.C.Clock.state c.args.clock.now; pipe = c.args.pipe.now })
+      c.requires.few c.requires.first c.requires.made c.requires.sent c.requires.returned c.requires.held;
 }
 
 pub loop-preserved : goal.loop-preserved
@@ -17,7 +18,8 @@ loop-preserved g c =
     let base : Staging = record { pass = c.args.pass.now; clock = g.C.Clock.state c.args.clock.now; pipe = c.args.pipe.now } in
     let old : Staging = record { pass = c.loop.pass; clock = g.C.Clock.state c.loop.clock; pipe = c.loop.pipe } in
     let new : Staging = record { pass = c.stage_tick.new.pass; clock = g.C.Clock.state c.stage_tick.new.clock; pipe = c.stage_tick.new.pipe } in
-    let goes : IsStaging base new = staging_goes base old new c.in-Ok.ensures.step c.loop.invariant.staging in
+    let given : List Event = c.args.self.now.stage.now.sizes.given in
+    let goes : IsStaging given base new = staging_goes given base old new c.in-Ok.ensures.step c.loop.invariant.staging in
     record {
       of = c.in-Ok.ensures.of;
       first = goes.pass.first;
@@ -28,7 +30,7 @@ loop-preserved g c =
 pub returns-in-Err : goal.returns-in-Err
 returns-in-Err g c = record {
   of = c.in-Err.ensures.of;
-  staged = staging_ends c.in-Err.end
+  staged = staging_ends c.args.self.now.stage.now.sizes.given c.in-Err.end
       (record { pass = c.args.pass.now; clock = g.C.Clock.state c.args.clock.now; pipe = c.args.pipe.now })
       (record { pass = c.loop.pass; clock = g.C.Clock.state c.loop.clock; pipe = c.loop.pipe })
       (record { pass = c.stage_tick.new.pass; clock = g.C.Clock.state c.stage_tick.new.clock; pipe = c.stage_tick.new.pipe })

@@ -8,7 +8,7 @@ invariant-loop g l = record {
   of : l.pass.stage ≡ l.self.stage.now;
   first : l.pass.number ≡ 0;
   channels : l.pipe.channels ≡ l.self.stage.now.sizes.channels;
-  staging : IsStaging
+  staging : IsStaging l.self.stage.now.sizes.given
       (record { pass = l.initial.pass; clock = g.C.Clock.state l.initial.clock; pipe = l.initial.pipe })
       (record { pass = l.pass; clock = g.C.Clock.state l.clock; pipe = l.pipe });
 }

@@ -1,6 +1,6 @@
 use Rattle.std.proofs.Common.{◌∙◌, sym}
-use Rattle.history_model.specs.pictures.Media.{Setup}
 use Rattle.play_ticker.specs.Frames.{setup_for}
+use Rattle.play_ticker.specs.Outputs.{Beginning}
 use Rattle.play_ticker.specs.inner.Writing.{Writing}
 use Rattle.play_ticker.proofs.WrittenSets.{IsWriting, failed_open, writing_done, writing_failed, writing_first, writing_goes}
 use Rattle.play_ticker.proofs.ticks.Ticker.write_all.Goals as goal
@@ -9,18 +9,18 @@ pub loop-init : goal.loop-init
 loop-init g c = record {
   channels = c.requires.channels;
   outs = c.requires.outs;
-  writing = writing_first g.O.Sink.state c.args.self.now.media.now (record { pipe = c.args.pipe.now; frames = c.args.renderer.now; outs = c.args.outs.now })
-      c.frames_represent_histories.ensures.other c.frames_represent_histories.ensures.first c.requires.blank c.requires.taken c.requires.given;
+  writing = writing_first g.O.Sink.state c.args.self.now.stage.now.sizes.given c.args.self.now.media.now (record { pipe = c.args.pipe.now; frames = c.args.renderer.now; outs = c.args.outs.now })
+      c.frames_represent_histories.ensures.other c.requires.last c.requires.taken c.requires.given;
 }
 
 pub loop-preserved : goal.loop-preserved
 loop-preserved g c =
-    let setup : Setup = setup_for c.args.renderer.now c.args.self.now.media.now in
+    let begin : Beginning = record { setup = setup_for c.args.renderer.now c.args.self.now.media.now; given = c.args.self.now.stage.now.sizes.given } in
     let base : Writing g.row.O.Denot = record { pipe = c.args.pipe.now; frames = c.args.renderer.now; outs = c.args.outs.now } in
     let old : Writing g.row.O.Denot = record { pipe = c.loop.pipe; frames = c.loop.renderer; outs = c.loop.outs } in
     let new : Writing g.row.O.Denot = record { pipe = c.write_next.new.pipe; frames = c.write_next.new.renderer; outs = c.write_next.new.outs } in
-    let goes : IsWriting g.O.Sink.state setup c.args.self.now.media.now base new =
-    writing_goes g.O.Sink.state setup c.args.self.now.media.now base old new
+    let goes : IsWriting g.O.Sink.state begin c.args.self.now.media.now base new =
+    writing_goes g.O.Sink.state begin c.args.self.now.media.now base old new
     c.frames_represent_histories.ensures.other c.frames_represent_histories.ensures.tick c.frames_of_a_tick.ensures
     (record { channels = c.requires.channels; outs = c.requires.outs }) c.in-Written.ensures.channels c.in-Written.ensures.step c.loop.invariant.writing in
     record {
@@ -31,7 +31,7 @@ loop-preserved g c =
 
 pub returns-in-Done : goal.returns-in-Done
 returns-in-Done g c =
-    writing_done g.O.Sink.state (setup_for c.args.renderer.now c.args.self.now.media.now) c.args.self.now.media.now
+    writing_done g.O.Sink.state (record { setup = setup_for c.args.renderer.now c.args.self.now.media.now; given = c.args.self.now.stage.now.sizes.given }) c.args.self.now.media.now
     (record { pipe = c.args.pipe.now; frames = c.args.renderer.now; outs = c.args.outs.now })
     (record { pipe = c.loop.pipe; frames = c.loop.renderer; outs = c.loop.outs })
     (record { pipe = c.write_next.new.pipe; frames = c.write_next.new.renderer; outs = c.write_next.new.outs })
@@ -39,7 +39,7 @@ returns-in-Done g c =
 
 pub returns-in-Failed : goal.returns-in-Failed
 returns-in-Failed g c =
-    writing_failed g.O.Sink.state (setup_for c.args.renderer.now c.args.self.now.media.now) c.args.self.now.media.now c.in-Failed.channel
+    writing_failed g.O.Sink.state (record { setup = setup_for c.args.renderer.now c.args.self.now.media.now; given = c.args.self.now.stage.now.sizes.given }) c.args.self.now.media.now c.in-Failed.channel
     (record { pipe = c.args.pipe.now; frames = c.args.renderer.now; outs = c.args.outs.now })
     (record { pipe = c.loop.pipe; frames = c.loop.renderer; outs = c.loop.outs })
     (record { pipe = c.write_next.new.pipe; frames = c.write_next.new.renderer; outs = c.write_next.new.outs })
@@ -49,7 +49,7 @@ returns-in-Failed g c =
 
 pub give_back-requires : goal.give_back-requires
 give_back-requires g c =
-    failed_open g.O.Sink.state (setup_for c.args.renderer.now c.args.self.now.media.now) c.args.self.now.media.now c.in-Failed.channel
+    failed_open g.O.Sink.state (record { setup = setup_for c.args.renderer.now c.args.self.now.media.now; given = c.args.self.now.stage.now.sizes.given }) c.args.self.now.media.now c.in-Failed.channel
     (record { pipe = c.args.pipe.now; frames = c.args.renderer.now; outs = c.args.outs.now })
     (record { pipe = c.loop.pipe; frames = c.loop.renderer; outs = c.loop.outs })
     (record { pipe = c.write_next.new.pipe; frames = c.write_next.new.renderer; outs = c.write_next.new.outs })

@@ -3,11 +3,11 @@ use Rattle.play_outside.specs.declared.held.link.HeldLink.{HeldLink}
 use Rattle.play_server.specs.Site.{AreNumbered, IsNewDoor}
 use Rattle.playd.proofs.whole_server.devices.doors_of.Given as goal
 
--- of each of these
+-- a claim holds of each of the items
 abbrev pub EachOf : {A : Type 0} → List A → (A → Type 0) → Type 0
 EachOf items holds = All holds items
 
--- these are numbered by a mark
+-- the items are numbered by their marks
 abbrev pub NumberedBy : {A : Type 0} → List A → (A → ℕ) → Type 0
 NumberedBy items mark = AreNumbered mark items
 

@@ -4,7 +4,7 @@ use lib.Seq.{take-append_seam}
 use Rattle.real_devices.proofs.Held.{range_after}
 use Rattle.real_devices.proofs.held_bytes.HeldBytes.give_line.Goals as goal
 
--- what is handed on and what is left are what was held
+-- the bytes that are handed on, and then those that are left, are those that were held
 pub returns-clause-left : goal.returns-clause-left
 returns-clause-left c =
     let n = c.min-count.result in

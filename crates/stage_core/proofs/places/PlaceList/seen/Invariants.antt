@@ -2,7 +2,7 @@ use Rattle.std.proofs.Common.{◌≡◌, ◌+◌, ◌≤◌, drop, filter_map, s
 use Rattle.stage_core.specs.inner.Seen.{seen_of}
 use Rattle.stage_core.proofs.places.PlaceList.seen.Given as goal
 
--- the place that is meant stands among those that are left
+-- the requested place is among those that are left
 abbrev pub invariant-loop-place : goal.invariant-loop-place
 invariant-loop-place l = record {
   value : slice_get (filter_map seen_of (drop l.place-index l.fn.self)) l.left ≡ slice_get (filter_map seen_of l.fn.self) l.at;

@@ -5,7 +5,7 @@ use Rattle.stage_core.specs.Kept.{IsStage}
 use Rattle.stage_core.proofs.Stages.{IsStage-new}
 use Rattle.stage_core.proofs.stage.Stage.new.Goals as goal
 
--- nothing stands on a new live state, and nothing waits
+-- a new live state has no live places and no waiting settings
 pub invariant_of-result : goal.invariant_of-result
 invariant_of-result c =
     let n : ℕ = c.len-count.result in

@@ -3,8 +3,7 @@ use Rattle.std.specs.Prelude.{option_to_list}
 use mathlib.Core.Option.{some}
 use lib.ListN.{get_elem?}
 use Rattle.atomic_table.proofs.Lists.{at_last, at_longer}
-use Rattle.stage_lock.specs.Views.{PassView, SharedView, Sizes, stage_of}
-use Rattle.stage_lock.specs.Seats.{SeatView}
+use Rattle.stage_lock.specs.Views.{PassView, SharedView}
 use Rattle.stage_lock.proofs.Closing.{closes}
 use Rattle.stage_lock.proofs.shared.SharedStage.close.Goals as goal
 
@@ -35,15 +34,7 @@ count-requires-clause-of g c =
     let at : get_elem? c.args.passes.items (length rest) ≡ some p = subst (λ (l : List PassView). get_elem? l (length rest) ≡ some p) (sym (c.pop.ensures.items ∙ ap (λ o. c.pop.new.self.items ++ option_to_list o) c.unwrap-last.ensures)) (at_last rest p (length rest) refl) in
     c.take-stage.ensures.same ∙ (c.absorb_all.ensures.same ∙ (ap (λ (x : PassView). x.stage.table_id) c.last.view_is ∙ (ap (λ (s : SharedView). s.table_id) (c.requires.each (length rest) p at) ∙ sym (ap (λ (s : SharedView). s.table_id) c.self.view_is))))
 
-pub returns-clause-sizes : goal.returns-clause-sizes
-returns-clause-sizes g c =
-    let rest : List PassView = c.pop.new.self.items in
-    let p : PassView = c.unwrap-last.result in
-    let at : get_elem? c.args.passes.items (length rest) ≡ some p = subst (λ (l : List PassView). get_elem? l (length rest) ≡ some p) (sym (c.pop.ensures.items ∙ ap (λ o. c.pop.new.self.items ++ option_to_list o) c.unwrap-last.ensures)) (at_last rest p (length rest) refl) in
-    let sizes : c.absorb_all.new.seat.me.0.sizes ≡ c.args.self.sizes = ap (λ (x : SeatView). x.sizes) c.absorb_all.ensures.all.after ∙ (ap (λ (x : PassView). x.stage.sizes) c.last.view_is ∙ ap (λ (s : SharedView). s.sizes) (c.requires.each (length rest) p at)) in
-    c.take-stage.ensures.won.whole ∙ ap (λ (s : Sizes). stage_of s c.take-stage.result.journal.events) sizes
-
-pub returns-clause-closes : goal.returns-clause-closes
-returns-clause-closes g c =
+pub returns : goal.returns
+returns g c =
     closes c.args.self c.args.passes.items c.pop.new.self.items c.unwrap-last.result c.last.inside.seat.table_id c.last.inside.seat.me.0 c.absorb_all.new.seat.me c.take-stage.new.seat.me c.take-stage.result
     c.requires (c.pop.ensures.items ∙ ap (λ o. c.pop.new.self.items ++ option_to_list o) c.unwrap-last.ensures) c.last.view_is c.absorb_all.ensures.all c.take-stage.ensures.won c.count.ensures.told

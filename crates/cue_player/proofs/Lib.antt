@@ -1,0 +1,4 @@
+pub mod PlayedLines
+pub mod PlayedTicks
+pub mod SheetMoments
+pub mod SheetReadings

@@ -1,0 +1,5 @@
+pub mod Size
+pub mod Header
+pub mod Bitmap
+pub mod Worked
+pub mod inner

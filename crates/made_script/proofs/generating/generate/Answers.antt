@@ -1,0 +1,23 @@
+use Rattle.std.proofs.Common.{rules}
+use Rattle.std.proofs.lemmas.Result.{err_from_is_err_and}
+use Rattle.history_model.specs.scripts.Generator.{generated_run}
+use Rattle.script_player.proofs.Ticked.{first_shown}
+use Rattle.made_script.proofs.MadeScripts.{ended_by_memory, well_played}
+use Rattle.made_script.proofs.generating.generate.Goals as goal
+
+pub returns-in-All : goal.returns-in-All
+returns-in-All g c =
+    c.in-All.ensures (generated_run c.args.seed c.args.steps) (well_played c.args.seed c.args.steps c.play.result c.play.new.run c.in_ok-outcome.ensures c.play.ensures)
+
+pub returns : goal.returns
+returns g c =
+    c.in-Failed.ensures (generated_run c.args.seed c.args.steps) (well_played c.args.seed c.args.steps c.play.result c.play.new.run c.in_ok-outcome.ensures c.play.ensures)
+
+pub returns-in_err-outcome : goal.returns-in_err-outcome
+returns-in_err-outcome g c =
+    let p = err_from_is_err_and c.from_residual-in_err-outcome.result c.from_residual-in_err-outcome.ensures.1 in
+    rw (p.1, p.2) (ended_by_memory c.args.seed c.args.steps c.play.result c.in_err-outcome.field-0.0 (g.K.Sink.state c.args.out.now) c.in_err-outcome.ensures)
+
+pub play-requires-clause-shown : goal.play-requires-clause-shown
+play-requires-clause-shown g c =
+    first_shown _ _ _ _ c.in_ok-run.ensures.setup c.in_ok-run.ensures.empty (search rules, c.in_ok-display.ensures.frames) c.in_ok-display.ensures.none_waits

@@ -1,0 +1,5 @@
+pub mod Bounds
+pub mod Counting
+pub mod Same
+pub mod Rendering
+pub mod Whole

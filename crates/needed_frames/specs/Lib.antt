@@ -1,0 +1,5 @@
+pub mod Depth
+pub mod Made
+pub mod Counted
+pub mod Rendered
+pub mod Worked

@@ -1,7 +1,0 @@
-use Rattle.std.proofs.Common.{refl}
-use Rattle.hex.specs.Hex.{encode_with}
-use Rattle.run_script.proofs.generator.two_digits.Goals as goal
-
-pub returns : goal.returns
-unfolding encode_with
-returns c = refl

@@ -1,8 +1,0 @@
--- The steps of a made script, as the code has them.
-use Rattle.std.specs.Prelude.{ℕ}
-use Rattle.history_model.specs.scripts.Generator as script
-use Rattle.run_script.specs.declared.generator.Step.{Step}
-
--- a step and the state after it was drawn
-abbrev pub step_in : Step → ℕ → script.Step
-step_in step state = record { kind = step.kind; channel = step.channel; layer = step.layer; worker = step.worker; state = state }

@@ -1,0 +1,2 @@
+pub mod ServedScripts
+pub mod Films

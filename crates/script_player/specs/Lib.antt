@@ -1,0 +1,12 @@
+pub mod Playouts
+pub mod Ending
+pub mod Run
+pub mod Script
+pub mod Shown
+pub mod Clients
+pub mod Player
+pub mod Display
+pub mod Taken
+pub mod Ticks
+pub mod Reading
+pub mod inner

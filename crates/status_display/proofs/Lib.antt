@@ -1,0 +1,2 @@
+pub mod ToldStatus
+pub mod TickStatus

@@ -55,6 +55,8 @@ def steps(number, chance):
 class Talker:
     """A client that says one command after another until its connection ends, and notes when it had how many lines of replies."""
 
+    steps = staticmethod(steps)
+
     def __init__(self, port, number, chance):
         self.client, self.number, self.chance = Client(port), number, chance
         self.noted = []
@@ -63,7 +65,7 @@ class Talker:
 
     def talk(self):
         with contextlib.suppress(OSError, EOFError):
-            for lines in steps(self.number, self.chance):
+            for lines in self.steps(self.number, self.chance):
                 for line in lines:
                     self.client.ask(line)
                 self.noted.append((time.monotonic(), len(self.client.replies)))

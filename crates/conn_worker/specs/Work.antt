@@ -138,11 +138,16 @@ module _ {L : Type 0} where
   EndsWork setting number DoorFault before after = IsDoorFault setting.given before after
   EndsWork setting number SessionsOver before after = IsSessionsOver number before after
 
-  -- what the work at a door did, from the pass and the door before it to those after it: links were served as the sessions 1, 2
-  -- and so on, at most MAX_SESSIONS, with a check of the stage between two calls of the door, and then the work ended
-  pub record HasWorked (setting : Setting L) (end : WorkEnd) (before after : AtDoor L) : Type 0 where
+  -- what the work at a door did, from the pass and the door before it to those after it, if `served` is the number of the last session
+  -- that was used before it: links were served as the sessions `served + 1`, `served + 2` and so on, up to MAX_SESSIONS, with a check of
+  -- the stage between two calls of the door, and then the work ended
+  pub record HasWorkedFrom (setting : Setting L) (served : ℕ) (end : WorkEnd) (before after : AtDoor L) : Type 0 where
     pub turns : List (Turn L)
     pub between : AtDoor L
-    pub takes : TakesAll setting 1 turns before between
-    pub few : number_came turns ≤ MAX_SESSIONS
-    pub ending : EndsWork setting (1 + number_came turns) end between after
+    pub takes : TakesAll setting (served + 1) turns before between
+    pub few : served + number_came turns ≤ MAX_SESSIONS
+    pub ending : EndsWork setting (served + 1 + number_came turns) end between after
+
+  -- what the work at a door did if no session was used before it: links were served as the sessions 1, 2 and so on
+  abbrev pub HasWorked : Setting L → WorkEnd → AtDoor L → AtDoor L → Type 0
+  HasWorked setting end before after = HasWorkedFrom setting 0 end before after

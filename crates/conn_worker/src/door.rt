@@ -2,7 +2,7 @@
 ghost use Rattle.std.specs.Prelude.{◌≡◌, ◌+◌, ◌<◌, None, length};
 ghost use Rattle.play_types.specs.History.{stop_at};
 ghost use Rattle.play_outside.specs.Fresh.{IsNewSink};
-ghost use Rattle.conn_worker.specs.Work.{HasWorked};
+ghost use Rattle.conn_worker.specs.Work.{HasWorked, HasWorkedFrom};
 ghost use Rattle.conn_worker.specs.Server.{HasStageOfConfig, setting_in};
 ghost use Rattle.conn_worker.specs.inner.Door.{GivesBack, LooksAtStage, TakesTurn};
 
@@ -72,21 +72,43 @@ impl Server<'_> {
         ensures worked { HasWorked (setting_in self.now pass.old.number D.Line.state) result
             (record { pass = pass.old; door = D.state door.old }) (record { pass = pass.new; door = D.state door.new }) }
     {
-        let mut served = 0;
+        self.work_from(rt, pass, session, door, 0)
+    }
+
+    /// Does what [`Server::work`] does, but serves the links as the sessions from `served + 1` up to [`MAX_SESSIONS`].
+    ///
+    /// `served` is the number of the last session of the pass that was used before, or 0.
+    pub fn work_from<R: Wait, D: Listener>(
+        &self,
+        rt: &R,
+        pass: &mut Pass,
+        session: &mut Session,
+        door: &mut D,
+        served: u32,
+    ) -> WorkEnd
+        requires stage { HasStageOfConfig self.now }
+        requires of { pass.old.stage ≡ self.now.stage.now }
+        requires running { stop_at pass.old.seen ≡ None }
+        requires away { (D.state door.old).away < MOST_AWAY }
+        ensures of { pass.new.stage ≡ self.now.stage.now }
+        ensures worked { HasWorkedFrom (setting_in self.now pass.old.number D.Line.state) served result
+            (record { pass = pass.old; door = D.state door.old }) (record { pass = pass.new; door = D.state door.new }) }
+    {
+        let mut last = served;
         for _ in rt.forever() {
-            if served == MAX_SESSIONS {
+            if last == MAX_SESSIONS {
                 return WorkEnd::SessionsOver;
             }
-            match self.ask_door(rt, pass, session, served, door) {
-                Ok(came) => served = came,
+            match self.ask_door(rt, pass, session, last, door) {
+                Ok(came) => last = came,
                 Err(end) => return end,
             }
         }
         unreachable!()
     }
 
-    /// Asks the door once, after `served` links were served, and returns the new count of links. A link that came is served. After it,
-    /// or if there is none yet, the worker checks whether the stage was stopped.
+    /// Asks the door once, and returns the number of the last session that was used. A link that came is served as session `served + 1`.
+    /// After it, or if there is none yet, the worker checks whether the stage was stopped.
     fn ask_door<R: Wait, D: Listener>(
         &self,
         rt: &R,

@@ -65,6 +65,7 @@ module _ (rate : ℕ) (before after : SourceState) where
   read_fails (faults.Plan number) reads = absurd reads.ends
   read_fails faults.PlanEnd reads = absurd reads.ends
   read_fails (faults.Record name) reads = absurd reads.ends
+  read_fails (faults.Resume number) reads = absurd reads.ends
   read_fails (faults.Clip fault) reads = absurd reads.ends
   read_fails (faults.MediaTwice name) reads = absurd reads.ends
   read_fails (faults.MediaTotal sum) reads = absurd reads.ends
@@ -116,6 +117,7 @@ module _ (playout : Playout) (before : Streams) (after : SourceState) where
     };
   }
   plan_fails (faults.Record name) reads = absurd reads.ends
+  plan_fails (faults.Resume number) reads = absurd reads.ends
   plan_fails faults.Device reads = record { bytes = reads.bytes; gives = reads.gives; ends = (reads.ends.0, inl (reads.ends.1, refl)) }
   plan_fails faults.OutOfMemory reads = record { bytes = reads.bytes; gives = reads.gives; ends = (reads.ends.0, reads.ends.1, inl refl) }
   plan_fails faults.Usage reads = absurd reads.ends
@@ -178,6 +180,7 @@ module _ (playout : Playout) (before : Streams) (after : SourceState) where
     plan_ends (Some (faults.Plan number)) plays = absurd plays
     plan_ends (Some faults.PlanEnd) plays = absurd plays
     plan_ends (Some (faults.Record name)) plays = absurd plays
+    plan_ends (Some (faults.Resume number)) plays = absurd plays
     plan_ends (Some (faults.Clip fault)) plays = absurd plays
     plan_ends (Some (faults.MediaTwice name)) plays = absurd plays
     plan_ends (Some (faults.MediaTotal sum)) plays = absurd plays

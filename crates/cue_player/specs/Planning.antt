@@ -91,6 +91,7 @@ PlanEnds playout (Some faults.OutOfMemory) bytes before after =
     ⊎ ((sheet : SheetView) × IsSheetOf playout.config.rate bytes sheet before after
     × PlaysPart playout (script_of sheet) before.out after.out))
 PlanEnds playout (Some (faults.Record name)) bytes before after = ⊥
+PlanEnds playout (Some (faults.Resume number)) bytes before after = ⊥
 PlanEnds playout (Some faults.Usage) bytes before after = ⊥
 PlanEnds playout (Some faults.ConfigText) bytes before after = ⊥
 PlanEnds playout (Some (faults.ConfigKey key)) bytes before after = ⊥

@@ -105,7 +105,7 @@ fn makes_devices(rt: HostRuntime) -> Result<(), Fail> {
         fs::write(&rt, path, "what an earlier run wrote")?;
     }
     let config = config_of(alloc, "127.0.0.1:0", "m", OUTPUTS)?;
-    let devices = ready(rt, &rt, alloc, &config, None, None)?;
+    let devices = ready(rt, &rt, alloc, &config, None, None, None)?;
     assert!(rt; write_to_all(devices));
     for path in OUTPUTS {
         assert_eq!(rt; fs::read_to_string(&rt, path)?.as_str(), "frame");
@@ -129,7 +129,7 @@ fn makes_no_devices(rt: HostRuntime) -> Result<(), Fail> {
     let alloc = rt.alloc();
     for (address, outputs, history) in NOT_READY {
         let config = config_of(alloc, address, "m", outputs)?;
-        let fault = ready(rt, &rt, alloc, &config, None, Some(history)).err();
+        let fault = ready(rt, &rt, alloc, &config, None, None, Some(history)).err();
         assert_eq!(rt; fault, Some(FileFault::Failed));
     }
     Ok(())
@@ -166,11 +166,11 @@ fn leaves_files_that_have_a_use(rt: HostRuntime) -> Result<(), Fail> {
     let source = Some("used_files_test/c");
     for (outputs, history) in ONE_FILE {
         let config = config_of(alloc, "127.0.0.1:0", USED, outputs)?;
-        let fault = ready(rt, &rt, alloc, &config, source, Some(history)).err();
+        let fault = ready(rt, &rt, alloc, &config, source, None, Some(history)).err();
         assert_eq!(rt; fault, Some(FileFault::Failed));
     }
     let config = config_of(alloc, "127.0.0.1:0", USED, ["/dev/null", "/dev/null"])?;
-    let fault = ready(rt, &rt, alloc, &config, source, Some("/dev/null")).err();
+    let fault = ready(rt, &rt, alloc, &config, source, None, Some("/dev/null")).err();
     assert_eq!(rt; fault, None);
     let kept = fs::read_to_string(&rt, "used_files_test/c")?;
     assert_eq!(rt; kept.as_str(), "a configuration");
@@ -187,7 +187,7 @@ fn keeps_earlier_histories(rt: HostRuntime) -> Result<(), Fail> {
     let config = config_of(alloc, "127.0.0.1:0", "m", ["/dev/null", "/dev/null"])?;
     fs::create_dir_all(&rt, "journal_test")?;
     for history in [&b"first"[..], b"", b"second", b"", b"third"] {
-        let mut devices = ready(rt, &rt, alloc, &config, None, Some("journal_test/h"))?;
+        let mut devices = ready(rt, &rt, alloc, &config, None, None, Some("journal_test/h"))?;
         assert!(rt; matches!(send(history, &mut devices.history), Sent::All));
         assert!(rt; finish(devices).is_ok());
     }
@@ -210,10 +210,10 @@ fn keeps_earlier_logs(rt: HostRuntime) -> Result<(), Fail> {
     let config = config_of(alloc, "127.0.0.1:0", "m", ["/dev/null", "/dev/null"])?;
     fs::create_dir_all(&rt, "log_test")?;
     for text in [&b"first"[..], b"second"] {
-        let mut devices = ready(rt, &rt, alloc, &config, None, Some("log_test/h"))?;
+        let mut devices = ready(rt, &rt, alloc, &config, None, None, Some("log_test/h"))?;
         assert!(rt; matches!(send(text, &mut devices.log), Sent::All));
     }
-    let mut devices = ready(rt, &rt, alloc, &config, None, Some("log_test/h"))?;
+    let mut devices = ready(rt, &rt, alloc, &config, None, None, Some("log_test/h"))?;
     assert!(rt; matches!(send(b"third", &mut devices.log), Sent::All));
     devices.log.rest();
     assert!(rt; matches!(send(b"a history", &mut devices.history), Sent::All));

@@ -3,6 +3,7 @@ use Rattle.std.proofs.Common.{◌≡◌, ℕ, Bool, true, List, [], ◌∷◌, �
 use Rattle.std.specs.List.{flat_map}
 use Rattle.std.specs.Option.{is_some}
 use Rattle.std.proofs.lemmas.List.Concat.{flat_map-append}
+use mathlib.Core.List.{IsPrefix}
 use Rattle.play_types.specs.History.{stop_at}
 use Rattle.play_types.specs.Media.{MediaNameView}
 use Rattle.play_types.specs.declared.event.Event.{Event}
@@ -17,6 +18,7 @@ use Rattle.play_journal.specs.Runs.{AreRuns, Run, events_of}
 use Rattle.play_journal.proofs.Places.{behind_stop}
 use Rattle.stage_lock.specs.Calls.{Looks}
 use Rattle.stage_lock.specs.Views.{PassView}
+use Rattle.stage_lock.proofs.Prefixes.{prefix_self, prefix_trans}
 use Rattle.history_model.specs.text.History.{history_text, joined_events, log_text}
 use Rattle.history_log.specs.Log.{KeepsLog, Moment}
 
@@ -29,31 +31,34 @@ IsCopied given old new runs is_all history =
 abbrev IsIdle : PassView → PassView → Type 0
 IsIdle old new = (new.made ≡ old.made) × (new.ends ≡ old.ends) × (new.number ≡ old.number)
 
--- the pass has seen these pieces, and then what is unwritten. The place is after the given events and the pieces, and nothing is unwritten
--- after the stop
+-- the given events and what the pass has seen are these pieces, and then what is unwritten. The place is after the pieces, and nothing is
+-- unwritten after the stop
 pub record HasSeen (given : List Event) (old new : PassView) (place : Passed) (pieces : List (List Event)) : Type 0 where
   pub unwritten : List Event
-  pub whole : new.seen ≡ old.seen ++ (joined_events pieces ++ unwritten)
-  pub at : place ≡ passed (given ++ (old.seen ++ joined_events pieces))
+  pub whole : given ++ new.seen ≡ joined_events pieces ++ unwritten
+  pub seen : IsPrefix old.seen new.seen
+  pub at : place ≡ passed (joined_events pieces)
   pub stop : place.stopped ≡ true → unwritten ≡ []
   pub idle : IsIdle old new
 
--- the pieces of which the text was written, and what the pass has seen
+-- the pieces of which the text was written, and what is unwritten of the given events and of what the pass has seen
 pub record IsKeeping (given : List Event) (names : List MediaNameView) (old new : Moment) (place : Passed) : Type 0 where
   pub pieces : List (List Event)
   pub unwritten : List Event
-  pub whole : new.pass.seen ≡ old.pass.seen ++ (joined_events pieces ++ unwritten)
-  pub at : place ≡ passed (given ++ (old.pass.seen ++ joined_events pieces))
+  pub whole : given ++ new.pass.seen ≡ joined_events pieces ++ unwritten
+  pub seen : IsPrefix old.pass.seen new.pass.seen
+  pub at : place ≡ passed (joined_events pieces)
   pub idle : IsIdle old.pass new.pass
   pub sink : new.sink ≡ after_taking old.sink (log_text names pieces)
 
 -- before the first read nothing was written
-pub none_kept : (given : List Event) (names : List MediaNameView) (old : Moment) (place : Passed) → place ≡ passed (given ++ old.pass.seen) → IsKeeping given names old old place
+pub none_kept : (given : List Event) (names : List MediaNameView) (old : Moment) (place : Passed) → place ≡ passed [] → IsKeeping given names old old place
 none_kept given names old place at = record {
   pieces = [];
-  unwritten = [];
-  whole = sym (append-nil old.pass.seen);
-  at = at ∙ ap (λ (es : List Event). passed (given ++ es)) (sym (append-nil old.pass.seen));
+  unwritten = given ++ old.pass.seen;
+  whole = refl;
+  seen = prefix_self old.pass.seen;
+  at = at;
   idle = (refl, refl, refl);
   sink = sym (after_taking-nil old.sink);
 }
@@ -81,17 +86,16 @@ pub one_looked : (given : List Event) (names : List MediaNameView) (old now : Mo
     → IsKeeping given names old now place → Looks now.pass (IsCopied given place new runs is_all) after
     → HasLooked given names old (record { pass = after; sink = now.sink }) new runs
 one_looked given names old now after place new runs is_all kept looks =
-    let past : List Event = old.pass.seen ++ joined_events kept.pieces in
+    let past : List Event = joined_events kept.pieces in
     let more : List Event = looks.found.seen.0 in
     let later : List Event = kept.unwritten ++ more in
-    let parts : looks.history ≡ past ++ later =
-    sym looks.found.seen.1
-    ∙ ap (λ (seen : List Event). seen ++ more) (kept.whole ∙ sym (append_assoc old.pass.seen (joined_events kept.pieces) kept.unwritten))
+    let parts : given ++ looks.history ≡ past ++ later =
+    ap (λ (seen : List Event). given ++ seen) (sym looks.found.seen.1)
+    ∙ sym (append_assoc given now.pass.seen more)
+    ∙ ap (λ (all : List Event). all ++ more) kept.whole
     ∙ append_assoc past kept.unwritten more in
-    let copies = looks.told (given ++ past) later (ap (λ (es : List Event). given ++ es) parts ∙ sym (append_assoc given past later)) kept.at in
-    let joined : past ++ copies.part ≡ old.pass.seen ++ joined_events (kept.pieces ++ copies.part ∷ []) =
-    append_assoc old.pass.seen (joined_events kept.pieces) copies.part
-    ∙ ap (λ (es : List Event). old.pass.seen ++ es) (sym (joined_more kept.pieces copies.part)) in
+    let copies = looks.told past later parts kept.at in
+    let joined : past ++ copies.part ≡ joined_events (kept.pieces ++ copies.part ∷ []) = sym (joined_more kept.pieces copies.part) in
     record {
       pieces = kept.pieces;
       piece = copies.part;
@@ -99,13 +103,14 @@ one_looked given names old now after place new runs is_all kept looks =
       seen = record {
         unwritten = copies.rest;
         whole =
-            ap (λ (pass : PassView). pass.seen) looks.after
+            ap (λ (pass : PassView). given ++ pass.seen) looks.after
             ∙ parts
             ∙ ap (λ (es : List Event). past ++ es) copies.whole
             ∙ sym (append_assoc past copies.part copies.rest)
-            ∙ ap (λ (es : List Event). es ++ copies.rest) joined
-            ∙ append_assoc old.pass.seen (joined_events (kept.pieces ++ copies.part ∷ [])) copies.rest;
-        at = copies.place ∙ ap passed (append_assoc given past copies.part ∙ ap (λ (es : List Event). given ++ es) joined);
+            ∙ ap (λ (es : List Event). es ++ copies.rest) joined;
+        seen = prefix_trans old.pass.seen now.pass.seen after.seen kept.seen
+            (subst (λ (pass : PassView). IsPrefix now.pass.seen pass.seen) (sym looks.after) looks.found.seen);
+        at = copies.place ∙ ap passed joined;
         stop = copies.stop;
         idle = (
           ap (λ (pass : PassView). pass.made) looks.after ∙ kept.idle.0,
@@ -133,6 +138,7 @@ piece_kept given names old now sink place runs looked sends = record {
   pieces = looked.pieces ++ looked.piece ∷ [];
   unwritten = looked.seen.unwritten;
   whole = looked.seen.whole;
+  seen = looked.seen.seen;
   at = looked.seen.at;
   idle = looked.seen.idle;
   sink = piece_sent given sent.All names old now sink place runs looked sends;
@@ -146,15 +152,15 @@ log_ends given result names old now sink place runs looked sends ends = record {
   pieces = looked.pieces ++ looked.piece ∷ [];
   unwritten = looked.seen.unwritten;
   whole = looked.seen.whole;
+  seen = looked.seen.seen;
   all = λ all.
       let none : looked.seen.unwritten ≡ [] = looked.seen.stop (ends all) in
       let pieces : List (List Event) = looked.pieces ++ looked.piece ∷ [] in
-      let seen : old.pass.seen ++ joined_events pieces ≡ now.pass.seen =
-      sym (looked.seen.whole ∙ ap (λ (es : List Event). old.pass.seen ++ (joined_events pieces ++ es)) none
-      ∙ ap (λ (es : List Event). old.pass.seen ++ es) (append-nil (joined_events pieces))) in (
+      let seen : joined_events pieces ≡ given ++ now.pass.seen =
+      sym (looked.seen.whole ∙ ap (λ (es : List Event). joined_events pieces ++ es) none ∙ append-nil (joined_events pieces)) in (
         none,
-        ap (λ (es : List Event). is_some (stop_at (given ++ es))) (sym seen)
-            ∙ sym (behind_stop (given ++ (old.pass.seen ++ joined_events pieces)))
+        ap (λ (es : List Event). is_some (stop_at es)) (sym seen)
+            ∙ sym (behind_stop (joined_events pieces))
             ∙ ap (λ (p : Passed). p.stopped) (sym looked.seen.at)
             ∙ ends all,
       );

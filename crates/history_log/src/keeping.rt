@@ -13,30 +13,27 @@ use play_types::MediaNames;
 use stage_lock::{Pass, SharedStage};
 use std::sync::Wait;
 
-/// Writes the events after `place` to the log as they come, as text in which clips are named as in `names`, until it has written the
-/// stop or a write fails.
+/// Writes all events of the stage to the log, as text in which clips are named as in `names`, until it has written the stop or a write
+/// fails: first the events that the stage was given when it was shared, and then those that came since, as they come.
 ///
-/// `place` is after the events that the stage was given when it was shared and those that the pass has seen: their text is not written.
-/// The pass makes no event of its own. Each read of the journal copies the events that have come since, as many as the room holds, and
-/// then their whole lines are written, a piece of the history at a time. After a read that reached the end of the journal, `log` rests
-/// before the next one.
+/// The pass makes no event of its own. Each read of the journal copies the events that are not written yet, as many as the room holds,
+/// and then their whole lines are written, a piece of the history at a time. After a read that reached the end of the journal, `log`
+/// rests before the next one.
 ///
 /// The result is `Failed` if a write failed. Then the log has a prefix of the text, and nothing more is written.
 pub fn keep_log<R: Wait, K: Rest>(
     rt: &R,
     stage: &SharedStage,
     pass: &mut Pass,
-    place: Place,
     room: &mut LogRoom,
     names: &MediaNames,
     log: &mut K,
 ) -> Sent
     requires of { pass.old.stage ≡ stage.now }
-    requires place { place ≡ passed (whole stage.now.sizes pass.old.seen) }
     ensures of { pass.new.stage ≡ stage.now }
     ensures keeps { KeepsLog stage.now.sizes.given names.now result (record { pass = pass.old; sink = K.state log.old }) (record { pass = pass.new; sink = K.state log.new }) }
 {
-    let mut place = place;
+    let mut place = Place::start();
     let mut text = Gather::<GATHERED>::new();
     for _ in rt.forever() {
         let is_all = look(rt, stage, pass, &mut place, room);

@@ -18,6 +18,8 @@ mod config_file_tests;
 #[cfg(test)]
 mod frame_writer_tests;
 #[cfg(test)]
+mod history_reader_tests;
+#[cfg(test)]
 mod host_system_tests;
 #[cfg(test)]
 mod lane_blend_tests;

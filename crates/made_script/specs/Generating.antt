@@ -20,6 +20,7 @@ Generates seed steps (Some faults.InputTooLong) before after = ⊥
 Generates seed steps (Some (faults.Plan number)) before after = ⊥
 Generates seed steps (Some faults.PlanEnd) before after = ⊥
 Generates seed steps (Some (faults.Record name)) before after = ⊥
+Generates seed steps (Some (faults.Resume number)) before after = ⊥
 Generates seed steps (Some (faults.Clip fault)) before after = ⊥
 Generates seed steps (Some (faults.MediaTwice name)) before after = ⊥
 Generates seed steps (Some (faults.MediaTotal sum)) before after = ⊥

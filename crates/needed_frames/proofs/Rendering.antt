@@ -1,5 +1,5 @@
 -- The frames of a renderer that makes frames from a tick on.
-use Rattle.std.proofs.Common.{◌≡◌, ◌≢◌, ℕ, ◌+◌, ◌-◌, ◌<◌, ◌≤◌, ◌++◌, cond, List, [], ◌∷◌, length, map, reverse, refl, sym, ap, ◌∙◌, subst, arith}
+use Rattle.std.proofs.Common.{◌≡◌, ◌≢◌, ℕ, zero, suc, ◌+◌, ◌-◌, ◌<◌, ◌≤◌, ◌++◌, cond, List, [], ◌∷◌, length, map, reverse, refl, sym, ap, ◌∙◌, subst, arith}
 use Rattle.std.specs.Prelude.{FitsSigned, pos}
 use Rattle.std.specs.Int.{w16}
 use Rattle.std.proofs.lemmas.Bool.{le-ltb, lt-ltb}
@@ -11,10 +11,10 @@ use Rattle.play_types.specs.declared.event.Event.{Event}
 use Rattle.play_types.specs.declared.event.Event.TheVariants.{Do, Batch, Tick, Stop}
 use Rattle.pixel_math.specs.Pixel.{transparent}
 use Rattle.clip_format.specs.Table.{Entry}
-use Rattle.history_model.specs.pictures.Frame.{frame_pixel, last_pixel, scene_pixel}
+use Rattle.history_model.specs.pictures.Frame.{frame_pixel, frames_back, last_pixel, scene_pixel}
 use Rattle.history_model.specs.pictures.Media.{Setup, size}
 use Rattle.history_model.specs.pictures.Scene.{scene, scene_back}
-use Rattle.history_model.specs.pictures.Sound.{frame_sample, last_sample, sample_sum, scene_sample, still_sample}
+use Rattle.history_model.specs.pictures.Sound.{frame_sample, last_sample, sample_sum, scene_sample, sounds_back, still_sample}
 use Rattle.history_model.specs.text.Frames.{frame_bytes}
 use Rattle.history_model.proofs.Events.{ticks-reverse}
 use Rattle.play_scene.specs.Frames.{FrameView, Shows, frame_at, zero_frame}
@@ -28,10 +28,11 @@ use Rattle.band_render.specs.Histories.{HasFrame, Represents, scenes_after}
 use Rattle.band_render.specs.Rendered.{AreRendered, sizes}
 use Rattle.band_render.proofs.Ticks.{scene_there, size_in_setup}
 use Rattle.band_render.proofs.Writing.{same_many, same_size}
-use Rattle.needed_frames.specs.Depth.{depth, depth_back, last_depth}
+use Rattle.needed_frames.specs.Depth.{depth, depth_back, greatest_depth, last_depth}
 use Rattle.needed_frames.specs.Made.{frames_from, last_pixel_from, last_sample_from, pixel_from, sample_from, sounds_from}
 use Rattle.needed_frames.specs.Rendered.{RepresentsFrom, pictures_from, sounds_made_from}
-use Rattle.needed_frames.proofs.Whole.{whole_frames, whole_pixel, whole_sample, whole_sounds}
+use Rattle.needed_frames.proofs.Greatest.{deepest}
+use Rattle.needed_frames.proofs.Whole.{last-within, whole_frames, whole_pixel, whole_sample, whole_sounds}
 
 -- an event that is no tick does not change the last pixels and samples
 pixels_stay : (setup : Setup) (from : ℕ) (event : Event) (back : List Event) (channel x y : ℕ) → event ≢ Tick →
@@ -248,6 +249,54 @@ module _ (setup : Setup) (from : ℕ) (history : List Event) where
                 sym (whole_sounds setup from (reverse history) channel (within channel h) pair side) ∙ is.sounds.samples channel pair side h below small;
           };
         }
+
+-- before the first tick all frames are blank, and the history has no others
+no_pixel : (setup : Setup) (back : List Event) (channel x y : ℕ) → ticks back ≡ 0 → frames_back setup back channel x y ≡ transparent
+no_pixel setup [] channel x y none = refl
+no_pixel setup (Do tag cmd ∷ before) channel x y none = no_pixel setup before channel x y none
+no_pixel setup (Batch tag cmds ∷ before) channel x y none = no_pixel setup before channel x y none
+no_pixel setup (Tick ∷ before) channel x y none = absurd (omega (arith, none))
+no_pixel setup (Stop tag ∷ before) channel x y none = no_pixel setup before channel x y none
+
+no_sample : (setup : Setup) (back : List Event) (channel pair side : ℕ) → ticks back ≡ 0 → sounds_back setup back channel pair side ≡ pos 0
+no_sample setup [] channel pair side none = refl
+no_sample setup (Do tag cmd ∷ before) channel pair side none = no_sample setup before channel pair side none
+no_sample setup (Batch tag cmds ∷ before) channel pair side none = no_sample setup before channel pair side none
+no_sample setup (Tick ∷ before) channel pair side none = absurd (omega (arith, none))
+no_sample setup (Stop tag ∷ before) channel pair side none = no_sample setup before channel pair side none
+
+module _ (setup : Setup) (from : ℕ) (history : List Event) (entries : List Entry) (frames : List FrameView)
+    (is : RepresentsFrom setup from history entries frames) where
+  whole-none : ticks history ≡ 0 → Represents setup history entries frames
+  unfolding last_pixel_from last_pixel last_sample_from last_sample
+  whole-none none =
+      let back : ticks (reverse history) ≡ 0 = ticks-reverse history ∙ none in
+      record {
+        pictures = record {
+          clips = is.pictures.clips;
+          sizes = is.pictures.sizes;
+          pixels = λ channel x y h inside below.
+              no_pixel setup (reverse history) channel x y back ∙ sym (blank_pixel setup from (reverse history) channel x y (omega (arith, back)))
+              ∙ is.pictures.pixels channel x y h inside below;
+        };
+        sounds = record {
+          clips = is.sounds.clips;
+          sizes = is.sounds.sizes;
+          samples = λ channel pair side h below small.
+              no_sample setup (reverse history) channel pair side back ∙ sym (blank_sample setup from (reverse history) channel pair side (omega (arith, back)))
+              ∙ is.sounds.samples channel pair side h below small;
+        };
+      }
+
+  -- frames from the tick on that is earlier by the greatest depth are those of the whole history at the last tick
+  pub whole-last : from ≤ ticks history - 1 - greatest_depth (length frames) history → Represents setup history entries frames
+  whole-last early = by_ticks (ticks history) refl
+    where
+      by_ticks : (n : ℕ) → ticks history ≡ n → Represents setup history entries frames
+      by_ticks zero none = whole-none none
+      by_ticks (suc n) some =
+          from-whole setup from history entries frames
+          (λ channel h. omega (arith, early, some, deepest (length frames) history channel h, last-within history channel)) is
 
 -- new frames, before the first event
 pub from-first : (setup : Setup) (from : ℕ) (channels : List ChannelView) (entries : List Entry) → setup.clips ≡ clips_of entries

@@ -35,6 +35,11 @@ pub depth-ticks : (history : List Event) (channel : ℕ) → depth history chann
 unfolding depth
 depth-ticks history channel = omega (arith, ticks-reverse history, depth_within (Tick ∷ reverse history) channel)
 
+-- at the last tick it is less deep than the ticks
+pub last-within : (history : List Event) (channel : ℕ) → last_depth history channel ≤ ticks history - 1
+unfolding last_depth
+last-within history channel = omega (arith, ticks-reverse history, depth_within (reverse history) channel)
+
 -- frames that are made from a tick on
 module _ (setup : Setup) (from : ℕ) where
   pub whole_frames : (back : List Event) (channel : ℕ) → from + depth_back back channel < ticks back → IsSameFrame (frames_from setup from back) (frames_back setup back) channel

@@ -1,5 +1,6 @@
 -- How far back frames are needed. A history that is called `back` is read backward, its last event first.
 use Rattle.std.specs.Prelude.{ℕ, ◌+◌, max, nat_lt, if◌then◌else◌, List, [], ◌∷◌, ◌++◌, flat_map, map, reverse}
+use Rattle.std.specs.List.{range_with_len}
 use Rattle.play_types.specs.declared.drawn.Drawn.{Drawn}
 use Rattle.play_types.specs.declared.drawn.Still.{Still}
 use Rattle.play_types.specs.declared.drawn.Still.TheVariants.{Nothing, Colour, Frame, Channel}
@@ -44,6 +45,10 @@ depth_back (Stop tag ∷ before) channel = depth_back before channel
 -- the depth of a channel at the last tick of a history, 0 if it has no tick
 unfoldable pub last_depth : List Event → ℕ → ℕ
 last_depth history channel = depth_back (reverse history) channel
+
+-- the greatest depth of channels 1 to `channels` at the last tick of a history
+abbrev pub greatest_depth : ℕ → List Event → ℕ
+greatest_depth channels history = greatest (map (last_depth history) (range_with_len 1 channels))
 
 -- the depth of a channel at the tick after a history
 unfoldable pub depth : List Event → ℕ → ℕ

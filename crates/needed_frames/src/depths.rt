@@ -8,7 +8,7 @@ ghost use Rattle.play_types.specs.declared.event.TheConstants.{MAX_TICKS};
 ghost use Rattle.play_types.specs.declared.place.TheConstants.{MAX_CHANNELS};
 ghost use Rattle.band_render.specs.Histories.{scenes_after};
 ghost use Rattle.needed_frames.specs.Counted.{HasDepths, depth_at};
-ghost use Rattle.needed_frames.specs.Depth.{channel_of, depth_behind, layer_channels, shown_channels};
+ghost use Rattle.needed_frames.specs.Depth.{channel_of, depth_behind, greatest_depth, layer_channels, shown_channels};
 
 use play_types::{Drawn, MAX_CHANNELS, Scene, Scenes, Still, channel_index};
 use std::marker::Model;
@@ -73,6 +73,19 @@ impl Depths {
         ensures within { result ≤ self.now.ticks }
     {
         self.depths[channel_index(channel)]
+    }
+
+    /// Returns the greatest depth of channels 1 to `channels`, at most `MAX_CHANNELS`, at the last tick.
+    pub fn greatest(&self, channels: u8) -> u64
+        requires { channels ≤ MAX_CHANNELS }
+        ensures value { (history : List Event) → HasDepths channels history self.now → result ≡ greatest_depth channels history }
+        ensures within { result ≤ self.now.ticks }
+    {
+        let mut greatest = 0;
+        for before in 0..channels {
+            greatest = self.depth(before + 1).max(greatest);
+        }
+        greatest
     }
 
     /// Returns the depth of a channel with this scene at the next tick.

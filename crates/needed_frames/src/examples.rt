@@ -1,5 +1,5 @@
 //! Worked histories. The checker computes how deep their channels are, and what is shown if frames are made from a tick on.
-#![tactic(auto, unfolding(crate::specs::Depth::depth, crate::specs::Made::pixel_from))]
+#![tactic(auto, unfolding(crate::specs::Depth::depth, crate::specs::Depth::last_depth, crate::specs::Made::pixel_from))]
 
 ghost use Rattle.std.specs.Prelude.{◌≡◌, ◌∷◌, ◌++◌, [], pos};
 ghost use Rattle.play_types.specs.declared.event.Event.TheVariants.{Tick};
@@ -7,7 +7,7 @@ ghost use Rattle.play_types.specs.declared.setting.Prop.TheVariants.{Opacity};
 ghost use Rattle.play_types.specs.declared.transition.Kind.TheVariants.{Mix};
 ghost use Rattle.pixel_math.specs.Pixel.{pixel_bytes};
 ghost use Rattle.history_model.specs.Worked.{at, by, layer_route, number, plays, red, rightward, route, sets, three, ticking};
-ghost use Rattle.needed_frames.specs.Depth.{depth};
+ghost use Rattle.needed_frames.specs.Depth.{depth, greatest_depth};
 ghost use Rattle.needed_frames.specs.Made.{pixel_from};
 ghost use Rattle.needed_frames.specs.Worked.{mirror, relay};
 
@@ -43,6 +43,13 @@ pub fn transition_from_a_route()
 /// A route whose opacity is 0 is drawn, and may be heard: it needs the tick before.
 pub fn route_without_opacity()
     ensures { depth (plays (at 2 0) (route 1) ∷ sets (at 2 0) Opacity (number (pos 0)) ∷ ticking 2) 2 ≡ 1 }
+{}
+
+/// The greatest depth is that of the deepest of the first channels, at the last tick. It is 0 before the first tick.
+pub fn deepest_channel()
+    ensures all { greatest_depth 3 (relay ++ ticking 3) ≡ 2 }
+    ensures first_two { greatest_depth 2 (relay ++ ticking 3) ≡ 1 }
+    ensures none { greatest_depth 3 relay ≡ 0 }
 {}
 
 /// At the fourth tick of a chain of three channels the last one shows the red of the first, if frames are made from the second tick

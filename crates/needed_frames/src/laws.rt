@@ -14,7 +14,7 @@ ghost use Rattle.play_scene.specs.Picture.{clips_of};
 ghost use Rattle.band_render.specs.Histories.{HasFrame, Represents, scenes_after};
 ghost use Rattle.band_render.specs.Rendered.{AreRendered, sizes};
 ghost use Rattle.needed_frames.specs.Counted.{DepthsView, HasDepths};
-ghost use Rattle.needed_frames.specs.Depth.{depth, last_depth};
+ghost use Rattle.needed_frames.specs.Depth.{depth, greatest_depth, last_depth};
 ghost use Rattle.needed_frames.specs.Made.{last_pixel_from, last_sample_from, pixel_from, sample_from};
 ghost use Rattle.needed_frames.specs.Rendered.{RepresentsFrom};
 
@@ -65,7 +65,8 @@ pub fn frames_are_made_from_a_tick()
 {}
 
 /// If frames are made from an early enough tick on, the frame of a channel is that in the whole history. Once this is so for all
-/// channels, the frames represent the whole history, as if none had been left out.
+/// channels, the frames represent the whole history, as if none had been left out. At the last tick this is so if frames are made from
+/// the tick on that is as many ticks earlier as the greatest depth, or from one before that.
 pub fn rendered_frames_are_whole()
     ensures frame { (setup : Setup) (from : ℕ) (history : List Event) (entries : List Entry) (prev next : List FrameView) (channel : ℕ) →
         from ≤ ticks history - depth history channel → RepresentsFrom setup from history entries prev →
@@ -73,5 +74,8 @@ pub fn rendered_frames_are_whole()
         HasFrame setup history channel (frame_at channel next) }
     ensures all { (setup : Setup) (from : ℕ) (history : List Event) (entries : List Entry) (frames : List FrameView) →
         ((channel : ℕ) → IsConfigured (length frames) channel → from + last_depth history channel < ticks history) →
+        RepresentsFrom setup from history entries frames → Represents setup history entries frames }
+    ensures last { (setup : Setup) (from : ℕ) (history : List Event) (entries : List Entry) (frames : List FrameView) →
+        from ≤ ticks history - 1 - greatest_depth (length frames) history →
         RepresentsFrom setup from history entries frames → Represents setup history entries frames }
 {}

@@ -1,3 +1,4 @@
+pub mod ServedScripts
 pub mod Marks
 pub mod Events
 pub mod FilmFrames
@@ -6,7 +7,10 @@ pub mod Refusals
 pub mod Playing
 pub mod Texts
 pub mod Needed
+pub mod DepthReplays
+pub mod FrameReplays
 pub mod Looking
 pub mod Recorders
+pub mod LastTicks
 pub mod LowPixels
 pub mod FilmClips

@@ -1,5 +1,7 @@
 pub mod Begun
 pub mod EachEvent
 pub mod Replay
+pub mod Frames
 pub mod Recorder
+pub mod Depths
 pub mod Needed

@@ -6,13 +6,13 @@ ghost use Rattle.play_types.specs.declared.event.Event.TheVariants.{Tick};
 ghost use Rattle.play_types.specs.declared.event.TheConstants.{MAX_TICKS};
 ghost use Rattle.stage_core.specs.Stage.{after_event};
 ghost use Rattle.play_recorder.specs.Recording.{AreServedEvents};
-ghost use Rattle.play_recorder.specs.inner.Needed.{IsLook, first_needed, least_at};
+ghost use Rattle.play_recorder.specs.inner.Depths.{KnowsDepths};
+ghost use Rattle.play_recorder.specs.inner.Needed.{first_needed, least_at};
 ghost use Rattle.play_recorder.specs.inner.Replay.{CanPlay, events_in, new_stage};
 
+use crate::depth_replay::DepthReplay;
 use crate::each_event::each_event;
 use crate::film::Film;
-use crate::replay::Replay;
-use needed_frames::Depths;
 use play_journal::Journal;
 use play_types::{Config, Event};
 use std::alloc::{AllocError, Global};
@@ -33,7 +33,7 @@ pub(crate) fn first_needed(
     let _held = journal.held();
     let mut look = Look::new(alloc, config, film)?;
     for event in each_event(journal) {
-        if film.is_over(look.replay.stage.journal().ticks()) {
+        if film.is_over(look.replay.played.stage.journal().ticks()) {
             return Ok(look.first);
         }
         look.event(alloc, event)?;
@@ -41,40 +41,38 @@ pub(crate) fn first_needed(
     Ok(look.first)
 }
 
-/// The frames that a film needs, by the events so far: the depths of all channels, and the number of ticks before the first needed one.
+/// The frames that a film needs, by the events so far: the number of ticks before the first needed one.
 #[derive(Drop)]
 pub(crate) struct Look<'a> {
     pub(crate) film: &'a Film,
-    pub(crate) replay: Replay,
-    pub(crate) depths: Depths,
+    pub(crate) replay: DepthReplay,
     pub(crate) first: u64,
 }
 
 impl<'a> Look<'a> {
     /// Creates the look for a film, before the first event, with memory for the live layers and the scenes of all channels.
     fn new(alloc: Global, config: &Config, film: &'a Film) -> Result<Look<'a>, AllocError>
-        ensures look { IfOk result IsLook }
-        ensures new { IfOk result (λ look. look.replay.stage ≡ new_stage config.now) }
+        ensures depths { IfOk result (λ look. KnowsDepths look.replay) }
+        ensures new { IfOk result (λ look. look.replay.played.stage ≡ new_stage config.now) }
         ensures film { IfOk result (λ look. look.film.now ≡ film.entry.now) }
         ensures first { IfOk result (λ look. look.first ≡ film.entry.now.first) }
     {
         Ok(Look {
             film,
-            replay: Replay::new(alloc, config)?,
-            depths: Depths::new(),
+            replay: DepthReplay::new(alloc, config)?,
             first: film.first,
         })
     }
 
     /// Plays an event.
     fn event(&mut self, alloc: Global, event: &Event) -> Result<(), AllocError>
-        requires look { IsLook self.old }
-        requires channel { IsConfigured self.old.replay.stage.channels self.old.film.now.channel }
-        requires can { CanPlay self.old.replay.stage (events_in self.old.replay ++ event.now ∷ []) }
-        ensures look { OnOk result (IsLook self.new) }
-        ensures made { OnOk result (self.new.replay.stage ≡ after_event event.now self.old.replay.stage) }
+        requires depths { KnowsDepths self.old.replay }
+        requires channel { IsConfigured self.old.replay.played.stage.channels self.old.film.now.channel }
+        requires can { CanPlay self.old.replay.played.stage (events_in self.old.replay.played ++ event.now ∷ []) }
+        ensures depths { OnOk result (KnowsDepths self.new.replay) }
+        ensures made { OnOk result (self.new.replay.played.stage ≡ after_event event.now self.old.replay.played.stage) }
         ensures film { self.new.film.now ≡ self.old.film.now }
-        ensures first { OnOk result (self.new.first ≡ least_at self.old.film.now (events_in self.old.replay) event.now self.old.first) }
+        ensures first { OnOk result (self.new.first ≡ least_at self.old.film.now (events_in self.old.replay.played) event.now self.old.first) }
     {
         match event {
             Event::Tick => {
@@ -90,21 +88,20 @@ impl<'a> Look<'a> {
 
     /// Makes the next tick and its scenes. If the tick is recorded, the frames that it needs are taken into account.
     fn tick(&mut self)
-        requires look { IsLook self.old }
-        requires channel { IsConfigured self.old.replay.stage.channels self.old.film.now.channel }
-        requires running { stop_at (events_in self.old.replay) ≡ None }
-        requires time { ticks (events_in self.old.replay) < MAX_TICKS }
-        ensures look { IsLook self.new }
-        ensures made { self.new.replay.stage ≡ after_event Tick self.old.replay.stage }
+        requires depths { KnowsDepths self.old.replay }
+        requires channel { IsConfigured self.old.replay.played.stage.channels self.old.film.now.channel }
+        requires running { stop_at (events_in self.old.replay.played) ≡ None }
+        requires time { ticks (events_in self.old.replay.played) < MAX_TICKS }
+        ensures depths { KnowsDepths self.new.replay }
+        ensures made { self.new.replay.played.stage ≡ after_event Tick self.old.replay.played.stage }
         ensures film { self.new.film.now ≡ self.old.film.now }
-        ensures first { self.new.first ≡ least_at self.old.film.now (events_in self.old.replay) Tick self.old.first }
+        ensures first { self.new.first ≡ least_at self.old.film.now (events_in self.old.replay.played) Tick self.old.first }
     {
-        let before = self.replay.stage.journal().ticks();
+        let before = self.replay.played.stage.journal().ticks();
         self.replay.tick();
-        self.depths.tick(&self.replay.scenes);
         let film = self.film;
         if film.has(before) {
-            let depth = self.depths.depth(film.channel);
+            let depth = self.replay.depths.depth(film.channel);
             self.first = before.saturating_sub(depth).min(self.first);
         }
     }

@@ -5,12 +5,13 @@ ghost use Rattle.play_types.specs.History.{held};
 ghost use Rattle.history_model.specs.recordings.Film.{film_span, filmed};
 ghost use Rattle.play_types.specs.Scene.{IsConfigured};
 ghost use Rattle.play_recorder.specs.Recording.{AreServedEvents, Records, setup_with};
+ghost use Rattle.play_recorder.specs.inner.Frames.{IsReady};
 ghost use Rattle.play_recorder.specs.inner.Needed.{first_needed};
-ghost use Rattle.play_recorder.specs.inner.Recorder.{IsReady};
 ghost use Rattle.play_recorder.specs.inner.Replay.{new_stage};
 
 use crate::film::Film;
 use crate::first_needed::first_needed;
+use crate::frame_replay::FrameReplay;
 use crate::recorder::Recorder;
 use crate::watcher::{Unwatched, Watcher};
 use clip_format::MediaTable;
@@ -99,6 +100,7 @@ impl<'a> FilmSource<'a> {
             Err(AllocError) => Recorded::OutOfMemory,
         }
     }
+
     /// Creates the recorder of the film, which makes no frames before those that the film needs.
     fn recorder(self, alloc: Global) -> Result<Recorder<'a>, AllocError>
         requires channel { IsConfigured (length self.config.now.channels) self.film.now.channel }
@@ -106,21 +108,18 @@ impl<'a> FilmSource<'a> {
         requires few_workers { self.workers ≤ 64 }
         requires served { AreServedEvents (length self.config.now.channels) self.journal.now.events }
         requires room { held self.journal.now.events ≤ self.config.now.journal_limit }
-        ensures ready { IfOk result IsReady }
-        ensures new { IfOk result (λ recorder. recorder.replay.stage ≡ new_stage self.entry.config.now) }
-        ensures config { IfOk result (λ recorder. recorder.config.now ≡ self.entry.config.now) }
-        ensures media { IfOk result (λ recorder. recorder.media.now ≡ self.entry.media.now) }
+        ensures ready { IfOk result (λ recorder. IsReady recorder.replay) }
+        ensures new { IfOk result (λ recorder. recorder.replay.played.stage ≡ new_stage self.entry.config.now) }
+        ensures config { IfOk result (λ recorder. recorder.replay.config.now ≡ self.entry.config.now) }
+        ensures media { IfOk result (λ recorder. recorder.replay.media.now ≡ self.entry.media.now) }
         ensures film { IfOk result (λ recorder. recorder.film.now ≡ self.entry.film.now) }
-        ensures needed { IfOk result (λ recorder. recorder.skipped ≡ first_needed self.entry.film.now self.entry.journal.now.events) }
+        ensures needed { IfOk result (λ recorder. recorder.replay.skipped ≡ first_needed self.entry.film.now self.entry.journal.now.events) }
     {
         let skipped = first_needed(alloc, self.config, self.journal, self.film)?;
-        Recorder::new(
-            alloc,
-            self.config,
-            self.media,
-            self.film,
-            self.workers,
-            skipped,
-        )
+        let (config, media) = (self.config, self.media);
+        Ok(Recorder {
+            film: self.film,
+            replay: FrameReplay::new(alloc, config, media, self.workers, skipped)?,
+        })
     }
 }

@@ -22,12 +22,12 @@ use Rattle.play_ticker.specs.Ends.{Meets, clock_at_end}
 use Rattle.play_ticker.specs.Outputs.{AreWritten, EachOutput, IsCutAt, Shown, TakesFrames}
 use Rattle.play_ticker.specs.declared.ending.TickEnd.{TickEnd}
 use Rattle.play_ticker.specs.declared.ending.TickEnd.TheVariants.{ClockClosed, Ended, TicksOver, ClockFault, OutFault}
-use Rattle.play_server.specs.Doors.{DoorRun, EachDoor, HasServed, faults_after, is_door_fault}
-use Rattle.play_server.specs.Run.{HasRun, IsMadeBy, Program, TicksEndBy, ends_so, has_device_fault, is_cut, is_found, is_tick_fault}
-use Rattle.play_server.specs.Site.{DeviceStates}
+use Rattle.server_run.specs.Doors.{DoorRun, EachDoor, HasServed, faults_after, is_door_fault}
+use Rattle.server_run.specs.Run.{HasRun, IsMadeBy, Program, TicksEndBy, ends_so, has_device_fault, is_cut, is_found, is_tick_fault}
+use Rattle.server_run.specs.Devices.{DeviceStates}
 use Rattle.play_server.specs.Statuses.{ADeviceFails, AllStay, AnyRose, IsStopped, NoDeviceFails}
-use Rattle.play_server.specs.declared.served.ServeEnd.{ServeEnd}
-use Rattle.play_server.specs.declared.served.ServeEnd.TheVariants as serve
+use Rattle.server_run.specs.declared.served.ServeEnd.{ServeEnd}
+use Rattle.server_run.specs.declared.served.ServeEnd.TheVariants as serve
 
 -- one more fault is a rise
 pub rises : (before after : ℕ) → after ≡ one_more before → Rose before after
@@ -184,7 +184,7 @@ module _ {C D O L : Type 0} (device : DeviceStates C D O L) (tells : L → SinkS
       elim (or_cases (is_tick_fault run.ticker) _ fault) [
         | inl ticker ↦ ticks_rose run.ticker run.met _ devices ticker (subst (λ (n : ℕ). Meets n run.ticker run.met) (sym outs) run.meets) run.clock run.outs
         | inr other ↦ elim (or_cases (list_any (λ (r : DoorRun L). is_door_fault r.end) run.runs) (is_cut run.written || is_cut run.logged) other) [
-          | inl door ↦ inr (inl (door_rose device.door _ run.history 1 run.runs devices.0.doors.items devices.1.doors.items run.doors door))
+          | inl door ↦ inr (inl (door_rose device.door _ run.came 1 run.runs devices.0.doors.items devices.1.doors.items run.doors door))
           | inr cut ↦ elim (or_cases (is_cut run.written) (is_cut run.logged) cut) [
             | inl text ↦ inr (inr (inr (inl (cut_rose run.written _ _ _ text run.text))))
             | inr log ↦ inr (inr (inr (inr (cut_rose run.logged _ _ _ log run.log.sends))))
@@ -208,7 +208,7 @@ module _ {C D O L : Type 0} (device : DeviceStates C D O L) (tells : L → SinkS
   devices_stay devices run =
       let well = no_faults devices run in record {
         clock = kept_clock run.met _ _ _ (ap is_tick_fault (met_well (length program.config.channels) run.ticker run.met well.0 run.meets) ∙ well.0) run.clock;
-        doors = doors_stay device.door _ run.history 1 run.runs devices.0.doors.items devices.1.doors.items run.doors well.1;
+        doors = doors_stay device.door _ run.came 1 run.runs devices.0.doors.items devices.1.doors.items run.doors well.1;
         outs = outs_stay device.out _ run.ticker devices.0.outs.items devices.1.outs.items well.0 run.outs;
         history = uncut_stays run.written _ _ _ well.2 run.text;
         log = uncut_stays run.logged _ _ _ well.3 run.log.sends;
@@ -216,17 +216,17 @@ module _ {C D O L : Type 0} (device : DeviceStates C D O L) (tells : L → SinkS
 
   -- who made the last event
   stop_made : (devices : Devices C D O × Devices C D O) (end : ServeEnd) (run : HasRun device tells program end devices)
-      → IsMadeBy run.runs (Stop run.stopped.tag)
+      → IsMadeBy program.given run.runs (Stop run.stopped.tag)
   stop_made devices end run =
-      last_of_all (IsMadeBy run.runs) run.stopped.events (Stop run.stopped.tag)
-      (recursion_from_All (IsMadeBy run.runs) (run.stopped.events ++ Stop run.stopped.tag ∷ [])
-      (subst (λ (events : List Event). All (IsMadeBy run.runs) events) run.stopped.whole run.made))
+      last_of_all (IsMadeBy program.given run.runs) run.stopped.events (Stop run.stopped.tag)
+      (recursion_from_All (IsMadeBy program.given run.runs) (run.stopped.events ++ Stop run.stopped.tag ∷ [])
+      (subst (λ (events : List Event). All (IsMadeBy program.given run.runs) events) run.stopped.whole run.made))
 
   -- what ended the pulses of a run that the server itself stopped
   ended_by : (devices : Devices C D O × Devices C D O) (run : HasRun device tells program serve.Ended devices) (end : TickEnd) → run.met ≡ end → run.ticker ≡ end
       → is_found end ≡ false → is_tick_fault end ≡ false → IsStopped run
   ended_by devices run ClockClosed is ticker_is found well =
-      let clock = subst (λ (e : TickEnd). device.clock devices.1.clock ≡ clock_at_end e (ticks run.history) (device.clock devices.0.clock)) is run.clock in
+      let clock = subst (λ (e : TickEnd). device.clock devices.1.clock ≡ clock_at_end e (ticks run.came) (device.clock devices.0.clock)) is run.clock in
       inr (inl (ticker_is, subst (λ (s : ClockState). IfSome s.told (λ told. told.closed ≡ true)) (sym clock) (told_closed _)))
   ended_by devices run (Ended at) is ticker_is found well = absurd (true≢false found)
   ended_by devices run TicksOver is ticker_is found well = inr (inr (subst (TicksEndBy run.history) is run.pulses))

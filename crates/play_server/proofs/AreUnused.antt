@@ -3,7 +3,8 @@ use Rattle.std.proofs.Common.{◌≡◌, List, [], ◌∷◌, Bool, false, lengt
 use Rattle.std.specs.Prelude.{Option, Some, None, IfSome, slice_index_or}
 use Rattle.play_outside.specs.ListenerState.{ListenerTold, ListenerState}
 use Rattle.play_outside.specs.declared.devices.Devices.{Devices}
-use Rattle.play_server.specs.Site.{DeviceStates, AreNew, IsNewDoor}
+use Rattle.server_run.specs.Devices.{DeviceStates}
+use Rattle.play_server.specs.Site.{AreNew, IsNewDoor}
 use Rattle.play_server.specs.Unused.{AreUnused, IsUnusedDoor}
 
 fresh_told : {L : Type 0} → (told : Option (ListenerTold L))

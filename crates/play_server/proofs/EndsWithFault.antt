@@ -2,7 +2,7 @@
 use Rattle.std.proofs.Common.{◌≡◌, ◌≢◌, ℕ, refl, inl, inr}
 use Rattle.server_setup.specs.Fault.{HasDetail, status_of}
 use Rattle.server_setup.specs.declared.fault.RunFault.{RunFault}
-use Rattle.server_setup.specs.declared.fault.RunFault.TheVariants.{Usage, ConfigText, ConfigKey, BadLine, InputTooLong, Plan, PlanEnd, Record, Clip, MediaTwice, MediaTotal, Device, OutOfMemory}
+use Rattle.server_setup.specs.declared.fault.RunFault.TheVariants.{Usage, ConfigText, ConfigKey, BadLine, InputTooLong, Plan, PlanEnd, Record, Resume, Clip, MediaTwice, MediaTotal, Device, OutOfMemory}
 use Rattle.play_server.specs.Program.{SaysLine, TakesMemory}
 use Rattle.play_server.specs.SiteState.{SiteState}
 use Rattle.play_server.specs.inner.Ending.{EndsWithFault}
@@ -17,6 +17,7 @@ takes_memory InputTooLong detail other = detail
 takes_memory (Plan number) detail other = detail
 takes_memory PlanEnd detail other = detail
 takes_memory (Record name) detail other = detail
+takes_memory (Resume number) detail other = detail
 takes_memory (Clip fault) detail other = detail
 takes_memory (MediaTwice name) detail other = detail
 takes_memory (MediaTotal total) detail other = absurd (other total refl)

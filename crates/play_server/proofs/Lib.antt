@@ -1,33 +1,11 @@
-mod ADeviceFails
-pub mod AllZip
+pub mod ADeviceFails
 mod AreUnused
 mod CopyChannels
 mod EndsWithFault
-mod EndsWithStop
-mod Filmed
-mod GoesOnAfter
-mod HasBegun
 mod HasItsCause
-mod HasRun
-mod HasServed
-mod HasServedClients
-mod HasWorked
-mod HasWorkedAt
-mod HistoryOutput
-mod IsAnsweredAgain
-mod IsExplainedLink
-mod IsLogged
-mod IsOpenedAgain
-mod IsReplayable
-mod IsShownAgain
-mod ListenerState
-mod LoggedAgain
+mod IsLogOf
 pub mod OnLiterals
-mod PassView
-mod Reverse
 mod RunsLine
 mod RunsServer
+mod GoesOn
 mod SaysLine
-mod Tags
-mod WorkerPasses
-mod WriteHistory

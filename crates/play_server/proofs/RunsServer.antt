@@ -1,24 +1,33 @@
 -- The parts of the program's run, put together.
-use Rattle.std.proofs.Common.{◌≡◌, ℕ, true, List, refl, sym, ap, ◌∙◌, subst, inl, inr}
-use Rattle.std.specs.Prelude.{Option, Result, Ok, Err, option_map, string_bytes}
+use Rattle.std.proofs.Common.{◌≡◌, ℕ, true, false, List, refl, sym, ap, ◌∙◌, subst, inl, inr}
+use Rattle.std.specs.Prelude.{Option, Some, None, Result, Ok, Err, option_map, string_bytes}
+use Rattle.std.specs.Result.{IsErrAnd}
+use Rattle.std.proofs.lemmas.Option.{none-some}
 use Rattle.play_outside.specs.FolderState.{FolderState}
 use Rattle.play_outside.specs.SinkState.{SinkState}
 use Rattle.play_outside.specs.declared.devices.Devices.{Devices}
+use Rattle.play_outside.specs.declared.folder.FileFault.{FileFault}
+use Rattle.play_outside.specs.declared.folder.FileFault.TheVariants as file
+use Rattle.server_setup.specs.Fault.{fault_of_file}
 use Rattle.server_setup.specs.declared.fault.RunFault.{RunFault}
-use Rattle.server_setup.specs.declared.fault.RunFault.TheVariants.{Usage, ConfigText, ConfigKey, BadLine, InputTooLong, Plan, PlanEnd, Record, Clip, MediaTwice, MediaTotal, Device, OutOfMemory}
+use Rattle.server_setup.specs.declared.fault.RunFault.TheVariants.{Usage, ConfigText, ConfigKey, BadLine, InputTooLong, Plan, PlanEnd, Record, Resume, Clip, MediaTwice, MediaTotal, Device, OutOfMemory}
 use Rattle.server_setup.specs.Setup.{SetsUp}
 use Rattle.server_setup.specs.declared.setup.ServerSetup.{ServerSetup}
-use Rattle.play_server.specs.Program.{Asked, AtSite, IsToldAs, RunsLine, RunsOn, RunsServer, RunsSetUp, RunsWords, ServesOn, TakesMemory, asked_in, asked_of}
-use Rattle.play_server.specs.Run.{Program, Serves}
+use Rattle.play_server.specs.Program.{Asked, AtSite, IsToldAs, ResumesSetUp, Resumption, RunsLine, RunsOn, RunsRead, RunsServer, RunsSetUp, RunsWords, ServesOn, TakesMemory, asked_in, asked_of, asked_read, resumption_in}
+use Rattle.server_run.specs.Run.{Program, Serves}
 use Rattle.play_server.specs.ServerWords.{Accepts}
-use Rattle.play_server.specs.Site.{AreReady, DeviceStates, Finishes, ready_call}
+use Rattle.server_run.specs.Devices.{DeviceStates}
+use Rattle.play_server.specs.Site.{AreReady, Finishes, IsNotReady, ready_call}
 use Rattle.play_server.specs.SiteState.{SiteState, after_call}
-use Rattle.play_server.specs.declared.served.ServeEnd.{ServeEnd}
+use Rattle.server_run.specs.declared.served.ServeEnd.{ServeEnd}
+use Rattle.server_run.specs.declared.served.ServeEnd.TheVariants as serve
 use Rattle.play_server.specs.declared.site.FinishStep.{FinishStep}
+use Rattle.play_server.specs.declared.site.FinishStep.TheVariants as finish
 use Rattle.play_server.specs.declared.words.ServerWords.{ServerWords}
 use Rattle.play_server.specs.declared.words.ServerWordsFault.{ServerWordsFault}
 use Rattle.play_server.specs.declared.words.ServerWordsFault.TheVariants as words
 use Rattle.play_server.specs.inner.Ending.{EndsWithFault}
+use Rattle.play_server.specs.inner.Resuming.{Resumes, result_of}
 
 -- devices were given, served and finished
 abbrev pub served_on : {C D O L : Type 0} (device : DeviceStates C D O L) (tells : L → SinkState) (program : Program) (end told_end : ServeEnd) (step : FinishStep)
@@ -37,13 +46,39 @@ served_on {C} {D} {O} device tells program end told_end step path told_path give
       (called ∙ ap (λ (p : Option (List ℕ)). after_call (ready_call program.config p true) before) same_path) done;
 }
 
--- the arguments were accepted, a server was set up, and it ran
+-- a run on devices that were given and taken back has its result
+pub ran_on : {C D O L : Type 0} (device : DeviceStates C D O L) (tells : L → SinkState) (asked : Asked) (end : ServeEnd) (moments : SiteState C D O × SiteState C D O)
+    (served : ServesOn device tells asked end moments) (result : Result (Unit {0}) RunFault) → result ≡ result_of end served.step → RunsOn device tells asked result moments
+ran_on {C} {D} {O} {L} device tells asked end moments served result is = subst (λ (r : Result (Unit {0}) RunFault). RunsOn device tells asked r moments) (sym is) (by_end end served)
+  where
+    by_step : (run : ServesOn device tells asked serve.Ended moments) (step : FinishStep) → run.step ≡ step → RunsOn device tells asked (result_of serve.Ended step) moments
+    by_step run finish.Done step_is = (run, step_is)
+    by_step run finish.Failed step_is = inr (inl (run, step_is))
+
+    by_end : (how : ServeEnd) (run : ServesOn device tells asked how moments) → RunsOn device tells asked (result_of how run.step) moments
+    by_end serve.Ended run = by_step run run.step refl
+    by_end serve.DeviceFault run = inl run
+    by_end serve.OutOfMemory run = inl run
+
+-- the site gave no devices for a run
+pub not_ready : {C D O L : Type 0} (device : DeviceStates C D O L) (tells : L → SinkState) (asked : Asked) (fault : FileFault) (path : Option (List ℕ))
+    (result : Result (Unit {0}) RunFault) (moments : SiteState C D O × SiteState C D O) → IsErrAnd result (λ other. other ≡ fault_of_file fault)
+    → IsNotReady fault (ready_call asked.program.config path false) moments.0 moments.1 → path ≡ asked.path → RunsOn device tells asked result moments
+not_ready device tells asked fault path (Ok done) moments is unready same = absurd is
+not_ready device tells asked file.Failed path (Err other) moments is unready same =
+    subst (λ (f : RunFault). RunsOn device tells asked (Err f) moments) (sym is)
+    (inr (inr (subst (λ (p : Option (List ℕ)). IsNotReady file.Failed (ready_call asked.program.config p false) moments.0 moments.1) same unready)))
+not_ready device tells asked file.OutOfMemory path (Err other) moments is unready same =
+    subst (λ (f : RunFault). RunsOn device tells asked (Err f) moments) (sym is)
+    (inr (subst (λ (p : Option (List ℕ)). IsNotReady file.OutOfMemory (ready_call asked.program.config p false) moments.0 moments.1) same unready))
+
+-- the arguments were accepted and name no history, a server was set up, and it ran
 pub ran_line : {C D O L : Type 0} (device : DeviceStates C D O L) (tells : L → SinkState) (line : List (List ℕ)) (named : ServerWords) (setup : ServerSetup)
     (path : List ℕ) (result : Result (Unit {0}) RunFault) (before lent left after : FolderState) (site between last : SiteState C D O) →
-    Accepts line named → path ≡ string_bytes named.config → lent ≡ before → SetsUp path (Ok setup) lent left → after ≡ left → between ≡ site →
+    Accepts line named → option_map string_bytes named.resume ≡ None → path ≡ string_bytes named.config → lent ≡ before → SetsUp path (Ok setup) lent left → after ≡ left → between ≡ site →
     RunsOn device tells (asked_of setup (option_map string_bytes named.journal)) result (between, last) →
     RunsLine device tells line result (record { folder = before; site = site }, record { folder = after; site = last })
-ran_line device tells line named setup path result before lent left after site between last accepts path_is lent_is sets_up left_is same runs = record {
+ran_line device tells line named setup path result before lent left after site between last accepts fresh path_is lent_is sets_up left_is same runs = record {
   read = Ok named;
   reads = accepts;
   runs = record {
@@ -52,7 +87,32 @@ ran_line device tells line named setup path result before lent left after site b
         subst (λ (p : List ℕ). SetsUp p (Ok setup) before after) path_is
         (subst (λ (f : FolderState). SetsUp path (Ok setup) f after) lent_is
         (subst (λ (f : FolderState). SetsUp path (Ok setup) lent f) (sym left_is) sets_up));
-    runs = subst (λ (s : SiteState _ _ _). RunsOn device tells (asked_of setup (option_map string_bytes named.journal)) result (s, last)) same runs;
+    runs = λ none. subst (λ (s : SiteState _ _ _). RunsOn device tells (asked_of setup (option_map string_bytes named.journal)) result (s, last)) same runs;
+    resumes = λ from is. absurd (none-some from (sym fresh ∙ is));
+  };
+}
+
+-- the arguments were accepted and name a history, a server was set up, and the history was opened, or was not
+pub resumed_line : {C D O L : Type 0} (device : DeviceStates C D O L) (tells : L → SinkState) (line : List (List ℕ)) (named : ServerWords) (setup : ServerSetup)
+    (from path : List ℕ) (result : Result (Unit {0}) RunFault) (before lent left after : FolderState) (site between last : SiteState C D O) →
+    Accepts line named → option_map string_bytes named.resume ≡ Some from → path ≡ string_bytes named.config → lent ≡ before → SetsUp path (Ok setup) lent left → after ≡ left → between ≡ site →
+    Resumes device tells (record { setup = setup; from = from; path = option_map string_bytes named.journal }) result (between, last) →
+    RunsLine device tells line result (record { folder = before; site = site }, record { folder = after; site = last })
+resumed_line {C} {D} {O} device tells line named setup from path result before lent left after site between last accepts resumes path_is lent_is sets_up left_is same runs = record {
+  read = Ok named;
+  reads = accepts;
+  runs = record {
+    setup = Ok setup;
+    sets_up =
+        subst (λ (p : List ℕ). SetsUp p (Ok setup) before after) path_is
+        (subst (λ (f : FolderState). SetsUp path (Ok setup) f after) lent_is
+        (subst (λ (f : FolderState). SetsUp path (Ok setup) lent f) (sym left_is) sets_up));
+    runs = λ none. absurd (none-some from (sym none ∙ resumes));
+    resumes = λ other other_is.
+        let both : Some from ≡ Some other = sym resumes ∙ other_is in
+        let same_path : from ≡ other = cc in
+        subst (λ (p : List ℕ). Resumes device tells (record { setup = setup; from = p; path = option_map string_bytes named.journal }) result (site, last)) same_path
+        (subst (λ (s : SiteState C D O). Resumes device tells (record { setup = setup; from = from; path = option_map string_bytes named.journal }) result (s, last)) same runs);
   };
 }
 
@@ -70,7 +130,8 @@ refused_line device tells line named fault path result before lent left after si
         subst (λ (p : List ℕ). SetsUp p (Err fault) before after) path_is
         (subst (λ (f : FolderState). SetsUp path (Err fault) f after) lent_is
         (subst (λ (f : FolderState). SetsUp path (Err fault) lent f) (sym left_is) sets_up));
-    runs = (fault, inl refl, result_is, same);
+    runs = λ none. (fault, inl refl, result_is, same);
+    resumes = λ from is. (fault, inl refl, result_is, same);
   };
 }
 
@@ -93,6 +154,7 @@ module _ {C D O L : Type 0} (device : DeviceStates C D O L) (tells : L → SinkS
   no_line_of_run asked (Plan number) moments takes runs = runs
   no_line_of_run asked PlanEnd moments takes runs = takes
   no_line_of_run asked (Record name) moments takes runs = runs
+  no_line_of_run asked (Resume number) moments takes runs = runs
   no_line_of_run asked (Clip fault) moments takes runs = runs
   no_line_of_run asked (MediaTwice name) moments takes runs = runs
   no_line_of_run asked (MediaTotal total) moments takes runs = takes
@@ -107,12 +169,54 @@ module _ {C D O L : Type 0} (device : DeviceStates C D O L) (tells : L → SinkS
       let same : met ≡ runs.0 = let both = runs.2 in cc in
       (OutOfMemory, inr (takes_line fault runs.0 runs.1 (subst TakesMemory same takes), refl), refl, runs.3)
 
+  -- memory ran out for the line of what the reading of a history met
+  lost_in_read : (asked : Result Asked RunFault) (met : RunFault) (moments : SiteState C D O × SiteState C D O) → TakesMemory met
+      → RunsRead device tells asked (Err met) moments → RunsRead device tells asked (Err OutOfMemory) moments
+  lost_in_read (Ok asked) met moments takes runs =
+      elim runs [
+        | inl memory ↦
+            let same : met ≡ OutOfMemory = let both = memory.0 in cc in
+            absurd (subst TakesMemory same takes)
+        | inr run ↦ absurd (no_line_of_run asked met moments takes run)
+      ]
+  lost_in_read (Err fault) met moments takes runs =
+      let same : met ≡ runs.0 = let both = runs.2 in cc in
+      (OutOfMemory, inr (takes_line fault runs.0 runs.1 (subst TakesMemory same takes), refl), refl, runs.3)
+
+  -- a history that was not opened has a fault whose line needs no memory
+  no_line_of_file : (fault : FileFault) (met : RunFault) → TakesMemory met → Path (Result (Unit {0}) RunFault) (Err met) (Err (fault_of_file fault)) → ⊥
+  no_line_of_file file.Failed met takes is =
+      let same : met ≡ Device = cc in
+      subst TakesMemory same takes
+  no_line_of_file file.OutOfMemory met takes is =
+      let same : met ≡ OutOfMemory = cc in
+      subst TakesMemory same takes
+
+  lost_in_resuming : (asked : Result Resumption RunFault) (met : RunFault) (moments : SiteState C D O × SiteState C D O) → TakesMemory met
+      → ResumesSetUp device tells asked (Err met) moments → ResumesSetUp device tells asked (Err OutOfMemory) moments
+  lost_in_resuming (Ok asked) met moments takes runs =
+      elim runs [
+        | inl opened ↦
+            inl (record {
+              read = opened.read;
+              opened = opened.opened;
+              reads = opened.reads;
+              runs = lost_in_read (asked_read opened.read asked.path) met (opened.opened, moments.1) takes opened.runs;
+            })
+        | inr nothing ↦ absurd (no_line_of_file nothing.fault met takes nothing.met)
+      ]
+  lost_in_resuming (Err fault) met moments takes runs =
+      let same : met ≡ runs.0 = let both = runs.2 in cc in
+      (OutOfMemory, inr (takes_line fault runs.0 runs.1 (subst TakesMemory same takes), refl), refl, runs.3)
+
   lost_in_words : (read : Result ServerWords ServerWordsFault) (met : RunFault) (moments : AtSite C D O × AtSite C D O) → TakesMemory met
       → RunsWords device tells read (Err met) moments → RunsWords device tells read (Err OutOfMemory) moments
   lost_in_words (Ok named) met moments takes runs = record {
     setup = runs.setup;
     sets_up = runs.sets_up;
-    runs = lost_in_setup runs.setup (option_map string_bytes named.journal) met (moments.0.site, moments.1.site) takes runs.runs;
+    runs = λ none. lost_in_setup runs.setup (option_map string_bytes named.journal) met (moments.0.site, moments.1.site) takes (runs.runs none);
+    resumes = λ from is.
+        lost_in_resuming (resumption_in runs.setup from (option_map string_bytes named.journal)) met (moments.0.site, moments.1.site) takes (runs.resumes from is);
   }
   lost_in_words (Err words.Usage) met moments takes runs =
       let same : met ≡ Usage = let both = runs.0 in cc in

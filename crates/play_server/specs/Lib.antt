@@ -2,11 +2,6 @@ pub mod ServerWords
 pub mod SiteState
 pub mod Site
 pub mod MemSite
-pub mod Links
-pub mod Doors
-pub mod Log
-pub mod Run
-pub mod Replay
 pub mod Program
 pub mod Statuses
 pub mod Worked

@@ -25,3 +25,7 @@ is_ready config fails devices = not fails && has_devices_for config devices
 abbrev pub finish_step : Bool → FinishStep
 finish_step false = Done
 finish_step true = Failed
+
+-- whether a call of `resume` opens the history: it is not planned to fail, and there is a history
+abbrev pub can_open : Bool → Bool → Bool
+can_open fails is_kept = not fails && is_kept

@@ -3,27 +3,18 @@ use Rattle.std.specs.Prelude.{◌≡◌, ℕ, ◌+◌, ◌<◌, Bool, Option, Li
 use Rattle.play_types.specs.Config.{ConfigView}
 use Rattle.play_outside.specs.ClockState.{ClockState}
 use Rattle.play_outside.specs.ListenerState.{ListenerState}
-use Rattle.play_outside.specs.SinkState.{SinkState}
+use Rattle.play_outside.specs.SourceState.{SourceState}
 use Rattle.play_outside.specs.Fresh.{IsFreshClock, IsFreshListener, IsNewSink}
 use Rattle.play_outside.specs.declared.devices.Devices.{Devices}
 use Rattle.play_outside.specs.declared.folder.FileFault.{FileFault}
 use Rattle.play_outside.specs.declared.folder.FileFault.TheVariants as fault
 use Rattle.play_outside.specs.declared.sink.WriteStep.{WriteStep}
 use Rattle.play_outside.specs.declared.sink.WriteStep.TheVariants.{Took, Failed}
-use Rattle.play_server.specs.SiteState.{SiteState, after_call, after_call_without_memory, after_finish, after_site_fault, after_line}
+use Rattle.server_run.specs.Devices.{DeviceStates}
+use Rattle.play_server.specs.SiteState.{SiteState, after_call, after_call_without_memory, after_finish, after_site_fault, after_line, after_resumed}
 use Rattle.play_server.specs.declared.site.FinishStep.{FinishStep}
 use Rattle.play_server.specs.declared.site.FinishStep.TheVariants as finish
 use Rattle.play_server.specs.declared.site.ReadyCall.{ReadyCall}
-
--- the functions that give the state of a clock, a door and an output
-pub record DeviceStates (C D O L : Type 0) : Type 0 where
-  pub clock : C → ClockState
-  pub door : D → ListenerState L
-  pub out : O → SinkState
-
--- the functions that give the states of the clock, the doors and the outputs of a run
-abbrev pub device_states : {C D O L : Type 0} → (C → ClockState) → (D → ListenerState L) → (O → SinkState) → DeviceStates C D O L
-device_states clock door out = record { clock = clock; door = door; out = out }
 
 -- a clock that is fresh and has not failed
 abbrev pub IsNewClock : ClockState → Type 0
@@ -74,3 +65,14 @@ Finishes finish.Failed devices before after = after ≡ after_site_fault (after_
 abbrev pub Says : {C D O : Type 0} → WriteStep → List ℕ → SiteState C D O → SiteState C D O → Type 0
 Says (Took count) line before after = (count ≡ length line) × (after ≡ after_line line before)
 Says Failed line before after = after ≡ after_site_fault before
+
+-- the history at this path was opened, which was recorded. Its source is the one that the site gives, and has not failed
+pub record Opens {C D O : Type 0} (path : List ℕ) (source : SourceState) (before after : SiteState C D O) : Type 0 where
+  pub given : source ≡ before.history
+  pub new : source.faults ≡ 0
+  pub told : after ≡ after_resumed path before
+
+-- no history was opened: the call failed, and nothing else changed; or memory ran out, and nothing changed
+abbrev pub IsNotOpened : {C D O : Type 0} → FileFault → SiteState C D O → SiteState C D O → Type 0
+IsNotOpened fault.Failed before after = after ≡ after_site_fault before
+IsNotOpened fault.OutOfMemory before after = after ≡ before

@@ -6,7 +6,8 @@ use Rattle.play_outside.specs.SinkState.{SinkState}
 use Rattle.play_outside.specs.ClockState.{ClockState}
 use Rattle.play_outside.specs.Fresh.{IsNewSink}
 use Rattle.play_outside.specs.declared.devices.Devices.{Devices}
-use Rattle.play_server.specs.Site.{DeviceStates, IsNewClock, AreNumbered}
+use Rattle.server_run.specs.Devices.{DeviceStates}
+use Rattle.play_server.specs.Site.{IsNewClock, AreNumbered}
 
 -- a door was given no link back, has not answered Closed, has no link out, and has not failed
 abbrev pub IsUnusedDoor : {L : Type 0} → ListenerState L → Type 0

@@ -1,4 +1,3 @@
 pub mod ServerCommand
-pub mod Workers
-pub mod Threads
 pub mod Ending
+pub mod Resuming

@@ -2,8 +2,8 @@
 //! ones set.
 #![tactic(auto, unfolding(crate::proofs::OnLiterals::words_on_literals))]
 
-ghost use Rattle.std.specs.Prelude.{◌≡◌, ◌∷◌, [], Some, None, codes};
-ghost use Rattle.play_server.specs.Worked.{config, faults, journal, workers};
+ghost use Rattle.std.specs.Prelude.{◌≡◌, ◌∷◌, [], Some, None, codes, false, true};
+ghost use Rattle.play_server.specs.Worked.{config, faults, journal, one_file, resume, workers};
 
 use clap::error::ErrorKind;
 
@@ -33,4 +33,17 @@ pub fn refused()
     ensures help { faults ("--help" ∷ []) ≡ ErrorKind.UnknownArgument ∷ [] }
     ensures version { faults ("--version" ∷ []) ≡ ErrorKind.UnknownArgument ∷ [] }
     ensures surplus { faults ("--config" ∷ "a" ∷ "b" ∷ []) ≡ ErrorKind.UnknownArgument ∷ [] }
+{}
+
+/// Command lines that name a history to go on from: it is another file than that of `--journal`, and another than its log.
+pub fn resumed()
+    ensures alone { faults ("--resume" ∷ "r" ∷ "--config" ∷ "a" ∷ []) ≡ [] }
+    ensures path { resume ("--resume" ∷ "r" ∷ "--config" ∷ "a" ∷ []) ≡ Some (codes "r") }
+    ensures no_resume { resume ("--config" ∷ "a" ∷ "--journal" ∷ "j" ∷ []) ≡ None }
+    ensures beside { one_file ("--config" ∷ "a" ∷ "--resume=j.log.1" ∷ "--journal" ∷ "j" ∷ []) ≡ false }
+    ensures journal_of_a_log { one_file ("--config" ∷ "a" ∷ "--resume" ∷ "j" ∷ "--journal" ∷ "j.log" ∷ []) ≡ false }
+    ensures no_journal { one_file ("--config" ∷ "a" ∷ "--resume" ∷ "j" ∷ []) ≡ false }
+    ensures same { one_file ("--config" ∷ "a" ∷ "--resume" ∷ "j" ∷ "--journal" ∷ "j" ∷ []) ≡ true }
+    ensures log { one_file ("--journal=j" ∷ "--config" ∷ "a" ∷ "--resume" ∷ "j.log" ∷ []) ≡ true }
+    ensures twice { faults ("--config" ∷ "a" ∷ "--resume" ∷ "r" ∷ "--resume" ∷ "r" ∷ []) ≡ ErrorKind.ArgumentConflict ∷ [] }
 {}

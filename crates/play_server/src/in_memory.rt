@@ -2,6 +2,7 @@
 
 mod copies;
 mod kept_devices;
+mod kept_history;
 mod mem_site;
 mod plain_site;
 

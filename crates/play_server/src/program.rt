@@ -1,14 +1,15 @@
 //! The program: the arguments, the folder, the devices and the exit status.
 ghost use Rattle.std.specs.Prelude.{◌≡◌, ◌≤◌, ◌∷◌, Err, codes, map, option_map, string_bytes};
 ghost use Rattle.play_server.specs.Program.{RunsLine, RunsOn, RunsServer, asked_of, fault_of_words};
-ghost use Rattle.play_server.specs.Site.{device_states};
+ghost use Rattle.play_server.specs.inner.Resuming.{result_of};
+ghost use Rattle.server_run.specs.Devices.{device_states};
 ghost use Rattle.play_server.specs.Statuses.{HasItsCause};
 
 use crate::ending::end_with;
-use crate::served::{ServeEnd, Served};
-use crate::serving::serve;
+use crate::resuming::serve_after;
 use crate::site::{FinishStep, Site};
 use crate::words::{ServerWords, ServerWordsFault};
+use server_run::{ServeEnd, Served, serve};
 use server_setup::{RunFault, ServerSetup, laws, set_up};
 use std::alloc::Global;
 use std::sync::Wait;
@@ -18,20 +19,21 @@ use std::thread::Threads;
 /// until the stage is stopped.
 ///
 /// `words` are the arguments of [`ServerWords::read`](crate::ServerWords::read). They are checked first, then the configuration is
-/// read and checked, then the clips are read, then the site is asked for devices, once, and then the run begins. The first fault
-/// decides the exit status, which is returned.
+/// read and checked, then the clips are read, then the history that the run goes on from is read, if the arguments name one, then the
+/// site is asked for devices, once, and then the run begins. The first fault decides the exit status, which is returned.
 ///
 /// | Status | Cause | The line that the site prints |
 /// |---|---|---|
 /// | 0 | a client, the clock or the limit of ticks ended the run, and no device failed | |
 /// | 1 | the arguments are not a valid command line | `E usage` |
 /// | 2 | the configuration is not TOML, or a key of it is refused | `E config text`, `E config key KEY` |
+/// | 2 | the line of this number is none of a history there, or the history is too long | `E resume n`, `E input too long` |
 /// | 3 | two clip files have one name, or the clip files are too large | `E media twice NAME`, `E media total n` |
-/// | 4 | a read of the folder, the site, or a device of the run failed, or the history did not get its name | `E device` |
+/// | 4 | a read of the folder or of a history, the site, or a device of the run failed, or the history did not get its name | `E device` |
 /// | 5 | memory ran out before a call was made on a device | `E memory` |
 ///
 /// The site takes the devices back however the run ended; a history that does not get its name changes the status only of a run
-/// that would end with 0. If memory runs out for a line with a key or a name, the status is 5 and the line is `E memory`. A line that
+/// that would end with 0. If memory runs out for a line with a key, a name or the number of a line, the status is 5 and the line is `E memory`. A line that
 /// cannot be printed changes no status.
 pub fn serve_main<R: Threads + Wait + Sync, E: Site>(
     rt: &R,
@@ -57,7 +59,7 @@ pub fn serve_main<R: Threads + Wait + Sync, E: Site>(
     }
 }
 
-/// Parses the arguments, sets up, and serves.
+/// Parses the arguments, sets up, and serves, from nothing or from a history.
 fn serve_words<R: Threads + Wait + Sync, E: Site>(
     rt: &R,
     alloc: Global,
@@ -72,7 +74,10 @@ fn serve_words<R: Threads + Wait + Sync, E: Site>(
 {
     let words = ServerWords::read(alloc, words)?;
     let setup = set_up(rt, alloc, words.config.as_str(), site.media())?;
-    serve_setup(rt, alloc, &words, &setup, site)
+    match &words.resume {
+        Some(path) => serve_after(rt, alloc, &words, path.as_str(), setup, site),
+        None => serve_setup(rt, alloc, &words, &setup, site),
+    }
 }
 
 /// Takes devices for a configuration and clips from the site, serves, and gives them back.
@@ -100,6 +105,13 @@ fn serve_setup<R: Threads + Wait + Sync, E: Site>(
     );
     let Served { devices, end } = served;
     let step = site.finish(devices);
+    result_of(end, step)
+}
+
+/// Returns the result of a run that ended with `end`, after the site took the devices back.
+pub(crate) fn result_of(end: ServeEnd, step: FinishStep) -> Result<(), RunFault>
+    ensures { result ≡ result_of end step }
+{
     match (end, step) {
         (ServeEnd::Ended, FinishStep::Done) => Ok(()),
         (ServeEnd::Ended, FinishStep::Failed) => Err(RunFault::Device),
@@ -109,7 +121,7 @@ fn serve_setup<R: Threads + Wait + Sync, E: Site>(
 }
 
 /// Returns the path of the history's file, if there is one.
-fn journal_path(words: &ServerWords) -> Option<&str>
+pub(crate) fn journal_path(words: &ServerWords) -> Option<&str>
     ensures { option_map (λ path. path.now) result ≡ option_map string_bytes words.now.journal }
 {
     words.journal.as_ref().map(|path| path.as_str())

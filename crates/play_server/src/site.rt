@@ -2,9 +2,12 @@
 ghost use Rattle.std.specs.Prelude.{◌≡◌, Option, true, false, IfOk, MatchResult, option_map};
 ghost use Rattle.std.specs.Borrow.{sem, Lends};
 ghost use Rattle.play_server.specs.SiteState.{SiteState, after_call};
-ghost use Rattle.play_server.specs.Site.{AreReady, Finishes, IsNotReady, Says, device_states, ready_call};
+ghost use Rattle.server_run.specs.Devices.{device_states};
+ghost use Rattle.play_server.specs.Site.{AreReady, Finishes, IsNotOpened, IsNotReady, Opens, Says, ready_call};
 
-use play_outside::{Clock, Devices, FileFault, Listener, MediaDir, Rest, WriteStep};
+use crate::resumed::Resumed;
+use history_reader::ReadTeller;
+use play_outside::{Clock, Devices, FileFault, Listener, MediaDir, Rest, Source, WriteStep};
 use play_types::{ByteList, Config};
 use std::alloc::Global;
 
@@ -28,10 +31,16 @@ pub enum FinishStep {
     Failed,
 }
 
-/// A folder of configuration and media, and the devices of a run.
+/// A folder of configuration and media, a history to go on from, and the devices of a run.
 pub trait Site {
     /// The folder.
     type Media: MediaDir;
+
+    /// The file of a history that a run goes on from.
+    type History: Source + Drop;
+
+    /// What is told how far the reading of a history is.
+    type Teller: ReadTeller;
 
     /// The clock whose pulses make the ticks.
     type Clock: Clock;
@@ -42,7 +51,8 @@ pub trait Site {
     /// The outputs: of a channel, for the text of the history, and for the log.
     type Out: Rest + Send;
 
-    /// The calls, if the site records them, and the number of faults of `ready`, `finish` and `say`.
+    /// The calls, if the site records them, the state of the source that `resume` gives, and the number of faults of `ready`, `finish`,
+    /// `resume` and `say`.
     ghost state: { Self → SiteState Self.Clock Self.Door Self.Out };
 
     /// The folder as it is now.
@@ -55,6 +65,22 @@ pub trait Site {
     fn media(&mut self) -> &mut Self::Media
         ensures* writes_back { sem 𝓛 (Lends Self.row Self.Media.row self.entry result (with_folder self.old)) }
         ensures value { result.now ≡ folder self.old };
+
+    /// Opens the file of a history to read, from its beginning. No read of it has failed yet.
+    ///
+    /// A failed call raises the count of faults by one. A call that opens nothing is not recorded.
+    fn resume(&mut self, alloc: Global, path: &str) -> Result<Self::History, FileFault>
+        ensures told { MatchResult result
+            (λ file. Opens path.now (Self.History.state file) (state self.old) (state self.new))
+            (λ fault. IsNotOpened fault (state self.old) (state self.new)) }
+        ensures folder { folder self.new ≡ folder self.old };
+
+    /// Returns what is told how far the reading of a history is.
+    fn teller(&self) -> Self::Teller;
+
+    /// Reports to a person, at the end of the reading of the history at `path`, what the run goes on from. If the history was not read,
+    /// `resumed` is `None`, and only what was told so far is ended.
+    fn tell_resumed(&self, path: &str, teller: Self::Teller, resumed: Option<Resumed>);
 
     /// Returns the devices for a run with this configuration: as many doors as it has connections and as many outputs as it has
     /// channels. `history` is the path of the file that the history is written to, if there is one. The devices are fresh and

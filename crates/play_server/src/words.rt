@@ -1,8 +1,9 @@
 //! The arguments of the command line.
 ghost use Rattle.std.specs.Prelude.{◌≡◌, ◌≢◌, ◌∷◌, ◌++◌, [], true, is_some, codes, List, ℕ, IfOk, IsErrOf, map, take, option_map, Some, string_bytes};
+ghost use Rattle.std.specs.Str.{bytes_eq};
 ghost use Rattle.clap.specs.Words.{fault_of, first_of, first_value, found_of, matches_of, rows_of, rule_of};
 ghost use Rattle.clap.specs.Built.{FitsChain, TakesValue};
-ghost use Rattle.play_server.specs.ServerWords.{ReadsWords, Names, config_rule, journal_rule, playd_app, workers_in, workers_rule};
+ghost use Rattle.play_server.specs.ServerWords.{ReadsWords, Names, config_rule, journal_rule, names_twice, playd_app, resume_rule, workers_in, workers_rule};
 ghost use Rattle.play_server.specs.inner.ServerCommand.{IsServerCommand};
 ghost use Rattle.play_server.specs.declared.words.ServerWordsFault.TheVariants.{OutOfMemory};
 
@@ -15,6 +16,9 @@ use std::fmt;
 /// The name of the program, which `clap` takes as the first word.
 const PROGRAM: &str = "playd";
 
+/// The ending of the path of a history's log, after the path of the history.
+const LOG_ENDING: &[u8] = b".log";
+
 /// The parsed arguments of `playd`.
 #[derive(Debug, Drop)]
 pub struct ServerWords {
@@ -24,6 +28,8 @@ pub struct ServerWords {
     pub workers: u32,
     /// The path of the file that the text of the history is written to, if it was given.
     pub journal: Option<String>,
+    /// The path of the history that the run goes on from, if it was given.
+    pub resume: Option<String>,
 }
 
 /// Why the arguments could not be parsed.
@@ -56,14 +62,18 @@ impl From<AllocError> for ServerWordsFault {
 
 impl ServerWords {
     /// Parses the arguments that follow the program's name: `--config FILE` once, and `--workers N`, a number from 1 to 64,
-    /// and `--journal FILE` at most once each, in any order. Without `--workers` there is one worker.
+    /// `--journal FILE` and `--resume FILE` at most once each, in any order. Without `--workers` there is one worker.
     ///
-    /// Returns `Usage` if `clap` refuses the arguments for another cause than memory, and `OutOfMemory` if memory runs out.
+    /// Returns `Usage` if `clap` refuses the arguments for another cause than memory, and if `--resume` has the path of `--journal`, or
+    /// that path with `.log` after it. Returns `OutOfMemory` if memory runs out.
     pub fn read(alloc: Global, words: &[String]) -> Result<ServerWords, ServerWordsFault>
         ensures { ReadsWords (codes "playd" ∷ map string_bytes words.now) result }
     {
         let line = command_line(alloc, words)?;
         let matches = parse(alloc, line.as_slice())?;
+        if names_twice(&matches) {
+            return Err(ServerWordsFault::Usage);
+        }
         named(alloc, &matches)
     }
 }
@@ -108,12 +118,14 @@ fn server_command<'a>(alloc: Global) -> Result<Command<'a>, AllocError>
     let config = config_arg(alloc);
     let workers = workers_arg(alloc);
     let journal = journal_arg(alloc);
+    let resume = resume_arg(alloc);
     let bare = Command::new(alloc, PROGRAM)
         .disable_help_flag(true)
         .disable_version_flag(true);
     let one = bare.arg(config)?;
     let two = one.arg(workers)?;
-    two.arg(journal)
+    let three = two.arg(journal)?;
+    three.arg(resume)
 }
 
 /// Returns the argument `--config FILE`.
@@ -152,6 +164,37 @@ fn journal_arg<'a>(alloc: Global) -> Arg<'a>
         .action(ArgAction::Set)
 }
 
+/// Returns the argument `--resume FILE`.
+fn resume_arg<'a>(alloc: Global) -> Arg<'a>
+    ensures rule { rule_of result ≡ resume_rule }
+    ensures fits { FitsChain result }
+    ensures id { result.id.now ≡ codes "resume" }
+{
+    Arg::new(alloc, "resume")
+        .long("resume")
+        .action(ArgAction::Set)
+}
+
+/// Returns whether the arguments name one file as the history to go on from and as the file of the history, or its log.
+fn names_twice(matches: &ArgMatches<'_>) -> bool
+    ensures { result ≡ names_twice (rows_of (found_of matches.now)) }
+{
+    match (matches.get_str("resume"), matches.get_str("journal")) {
+        (Some(resume), Some(journal)) => resume == journal || is_log_of(resume, journal),
+        (Some(_), None) | (None, _) => false,
+    }
+}
+
+/// Returns whether a path is that of the log of the history with the path `journal`.
+fn is_log_of(path: &str, journal: &str) -> bool
+    ensures { result ≡ bytes_eq path.now (journal.now ++ codes ".log") }
+{
+    match path.as_bytes().strip_suffix(LOG_ENDING) {
+        Some(front) => front == journal.as_bytes(),
+        None => false,
+    }
+}
+
 /// Returns the values of the arguments that were accepted.
 fn named(alloc: Global, matches: &ArgMatches<'_>) -> Result<ServerWords, ServerWordsFault>
     requires { is_some (first_value (found_of matches.now) (codes "config")) ≡ true }
@@ -160,10 +203,12 @@ fn named(alloc: Global, matches: &ArgMatches<'_>) -> Result<ServerWords, ServerW
 {
     let config = String::from_str(alloc, config_of(matches))?;
     let journal = journal_of(alloc, matches)?;
+    let resume = resume_of(alloc, matches)?;
     Ok(ServerWords {
         config,
         workers: workers_of(matches),
         journal,
+        resume,
     })
 }
 
@@ -191,6 +236,16 @@ fn journal_of(alloc: Global, matches: &ArgMatches<'_>) -> Result<Option<String>,
 {
     matches
         .get_str("journal")
+        .map(|path| String::from_str(alloc, path))
+        .transpose()
+}
+
+/// Returns a copy of the path of the history to go on from, if it was given.
+fn resume_of(alloc: Global, matches: &ArgMatches<'_>) -> Result<Option<String>, AllocError>
+    ensures { IfOk result (λ resume. first_of (codes "resume") (rows_of (found_of matches.now)) ≡ option_map string_bytes resume) }
+{
+    matches
+        .get_str("resume")
         .map(|path| String::from_str(alloc, path))
         .transpose()
 }

@@ -8,7 +8,8 @@ use Rattle.play_outside.specs.ListenerState.{ListenerState}
 use Rattle.play_outside.specs.SinkState.{SinkState}
 use Rattle.play_outside.specs.Fresh.{IsNewSink}
 use Rattle.play_outside.specs.declared.devices.Devices.{Devices}
-use Rattle.play_server.specs.Site.{DeviceStates, AreReady, IsNewClock, IsNewDoor}
+use Rattle.server_run.specs.Devices.{DeviceStates}
+use Rattle.play_server.specs.Site.{AreReady, IsNewClock, IsNewDoor}
 use Rattle.real_devices.specs.Fresh.{quiet_clock, quiet_door, quiet_sink}
 
 -- how many elements there are

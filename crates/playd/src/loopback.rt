@@ -5,9 +5,9 @@ ghost use Rattle.real_devices.specs.State.{door_state};
 
 use clip_format::MediaTable;
 use play_outside::{Devices, PlainSink};
-use play_server::{ServeEnd, serve};
 use play_types::{Channel, ChannelList, Config, Text};
 use real_devices::{DoorGroup, RateClock, TcpDoor};
+use server_run::{ServeEnd, serve};
 use std::alloc::Global;
 use std::io::{self, Write};
 use std::net::{TcpListener, TcpStream};

@@ -5,6 +5,7 @@
 mod loopback;
 #[cfg(test)]
 mod memory_site;
+mod read_count;
 mod real_site;
 mod said;
 mod serving;

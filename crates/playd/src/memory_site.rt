@@ -9,14 +9,15 @@ use std::test::Fail;
 fn reads_words(rt: HostRuntime) -> Result<(), Fail> {
     let alloc = rt.alloc();
     let mut words = Vec::new(alloc);
-    for word in ["--journal", "j", "--config", "c"] {
+    for word in ["--journal", "j", "--config", "c", "--resume", "r"] {
         words.push(String::from_str(alloc, word)?)?;
     }
     let named = ServerWords::read(alloc, words.as_slice())?;
     let journal = named.journal.as_ref().map(|path| path.as_str());
+    let resume = named.resume.as_ref().map(|path| path.as_str());
     assert_eq!(rt;
-        (named.config.as_str(), named.workers, journal),
-        ("c", 1, Some("j"))
+        (named.config.as_str(), named.workers, journal, resume),
+        ("c", 1, Some("j"), Some("r"))
     );
     Ok(())
 }

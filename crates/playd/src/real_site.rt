@@ -1,14 +1,17 @@
 //! The site of a server over the system.
-ghost use Rattle.std.specs.Prelude.{◌≡◌, None, refl};
+ghost use Rattle.std.specs.Prelude.{◌≡◌, None, MatchResult, refl};
 ghost use Rattle.play_outside.specs.Faults.{one_more};
-ghost use Rattle.play_server.specs.Site.{Finishes};
+ghost use Rattle.play_server.specs.Site.{Finishes, IsNotOpened, Opens};
 
-use crate::said::{PROGRAM, USAGE_FAULT, say_listening, say_usage};
+use crate::read_count::ReadCount;
+use crate::said::{PROGRAM, USAGE_FAULT, say_listening, say_resumed, say_usage};
 use host_system::{FolderMedia, ProgramFile, Progress, words_of};
-use play_outside::{FileFault, MediaDir, WriteStep};
-use play_server::{FinishStep, Site};
+use play_outside::{FileFault, MediaDir, Source, WriteStep};
+use play_server::{FinishStep, Resumed, Site};
 use play_types::Config;
-use real_devices::{FileSink, LiveRuntime, RealDevices, SignalClock, TcpDoor, try_threads};
+use real_devices::{
+    FileSink, FileSource, LiveRuntime, RealDevices, SignalClock, TcpDoor, try_threads,
+};
 use std::alloc::Global;
 use std::env::{self, Env};
 use std::fs::File;
@@ -19,7 +22,7 @@ use std::thread::Threads;
 use std::time::Clock;
 
 /// The files of the system, and the devices that a configuration names. It writes its lines to standard error. Its
-/// state does not list its calls.
+/// state does not list its calls, nor what a history holds.
 #[derive(Drop)]
 pub struct RealSite<R, H> {
     rt: R,
@@ -27,13 +30,14 @@ pub struct RealSite<R, H> {
     host: H,
     media: FolderMedia<R>,
     program: ProgramFile,
+    progress: Progress,
     faults: u64,
 }
 
 impl<R: Files + Eprint + AllocGlobal + Copy + Drop, H: Drop> RealSite<R, H> {
     /// Returns the site over a runtime; the threads of its live outputs run over `host`. No call of it, and no read of
-    /// its folder, has failed yet. How much it reports on standard error about the clips that are read depends on
-    /// `progress`.
+    /// its folder, has failed yet. How much it reports on standard error about the clips and the history that are read
+    /// depends on `progress`.
     pub fn new(rt: R, host: H, progress: Progress) -> RealSite<R, H>
         ensures faults { result.faults ≡ 0 }
         ensures folder { ⟦<FolderMedia<R> as MediaDir>⟧.state result.media ≡ record { files = None; faults = 0 } }
@@ -43,6 +47,7 @@ impl<R: Files + Eprint + AllocGlobal + Copy + Drop, H: Drop> RealSite<R, H> {
             host,
             media: FolderMedia::new(rt, PROGRAM, progress),
             program: ProgramFile::find(&rt),
+            progress,
             faults: 0,
         }
     }
@@ -70,13 +75,17 @@ impl<
 > Site for RealSite<R, H> {
     type Media = FolderMedia<R>;
 
+    type History = FileSource<File, R>;
+
+    type Teller = ReadCount<R>;
+
     type Clock = SignalClock<R>;
 
     type Door = TcpDoor<R>;
 
     type Out = FileSink<File, R>;
 
-    ghost state = { λ s. record { told = None; faults = s.faults } };
+    ghost state = { λ s. record { told = None; history = record { left = None; faults = 0 }; faults = s.faults } };
 
     ghost folder = { λ s. s.media };
 
@@ -84,6 +93,33 @@ impl<
 
     fn media(&mut self) -> &mut FolderMedia<R> {
         &mut self.media
+    }
+
+    /// Opens a regular file. Standard error says why a file was not opened.
+    fn resume(&mut self, alloc: Global, path: &str) -> Result<FileSource<File, R>, FileFault>
+        ensures told { MatchResult result
+            (λ file. Opens path.now (⟦<FileSource<File, R> as Source>⟧.state file) (⟦<RealSite<R, H> as Site>⟧.state self.old) (⟦<RealSite<R, H> as Site>⟧.state self.new))
+            (λ fault. IsNotOpened fault (⟦<RealSite<R, H> as Site>⟧.state self.old) (⟦<RealSite<R, H> as Site>⟧.state self.new)) }
+        ensures folder { self.new.media ≡ self.old.media }
+    {
+        let opened = FileSource::open(self.rt, alloc, path);
+        match &opened {
+            Err(FileFault::Failed) => self.raise(),
+            Ok(_) | Err(FileFault::OutOfMemory) => {}
+        }
+        opened
+    }
+
+    fn teller(&self) -> ReadCount<R> {
+        ReadCount::new(self.rt, self.progress)
+    }
+
+    /// Reports on standard error what the run goes on from.
+    fn tell_resumed(&self, path: &str, teller: ReadCount<R>, resumed: Option<Resumed>) {
+        teller.end_line();
+        if let Some(resumed) = resumed {
+            say_resumed(&self.rt, path, &resumed);
+        }
     }
 
     /// Makes the devices that the configuration names, if the system has threads for them, and reports where the server
@@ -95,9 +131,11 @@ impl<
         history: Option<&str>,
     ) -> Result<RealDevices<R>, FileFault> {
         try_threads(&self.rt, alloc, config)?;
-        let source = config_path(&self.rt, alloc);
+        let source = path_after(&self.rt, alloc, CONFIG);
         let source = source.as_ref().map(|path| path.as_str());
-        match real_devices::ready(self.rt, &self.host, alloc, config, source, history) {
+        let resumed = path_after(&self.rt, alloc, RESUME);
+        let resumed = resumed.as_ref().map(|path| path.as_str());
+        match real_devices::ready(self.rt, &self.host, alloc, config, source, resumed, history) {
             Ok(devices) => {
                 say_listening(&self.rt, config, address_of(&devices), &self.program);
                 Ok(devices)
@@ -152,23 +190,26 @@ fn address_of<R: Clock + Eprint + Copy + Drop>(devices: &RealDevices<R>) -> Opti
 /// The word before the path of the configuration.
 const CONFIG: &str = "--config";
 
-/// Returns the path of the configuration in the words of the program, so that no output empties that file, or `None` if
-/// the words cannot be read once more.
-fn config_path<R: Env + AllocGlobal>(rt: &R, alloc: Global) -> Option<String> {
+/// The word before the path of the history that the run goes on from.
+const RESUME: &str = "--resume";
+
+/// Returns the path after `option` in the words of the program, so that no output empties that file. Returns `None` if the
+/// option is not there, and if the words cannot be read once more.
+fn path_after<R: Env + AllocGlobal>(rt: &R, alloc: Global, option: &str) -> Option<String> {
     let mut is_next = false;
     for word in words_of(alloc, env::args(rt)).ok()? {
         if is_next {
             return Some(word);
         }
-        if let Some(path) = after_config(word.as_str()) {
+        if let Some(path) = after_option(word.as_str(), option) {
             return String::from_str(alloc, path).ok();
         }
-        is_next = word.as_str() == CONFIG;
+        is_next = word.as_str() == option;
     }
     None
 }
 
-/// Returns the path in a word `--config=PATH`.
-fn after_config(word: &str) -> Option<&str> {
-    word.strip_prefix(CONFIG)?.strip_prefix('=')
+/// Returns the path in a word `OPTION=PATH`.
+fn after_option<'a>(word: &'a str, option: &str) -> Option<&'a str> {
+    word.strip_prefix(option)?.strip_prefix('=')
 }

@@ -1,7 +1,7 @@
 //! The whole program, over its words and its site.
 ghost use Rattle.std.specs.Prelude.{◌≡◌, ◌∷◌, IfOk, IfErr, codes, map, string_bytes};
 ghost use Rattle.play_server.specs.Program.{RunsServer};
-ghost use Rattle.play_server.specs.Site.{device_states};
+ghost use Rattle.server_run.specs.Devices.{device_states};
 ghost use Rattle.host_system.specs.Words.{run_fault_of};
 ghost use Rattle.playd.specs.Serve.{EndsAtOnce};
 

@@ -6,4 +6,5 @@ mod devices;
 mod ends;
 mod plan;
 mod replay;
+mod resumes;
 mod shows;

@@ -3,6 +3,8 @@ use Rattle.std.specs.Prelude.{ℕ, List, Option, Some, None, take}
 use Rattle.std.specs.Io.KnownBytes.{Appends, Consumes, IsAtEnd, Keeps}
 use Rattle.play_outside.specs.declared.link.LinkStep.{LinkStep}
 use Rattle.play_outside.specs.declared.link.LinkStep.TheVariants as read
+use Rattle.play_outside.specs.declared.source.ReadStep.{ReadStep}
+use Rattle.play_outside.specs.declared.source.ReadStep.TheVariants as source
 use Rattle.play_outside.specs.declared.sink.WriteStep.{WriteStep}
 use Rattle.play_outside.specs.declared.sink.WriteStep.TheVariants as write
 
@@ -12,6 +14,12 @@ GivesFrom (read.Got count) buffer before after = Consumes before after (take cou
 GivesFrom read.End buffer before after = Keeps before after × IsAtEnd after
 GivesFrom read.Again buffer before after = Keeps before after
 GivesFrom read.Failed buffer before after = Keeps before after
+
+-- a read of a source returned the next bytes of the stream, or found its end, or failed and consumed nothing
+abbrev pub ReadsFrom : ReadStep → List ℕ → Option (List ℕ) → Option (List ℕ) → Type 0
+ReadsFrom (source.Got count) buffer before after = Consumes before after (take count buffer)
+ReadsFrom source.End buffer before after = Keeps before after × IsAtEnd after
+ReadsFrom source.Failed buffer before after = Keeps before after
 
 -- a write appended the first `count` bytes of the piece to the stream, or failed and appended nothing
 abbrev pub AddsTo : WriteStep → List ℕ → Option (List ℕ) → Option (List ℕ) → Type 0

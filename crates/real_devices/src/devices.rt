@@ -36,8 +36,8 @@ pub type RealDevices<R> = Devices<SignalClock<R>, TcpDoor<R>, FileSink<File, R>>
 /// the outputs have the marks 1, 2 and so on, and the outputs of the history and of the log have the mark 0. No call of
 /// a device was made yet.
 ///
-/// `source` is the path of the configuration's own file, if it has one. Each output file is created if it does not
-/// exist; existing ones are emptied once all devices could be made. The history is written to a file beside its path,
+/// `source` is the path of the configuration's own file, if it has one, and `resumed` that of the history that the run
+/// goes on from, if it goes on from one. Each output file is created if it does not exist; existing ones are emptied once all devices could be made. The history is written to a file beside its path,
 /// and [`finish`] renames it; only if something else than a regular file has the path, the history is written there
 /// directly. Without a path the output of the history takes every byte and keeps none. The file beside the path is made
 /// before any output is opened, and stays locked until the devices are finished. The log is the file of that path with
@@ -51,8 +51,8 @@ pub type RealDevices<R> = Devices<SignalClock<R>, TcpDoor<R>, FileSink<File, R>>
 ///
 /// `Failed` comes if the address cannot be read or listened on, a file cannot be written, another server writes its
 /// history to that path, or an output has a file that is the configuration, a clip of the media folder, the history or
-/// another output, by whatever path. Standard error names the cause. Any number of outputs may write to a character
-/// device.
+/// another output, by whatever path. It also comes if an output, the history or the log has the file of `resumed`.
+/// Standard error names the cause. Any number of outputs may write to a character device.
 pub fn ready<
     R: Net<Listener = TcpListener, Stream = TcpStream>
         + Files<File = File>
@@ -69,6 +69,7 @@ pub fn ready<
     alloc: Global,
     config: &Config,
     source: Option<&str>,
+    resumed: Option<&str>,
     history: Option<&str>,
 ) -> Result<RealDevices<R>, FileFault>
     ensures doors { IfOk result (λ devices. map door_state devices.doors.items
@@ -91,7 +92,7 @@ pub fn ready<
         Err(error) => return Err(not_made(&rt, address, &error)),
     };
     let mut run = RunFiles {
-        used: files_in_use(rt, alloc, config, source)?,
+        used: files_in_use(rt, alloc, config, source, resumed)?,
         largest: largest_file(&rt),
         group,
         firsts: FirstReaders::new(alloc),

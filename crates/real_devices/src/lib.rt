@@ -5,7 +5,7 @@
 //! `ready` makes all devices that a configuration names, and `finish` ends them. The log is synced to the disk while it
 //! is written, and removed once the history is whole. A signal that was blocked at the start closes the clock. An
 //! output that is a named pipe, or that listens, is live: a thread of its own hands its frames to readers that come and
-//! go.
+//! go. A history that a run goes on from is read from its file.
 #![tactic(auto)]
 
 mod complaint;
@@ -15,6 +15,7 @@ mod error_lines;
 pub mod examples;
 mod file_limit;
 mod file_sink;
+mod file_source;
 mod fill;
 mod held_bytes;
 mod host;
@@ -42,6 +43,7 @@ pub use devices::{RealDevices, finish, ready};
 pub use door_group::DoorGroup;
 pub use error_lines::ErrorLines;
 pub use file_sink::FileSink;
+pub use file_source::FileSource;
 pub use host::Host;
 pub use live::LiveRuntime;
 pub use log_file::Synced;

@@ -18,6 +18,8 @@ const CLIP_ENDING: &[u8] = b".rclp";
 pub(crate) enum Use {
     /// It is the configuration.
     Config,
+    /// It is the history that the run goes on from.
+    Resumed,
     /// It is a clip of the media folder.
     Clip,
     /// It is an output, or holds the history.
@@ -29,6 +31,7 @@ impl Display for Use {
     fn fmt<W: Write>(&self, f: &mut Formatter<W>) -> fmt::Result {
         match self {
             Use::Config => f.write_str("this file is the configuration"),
+            Use::Resumed => f.write_str("this file is the history that the run goes on from"),
             Use::Clip => f.write_str("this file is a clip of the media folder"),
             Use::Output => f.write_str("more than one output has this file"),
         }
@@ -89,23 +92,37 @@ impl UsedFiles {
     }
 }
 
-/// Returns the files that no output may have: the configuration and the clips of its media folder, as far as the system
-/// finds them. `Failed` comes if the folder exists and cannot be listed, since any output might be a clip then;
+/// Returns the files that no output may have: the configuration at `source`, the history at `resumed`, and the clips of
+/// the media folder, as far as the system finds them. `Failed` comes if the folder exists and cannot be listed, since any output might be a clip then;
 /// standard error says so.
 pub(crate) fn files_in_use<R: Files<File = File> + Eprint + AllocGlobal + Copy + Drop>(
     rt: R,
     alloc: Global,
     config: &Config,
     source: Option<&str>,
+    resumed: Option<&str>,
 ) -> Result<UsedFiles, FileFault> {
     let mut used = UsedFiles::new(alloc);
-    if let Some(source) = source {
-        if let Ok(found) = fs::metadata(&rt, source) {
-            used.add(&found, Use::Config)?;
-        }
-    }
+    add_file(&rt, source, Use::Config, &mut used)?;
+    add_file(&rt, resumed, Use::Resumed, &mut used)?;
     add_clips(rt, config.media().as_str(), &mut used)?;
     Ok(used)
+}
+
+/// Adds the file at a path with its use, if there is a path and a file.
+fn add_file<R: Files>(
+    rt: &R,
+    path: Option<&str>,
+    has: Use,
+    used: &mut UsedFiles,
+) -> Result<(), AllocError> {
+    let Some(path) = path else {
+        return Ok(());
+    };
+    match fs::metadata(rt, path) {
+        Ok(found) => used.add(&found, has),
+        Err(_) => Ok(()),
+    }
 }
 
 /// Adds the clips of a folder, if there is one. An entry whose name is not UTF-8 is no clip.

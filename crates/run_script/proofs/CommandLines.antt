@@ -48,6 +48,7 @@ of_fault path (faults.BadLine number) before after sets = absurd sets
 of_fault path (faults.Plan number) before after sets = absurd sets
 of_fault path faults.PlanEnd before after sets = absurd sets
 of_fault path (faults.Record name) before after sets = absurd sets
+of_fault path (faults.Resume number) before after sets = absurd sets
 of_fault path InputTooLong before after sets = absurd sets
 of_fault path (faults.Clip fault) before after sets = absurd sets
 of_fault path (MediaTwice name) before after sets = (omega arith, λ e. omega (arith, e))
@@ -79,6 +80,7 @@ not_well (faults.BadLine number) e = omega (arith, e)
 not_well (faults.Plan number) e = omega (arith, e)
 not_well faults.PlanEnd e = omega (arith, e)
 not_well (faults.Record name) e = omega (arith, e)
+not_well (faults.Resume number) e = omega (arith, e)
 not_well InputTooLong e = omega (arith, e)
 
 -- only the fault of a device has status 4
@@ -95,6 +97,7 @@ is_device (faults.BadLine number) e = absurd (let no : 2 ≡ 4 = e in omega (ari
 is_device (faults.Plan number) e = absurd (let no : 2 ≡ 4 = e in omega (arith, no))
 is_device faults.PlanEnd e = absurd (let no : 2 ≡ 4 = e in omega (arith, no))
 is_device (faults.Record name) e = absurd (let no : 2 ≡ 4 = e in omega (arith, no))
+is_device (faults.Resume number) e = absurd (let no : 2 ≡ 4 = e in omega (arith, no))
 is_device InputTooLong e = absurd (let no : 2 ≡ 4 = e in omega (arith, no))
 
 module _ (before after : Outside) where
@@ -247,6 +250,7 @@ module _ (before after : Outside) where
   not_refused path first none (faults.Plan number) sets tells well = absurd tells
   not_refused path first none faults.PlanEnd sets tells well = absurd tells
   not_refused path first none (faults.Record name) sets tells well = absurd tells
+  not_refused path first none (faults.Resume number) sets tells well = absurd tells
   not_refused path first none InputTooLong sets tells well = absurd tells
 
   -- a refusal meets the first fault
@@ -266,6 +270,7 @@ module _ (before after : Outside) where
   refusal_meets path first (faults.Plan number) status is sets tells unread = absurd tells
   refusal_meets path first faults.PlanEnd status is sets tells unread = absurd tells
   refusal_meets path first (faults.Record name) status is sets tells unread = absurd tells
+  refusal_meets path first (faults.Resume number) status is sets tells unread = absurd tells
   refusal_meets path first InputTooLong status is sets tells unread = absurd tells
 
   pub run_refused : (line : CommandLine) (status : ℕ) → RunsCommandLine line status before after → MeetsFirstFault line status before after

@@ -13,7 +13,7 @@ use Rattle.play_outside.proofs.Counting.{Rose-then}
 use Rattle.clip_format.specs.Decoding.{clip_of}
 use Rattle.clip_format.specs.Preparing.{straight_clip}
 use Rattle.server_setup.specs.declared.fault.RunFault.{RunFault}
-use Rattle.server_setup.specs.declared.fault.RunFault.TheVariants.{Usage, ConfigText, ConfigKey, BadLine, InputTooLong, Plan, PlanEnd, Record, Clip, MediaTwice, MediaTotal, Device, OutOfMemory}
+use Rattle.server_setup.specs.declared.fault.RunFault.TheVariants.{Usage, ConfigText, ConfigKey, BadLine, InputTooLong, Plan, PlanEnd, Record, Resume, Clip, MediaTwice, MediaTotal, Device, OutOfMemory}
 use Rattle.server_setup.specs.Fault.{clip_status}
 use Rattle.run_script.specs.declared.converting.TheConstants.{MAX_CLIP_BYTES}
 use Rattle.script_player.specs.Ending.{exit_status, last_line}
@@ -55,6 +55,7 @@ status_by (Some (BadLine number)) bytes before after ends = absurd ends
 status_by (Some (Plan number)) bytes before after ends = absurd ends
 status_by (Some PlanEnd) bytes before after ends = absurd ends
 status_by (Some (Record name)) bytes before after ends = absurd ends
+status_by (Some (Resume number)) bytes before after ends = absurd ends
 status_by (Some (MediaTwice name)) bytes before after ends = absurd ends
 status_by (Some (MediaTotal sum)) bytes before after ends = absurd ends
 
@@ -73,6 +74,7 @@ well_by (Some (BadLine number)) bytes before after ends good = absurd ends
 well_by (Some (Plan number)) bytes before after ends good = absurd ends
 well_by (Some PlanEnd) bytes before after ends good = absurd ends
 well_by (Some (Record name)) bytes before after ends good = absurd ends
+well_by (Some (Resume number)) bytes before after ends good = absurd ends
 well_by (Some (MediaTwice name)) bytes before after ends good = absurd ends
 well_by (Some (MediaTotal sum)) bytes before after ends good = absurd ends
 
@@ -95,6 +97,7 @@ device_by (Some (BadLine number)) bytes before after ends bad = absurd ends
 device_by (Some (Plan number)) bytes before after ends bad = absurd ends
 device_by (Some PlanEnd) bytes before after ends bad = absurd ends
 device_by (Some (Record name)) bytes before after ends bad = absurd ends
+device_by (Some (Resume number)) bytes before after ends bad = absurd ends
 device_by (Some (MediaTwice name)) bytes before after ends bad = absurd ends
 device_by (Some (MediaTotal sum)) bytes before after ends bad = absurd ends
 
@@ -142,6 +145,7 @@ complete_by (Some (BadLine number)) input bytes found before after read few clip
 complete_by (Some (Plan number)) input bytes found before after read few clip ends read_well wrote_well = absurd ends
 complete_by (Some PlanEnd) input bytes found before after read few clip ends read_well wrote_well = absurd ends
 complete_by (Some (Record name)) input bytes found before after read few clip ends read_well wrote_well = absurd ends
+complete_by (Some (Resume number)) input bytes found before after read few clip ends read_well wrote_well = absurd ends
 complete_by (Some (MediaTwice name)) input bytes found before after read few clip ends read_well wrote_well = absurd ends
 complete_by (Some (MediaTotal sum)) input bytes found before after read few clip ends read_well wrote_well = absurd ends
 

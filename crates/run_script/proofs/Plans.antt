@@ -11,7 +11,7 @@ use Rattle.play_schedule.specs.declared.sheet.SheetFault.TheVariants as sheet_fa
 use Rattle.play_schedule.specs.SheetView.{SheetView}
 use Rattle.play_schedule.specs.Sheet.{sheet_of}
 use Rattle.server_setup.specs.declared.fault.RunFault.{RunFault}
-use Rattle.server_setup.specs.declared.fault.RunFault.TheVariants.{Usage, ConfigText, ConfigKey, BadLine, InputTooLong, Plan, PlanEnd, Record, Clip, MediaTwice, MediaTotal, Device, OutOfMemory}
+use Rattle.server_setup.specs.declared.fault.RunFault.TheVariants.{Usage, ConfigText, ConfigKey, BadLine, InputTooLong, Plan, PlanEnd, Record, Resume, Clip, MediaTwice, MediaTotal, Device, OutOfMemory}
 use Rattle.script_player.specs.Ending.{exit_status, last_line}
 use Rattle.script_player.specs.Run.{Streams}
 use Rattle.cue_player.specs.Planning.{PlanEnds, PlaysSheet}
@@ -27,6 +27,7 @@ module _ (playout : Playout) where
   status_by (Some (Plan number)) bytes before after ends = (omega arith, λ e. omega (arith, e), λ e. omega (arith, e))
   status_by (Some PlanEnd) bytes before after ends = (omega arith, λ e. omega (arith, e), λ e. omega (arith, e))
   status_by (Some (Record name)) bytes before after ends = (omega arith, λ e. omega (arith, e), λ e. omega (arith, e))
+  status_by (Some (Resume number)) bytes before after ends = (omega arith, λ e. omega (arith, e), λ e. omega (arith, e))
   status_by (Some Device) bytes before after ends = (omega arith, λ e. omega (arith, e), λ e. omega (arith, e))
   status_by (Some OutOfMemory) bytes before after ends = (omega arith, λ e. omega (arith, e), λ e. omega (arith, e))
   status_by (Some Usage) bytes before after ends = absurd ends
@@ -45,6 +46,7 @@ module _ (playout : Playout) where
   well_by (Some (Plan number)) bytes before after ends good = absurd (omega (arith, good))
   well_by (Some PlanEnd) bytes before after ends good = absurd (omega (arith, good))
   well_by (Some (Record name)) bytes before after ends good = absurd (omega (arith, good))
+  well_by (Some (Resume number)) bytes before after ends good = absurd (omega (arith, good))
   well_by (Some Device) bytes before after ends good = absurd (omega (arith, good))
   well_by (Some OutOfMemory) bytes before after ends good = absurd (omega (arith, good))
   well_by (Some Usage) bytes before after ends good = absurd ends
@@ -63,6 +65,7 @@ module _ (playout : Playout) where
   device_by (Some (Plan number)) bytes before after ends bad = absurd (omega (arith, bad))
   device_by (Some PlanEnd) bytes before after ends bad = absurd (omega (arith, bad))
   device_by (Some (Record name)) bytes before after ends bad = absurd (omega (arith, bad))
+  device_by (Some (Resume number)) bytes before after ends bad = absurd (omega (arith, bad))
   device_by (Some Device) bytes before after ends bad =
       elim ends.1 [
         | inl failed ↦ inl failed.0
@@ -100,6 +103,7 @@ module _ (playout : Playout) where
   complete_by (Some PlanEnd) input bytes found before after read few is ends read_well wrote_well =
       absurd (not_refused input bytes found sheet_fault.NoEnd (all_read input bytes after.input read ends.whole.at_end).0 is ends.refuses)
   complete_by (Some (Record name)) input bytes found before after read few is ends read_well wrote_well = absurd ends
+  complete_by (Some (Resume number)) input bytes found before after read few is ends read_well wrote_well = absurd ends
   complete_by (Some Device) input bytes found before after read few is ends read_well wrote_well =
       elim ends.1 [
         | inl failed ↦ absurd (read_well failed.0)

@@ -11,7 +11,7 @@ use Rattle.history_model.specs.recordings.Film.{film, film_span}
 use Rattle.history_model.specs.scripts.History.{setup_of}
 use Rattle.history_model.specs.scripts.Line.{until_stop}
 use Rattle.server_setup.specs.declared.fault.RunFault.{RunFault}
-use Rattle.server_setup.specs.declared.fault.RunFault.TheVariants.{Usage, ConfigText, ConfigKey, BadLine, InputTooLong, Plan, PlanEnd, Record, Clip, MediaTwice, MediaTotal, Device, OutOfMemory}
+use Rattle.server_setup.specs.declared.fault.RunFault.TheVariants.{Usage, ConfigText, ConfigKey, BadLine, InputTooLong, Plan, PlanEnd, Record, Resume, Clip, MediaTwice, MediaTotal, Device, OutOfMemory}
 use Rattle.script_player.specs.Ending.{exit_status, last_line}
 use Rattle.script_player.specs.Run.{Streams}
 use Rattle.script_film.specs.Recording.{FilmRequest, HasNoFilm, RecordEnds}
@@ -36,6 +36,7 @@ module _ (request : FilmRequest) (reading : Reading) (before after : Streams) wh
   status_by (Some (ConfigKey key)) ends = absurd ends
   status_by (Some (Plan number)) ends = absurd ends
   status_by (Some PlanEnd) ends = absurd ends
+  status_by (Some (Resume number)) ends = absurd ends
   status_by (Some (Clip fault)) ends = absurd ends
   status_by (Some (MediaTwice name)) ends = absurd ends
   status_by (Some (MediaTotal sum)) ends = absurd ends
@@ -54,6 +55,7 @@ module _ (request : FilmRequest) (reading : Reading) (before after : Streams) wh
   well_by (Some (ConfigKey key)) ends good = absurd ends
   well_by (Some (Plan number)) ends good = absurd ends
   well_by (Some PlanEnd) ends good = absurd ends
+  well_by (Some (Resume number)) ends good = absurd ends
   well_by (Some (Clip fault)) ends good = absurd ends
   well_by (Some (MediaTwice name)) ends good = absurd ends
   well_by (Some (MediaTotal sum)) ends good = absurd ends
@@ -76,6 +78,7 @@ module _ (request : FilmRequest) (reading : Reading) (before after : Streams) wh
   device_by (Some (ConfigKey key)) ends bad = absurd ends
   device_by (Some (Plan number)) ends bad = absurd ends
   device_by (Some PlanEnd) ends bad = absurd ends
+  device_by (Some (Resume number)) ends bad = absurd ends
   device_by (Some (Clip fault)) ends bad = absurd ends
   device_by (Some (MediaTwice name)) ends bad = absurd ends
   device_by (Some (MediaTotal sum)) ends bad = absurd ends
@@ -110,6 +113,7 @@ module _ (request : FilmRequest) (reading : Reading) (before after : Streams) wh
     complete_by (Some (ConfigKey key)) ends few accepted always read_well wrote_well = absurd ends
     complete_by (Some (Plan number)) ends few accepted always read_well wrote_well = absurd ends
     complete_by (Some PlanEnd) ends few accepted always read_well wrote_well = absurd ends
+    complete_by (Some (Resume number)) ends few accepted always read_well wrote_well = absurd ends
     complete_by (Some (Clip fault)) ends few accepted always read_well wrote_well = absurd ends
     complete_by (Some (MediaTwice name)) ends few accepted always read_well wrote_well = absurd ends
     complete_by (Some (MediaTotal sum)) ends few accepted always read_well wrote_well = absurd ends

@@ -6,7 +6,7 @@ use Rattle.play_outside.specs.Faults.{Rose}
 use Rattle.play_outside.proofs.Counting.{Rose-then}
 use Rattle.history_model.specs.scripts.Generator.{generator_output}
 use Rattle.server_setup.specs.declared.fault.RunFault.{RunFault}
-use Rattle.server_setup.specs.declared.fault.RunFault.TheVariants.{Usage, ConfigText, ConfigKey, BadLine, InputTooLong, Plan, PlanEnd, Record, Clip, MediaTwice, MediaTotal, Device, OutOfMemory}
+use Rattle.server_setup.specs.declared.fault.RunFault.TheVariants.{Usage, ConfigText, ConfigKey, BadLine, InputTooLong, Plan, PlanEnd, Record, Resume, Clip, MediaTwice, MediaTotal, Device, OutOfMemory}
 use Rattle.script_player.specs.Ending.{exit_status, last_line}
 use Rattle.made_script.specs.Generating.{Generates}
 use Rattle.run_script.specs.Program.{EndsGenerated, Outside, WritesFaultLine, WritesSummary}
@@ -30,6 +30,7 @@ ends_so (Some (BadLine number)) seed steps before between made = absurd made
 ends_so (Some (Plan number)) seed steps before between made = absurd made
 ends_so (Some PlanEnd) seed steps before between made = absurd made
 ends_so (Some (Record name)) seed steps before between made = absurd made
+ends_so (Some (Resume number)) seed steps before between made = absurd made
 ends_so (Some InputTooLong) seed steps before between made = absurd made
 ends_so (Some (Clip fault)) seed steps before between made = absurd made
 ends_so (Some (MediaTwice name)) seed steps before between made = absurd made

@@ -39,6 +39,7 @@ ConvertEnds (Some (faults.BadLine number)) bytes before after = ⊥
 ConvertEnds (Some (faults.Plan number)) bytes before after = ⊥
 ConvertEnds (Some faults.PlanEnd) bytes before after = ⊥
 ConvertEnds (Some (faults.Record name)) bytes before after = ⊥
+ConvertEnds (Some (faults.Resume number)) bytes before after = ⊥
 ConvertEnds (Some (faults.MediaTwice name)) bytes before after = ⊥
 ConvertEnds (Some (faults.MediaTotal sum)) bytes before after = ⊥
 

@@ -38,7 +38,7 @@ use Rattle.script_film.specs.inner.Recorded.{HasFilmOf, HasReplayed, ReplayEnds,
 use Rattle.script_player.specs.Taken.{EndsWith, RunsPlayer, run_by}
 use Rattle.script_player.proofs.FailedWrites.{fails_rose}
 use Rattle.script_player.proofs.Growth.{reading_of}
-use Rattle.script_film.proofs.ServedScripts.{served_script}
+use Rattle.play_recorder.proofs.ServedScripts.{served_script}
 
 -- a run that writes only replies
 abbrev pub run_for : Playout → SinkState → Run
@@ -233,6 +233,7 @@ module _ (request : FilmRequest) (player : Player) (reading : Reading) (replayed
   film_recorded (Some (faults.ConfigKey key)) before after old new quiet writes = absurd writes
   film_recorded (Some (faults.Plan number)) before after old new quiet writes = absurd writes
   film_recorded (Some faults.PlanEnd) before after old new quiet writes = absurd writes
+  film_recorded (Some (faults.Resume number)) before after old new quiet writes = absurd writes
   film_recorded (Some (faults.Clip fault)) before after old new quiet writes = absurd writes
   film_recorded (Some (faults.MediaTwice name)) before after old new quiet writes = absurd writes
   film_recorded (Some (faults.MediaTotal sum)) before after old new quiet writes = absurd writes

@@ -1,2 +1,1 @@
-pub mod ServedScripts
 pub mod Films

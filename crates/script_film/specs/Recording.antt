@@ -105,6 +105,7 @@ RecordEnds request (Some faults.ConfigText) reading before after = ⊥
 RecordEnds request (Some (faults.ConfigKey key)) reading before after = ⊥
 RecordEnds request (Some (faults.Plan number)) reading before after = ⊥
 RecordEnds request (Some faults.PlanEnd) reading before after = ⊥
+RecordEnds request (Some (faults.Resume number)) reading before after = ⊥
 RecordEnds request (Some (faults.Clip fault)) reading before after = ⊥
 RecordEnds request (Some (faults.MediaTwice name)) reading before after = ⊥
 RecordEnds request (Some (faults.MediaTotal sum)) reading before after = ⊥

@@ -22,6 +22,7 @@ ReadEnds most (Err (faults.BadLine number)) bytes before after = ⊥
 ReadEnds most (Err (faults.Plan number)) bytes before after = ⊥
 ReadEnds most (Err faults.PlanEnd) bytes before after = ⊥
 ReadEnds most (Err (faults.Record name)) bytes before after = ⊥
+ReadEnds most (Err (faults.Resume number)) bytes before after = ⊥
 ReadEnds most (Err (faults.Clip fault)) bytes before after = ⊥
 ReadEnds most (Err (faults.MediaTwice name)) bytes before after = ⊥
 ReadEnds most (Err (faults.MediaTotal sum)) bytes before after = ⊥

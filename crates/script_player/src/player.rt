@@ -94,6 +94,7 @@ impl Player {
         requires shown { IsShownBy (D.shows display.old) (D.waiting display.old) self.old }
         ensures ready { OnOk result (IsReady self.new) }
         ensures grows { OnOk result (ticks (events_in self.new) ≤ ticks (events_in self.old) + ticks_per_byte * (length line.now + 1)) }
+        ensures setup { self.new.setup ≡ self.old.setup }
         ensures told { D.shown display.new ≡ D.shown display.old }
         ensures shown { OnOk result (IsShownBy (D.shows display.new) (D.waiting display.new) self.new) }
         ensures plays { (shown : Shown) (playout : Playout) (played : List PlayedLine) → shown ≡ D.shown display.old

@@ -26,6 +26,7 @@ impl Player {
         requires shown { IsShownBy (D.shows display.old) (D.waiting display.old) self.old }
         ensures ready { OnOk result (IsReady self.new) }
         ensures makes { OnOk result (MakesEvents (replicate count Tick) self.old self.new) }
+        ensures setup { self.new.setup ≡ self.old.setup }
         ensures told { D.shown display.new ≡ D.shown display.old }
         ensures shown { OnOk result (IsShownBy (D.shows display.new) (D.waiting display.new) self.new) }
         ensures written { WritesText result (shown_ticks (D.shown display.old) (playout_in self.old) (events_in self.old) count) (K.state out.old) (K.state out.new) }

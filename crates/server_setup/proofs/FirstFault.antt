@@ -12,7 +12,7 @@ use Rattle.clip_store.specs.declared.fault.ScanFault.TheVariants as scan
 use Rattle.clip_store.specs.Scan.{Tells, scanned}
 use Rattle.server_setup.specs.declared.setup.ServerSetup.{ServerSetup}
 use Rattle.server_setup.specs.declared.fault.RunFault.{RunFault}
-use Rattle.server_setup.specs.declared.fault.RunFault.TheVariants.{Usage, ConfigText, ConfigKey, BadLine, InputTooLong, Plan, PlanEnd, Record, Clip, MediaTwice, MediaTotal, Device, OutOfMemory}
+use Rattle.server_setup.specs.declared.fault.RunFault.TheVariants.{Usage, ConfigText, ConfigKey, BadLine, InputTooLong, Plan, PlanEnd, Record, Resume, Clip, MediaTwice, MediaTotal, Device, OutOfMemory}
 use Rattle.server_setup.specs.Setup.{HoldsSome, SetsUp, TellsFirst, fault_of_clips, fault_of_files, fault_of_held, fault_of_text}
 
 -- the bytes at the path, if bytes that satisfy `IsSuch` are held there
@@ -57,4 +57,5 @@ told_first path (Err InputTooLong) before after files known sets = absurd sets
 told_first path (Err (Plan number)) before after files known sets = absurd sets
 told_first path (Err PlanEnd) before after files known sets = absurd sets
 told_first path (Err (Record name)) before after files known sets = absurd sets
+told_first path (Err (Resume number)) before after files known sets = absurd sets
 told_first path (Err (Clip fault)) before after files known sets = absurd sets

@@ -14,7 +14,7 @@ use Rattle.clip_store.specs.declared.fault.ScanFault.{ScanFault}
 use Rattle.clip_store.specs.declared.fault.ScanFault.TheVariants as scan
 use Rattle.server_setup.specs.declared.setup.ServerSetup.{ServerSetup}
 use Rattle.server_setup.specs.declared.fault.RunFault.{RunFault}
-use Rattle.server_setup.specs.declared.fault.RunFault.TheVariants.{Usage, ConfigText, ConfigKey, BadLine, InputTooLong, Plan, PlanEnd, Record, Clip, MediaTwice, MediaTotal, Device, OutOfMemory}
+use Rattle.server_setup.specs.declared.fault.RunFault.TheVariants.{Usage, ConfigText, ConfigKey, BadLine, InputTooLong, Plan, PlanEnd, Record, Resume, Clip, MediaTwice, MediaTotal, Device, OutOfMemory}
 use Rattle.server_setup.specs.Fault.{fault_of_config, fault_of_file, fault_of_scan}
 use Rattle.server_setup.specs.Setup.{Scans, SetsUp}
 use Rattle.server_setup.specs.inner.Reading.{ReadsMedia}
@@ -57,6 +57,7 @@ shown_from path bytes config (Err InputTooLong) before after held accepted shows
 shown_from path bytes config (Err (Plan number)) before after held accepted shows = absurd shows
 shown_from path bytes config (Err PlanEnd) before after held accepted shows = absurd shows
 shown_from path bytes config (Err (Record name)) before after held accepted shows = absurd shows
+shown_from path bytes config (Err (Resume number)) before after held accepted shows = absurd shows
 shown_from path bytes config (Err (Clip fault)) before after held accepted shows = absurd shows
 
 -- the clips of a configuration that is accepted
@@ -80,6 +81,7 @@ kept_but_device path (Err InputTooLong) before after sets other = absurd sets
 kept_but_device path (Err (Plan number)) before after sets other = absurd sets
 kept_but_device path (Err PlanEnd) before after sets other = absurd sets
 kept_but_device path (Err (Record name)) before after sets other = absurd sets
+kept_but_device path (Err (Resume number)) before after sets other = absurd sets
 kept_but_device path (Err (Clip fault)) before after sets other = absurd sets
 
 -- no result changes what is held
@@ -97,6 +99,7 @@ files_kept path (Err InputTooLong) before after sets = absurd sets
 files_kept path (Err (Plan number)) before after sets = absurd sets
 files_kept path (Err PlanEnd) before after sets = absurd sets
 files_kept path (Err (Record name)) before after sets = absurd sets
+files_kept path (Err (Resume number)) before after sets = absurd sets
 files_kept path (Err (Clip fault)) before after sets = absurd sets
 
 -- the fault of a folder whose clips did not become a table, passed on

@@ -10,7 +10,7 @@ use Rattle.play_types.specs.declared.clip_fault.ClipFault.TheVariants as clip
 use Rattle.clip_store.specs.declared.fault.ScanFault.{ScanFault}
 use Rattle.clip_store.specs.declared.fault.ScanFault.TheVariants as scan
 use Rattle.server_setup.specs.declared.fault.RunFault.{RunFault}
-use Rattle.server_setup.specs.declared.fault.RunFault.TheVariants.{Usage, ConfigText, ConfigKey, BadLine, InputTooLong, Plan, PlanEnd, Record, Clip, MediaTwice, MediaTotal, Device, OutOfMemory}
+use Rattle.server_setup.specs.declared.fault.RunFault.TheVariants.{Usage, ConfigText, ConfigKey, BadLine, InputTooLong, Plan, PlanEnd, Record, Resume, Clip, MediaTwice, MediaTotal, Device, OutOfMemory}
 
 -- the exit status if a clip is refused
 abbrev pub clip_status : ClipFault → ℕ
@@ -50,6 +50,7 @@ status_of InputTooLong = 2
 status_of (Plan number) = 2
 status_of PlanEnd = 2
 status_of (Record name) = 2
+status_of (Resume number) = 2
 status_of (Clip fault) = clip_status fault
 status_of (MediaTwice name) = 3
 status_of (MediaTotal total) = 3
@@ -66,6 +67,7 @@ fault_line InputTooLong = codes "E input too long\n"
 fault_line (Plan number) = codes "E plan " ++ decimal number ++ 10 ∷ []
 fault_line PlanEnd = codes "E plan end\n"
 fault_line (Record name) = codes "E record " ++ encode_utf8_all name ++ 10 ∷ []
+fault_line (Resume number) = codes "E resume " ++ decimal number ++ 10 ∷ []
 fault_line (Clip fault) = clip_line fault
 fault_line (MediaTwice name) = codes "E media twice " ++ encode_utf8_all name ++ 10 ∷ []
 fault_line (MediaTotal total) = codes "E media total " ++ decimal total ++ 10 ∷ []
@@ -82,6 +84,7 @@ HasDetail InputTooLong = ⊥
 HasDetail (Plan number) = Unit {0}
 HasDetail PlanEnd = ⊥
 HasDetail (Record name) = Unit {0}
+HasDetail (Resume number) = Unit {0}
 HasDetail (Clip fault) = HasNumber fault
 HasDetail (MediaTwice name) = Unit {0}
 HasDetail (MediaTotal total) = Unit {0}

@@ -11,7 +11,7 @@ use Rattle.clip_store.specs.declared.fault.ScanFault.{ScanFault}
 use Rattle.clip_store.specs.declared.fault.ScanFault.TheVariants as scan
 use Rattle.clip_store.specs.Scan.{Answers, scanned}
 use Rattle.server_setup.specs.declared.fault.RunFault.{RunFault}
-use Rattle.server_setup.specs.declared.fault.RunFault.TheVariants.{Usage, ConfigText, ConfigKey, BadLine, InputTooLong, Plan, PlanEnd, Record, Clip, MediaTwice, MediaTotal, Device, OutOfMemory}
+use Rattle.server_setup.specs.declared.fault.RunFault.TheVariants.{Usage, ConfigText, ConfigKey, BadLine, InputTooLong, Plan, PlanEnd, Record, Resume, Clip, MediaTwice, MediaTotal, Device, OutOfMemory}
 use Rattle.server_setup.specs.declared.setup.ServerSetup.{ServerSetup}
 use Rattle.server_setup.specs.Fault.{fault_of_scan}
 
@@ -47,6 +47,7 @@ SetsUp path (Err InputTooLong) before after = ⊥
 SetsUp path (Err (Plan number)) before after = ⊥
 SetsUp path (Err PlanEnd) before after = ⊥
 SetsUp path (Err (Record name)) before after = ⊥
+SetsUp path (Err (Resume number)) before after = ⊥
 SetsUp path (Err (Clip fault)) before after = ⊥
 
 -- the fault of clips that do not become a table
@@ -85,4 +86,5 @@ TellsFirst (Err InputTooLong) first = ⊥
 TellsFirst (Err (Plan number)) first = ⊥
 TellsFirst (Err PlanEnd) first = ⊥
 TellsFirst (Err (Record name)) first = ⊥
+TellsFirst (Err (Resume number)) first = ⊥
 TellsFirst (Err (Clip fault)) first = ⊥

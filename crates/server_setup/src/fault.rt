@@ -35,6 +35,8 @@ pub enum RunFault {
     PlanEnd,
     /// The script has no film of this name.
     Record(Text),
+    /// The line with this number, counted from 1, is the first line of a history that cannot be resumed.
+    Resume(u64),
     /// The input is no clip.
     Clip(ClipFault),
     /// Two clip files have this name.
@@ -49,7 +51,7 @@ pub enum RunFault {
 
 impl RunFault {
     /// Returns the exit status: 1 for the command line, 2 for the configuration, the script, the cue sheet, the
-    /// recording and the clip that is read, 3 for the clips of the folder, 4 for a device and 5 for memory.
+    /// recording, the history that is resumed and the clip that is read, 3 for the clips of the folder, 4 for a device and 5 for memory.
     pub fn status(&self) -> u8
         ensures { result ≡ status_of self.now }
     {
@@ -61,7 +63,8 @@ impl RunFault {
             | RunFault::InputTooLong
             | RunFault::Plan(_)
             | RunFault::PlanEnd
-            | RunFault::Record(_) => 2,
+            | RunFault::Record(_)
+            | RunFault::Resume(_) => 2,
             RunFault::Clip(fault) => clip_line::status(*fault),
             RunFault::MediaTwice(_) | RunFault::MediaTotal(_) => 3,
             RunFault::Device => 4,
@@ -91,6 +94,7 @@ impl RunFault {
             | RunFault::BadLine(_)
             | RunFault::Plan(_)
             | RunFault::Record(_)
+            | RunFault::Resume(_)
             | RunFault::MediaTwice(_)
             | RunFault::MediaTotal(_) => None,
             RunFault::Clip(fault) => clip_line::short(*fault),
@@ -132,6 +136,7 @@ impl RunFault {
             RunFault::Plan(_) => "E plan ",
             RunFault::PlanEnd => "E plan end",
             RunFault::Record(_) => "E record ",
+            RunFault::Resume(_) => "E resume ",
             RunFault::Clip(fault) => clip_line::label(*fault),
             RunFault::MediaTwice(_) => "E media twice ",
             RunFault::MediaTotal(_) => "E media total ",
@@ -148,7 +153,8 @@ impl RunFault {
         match self {
             RunFault::ConfigKey(name) | RunFault::Record(name) | RunFault::MediaTwice(name) =>
                 name.as_str(),
-            RunFault::BadLine(number) | RunFault::MediaTotal(number) => digits.format(*number),
+            RunFault::BadLine(number) | RunFault::Resume(number) | RunFault::MediaTotal(number) =>
+                digits.format(*number),
             RunFault::Plan(number) => digits.format(*number),
             RunFault::Clip(fault) => clip_line::first_number(*fault, digits),
             RunFault::Usage
@@ -174,6 +180,7 @@ impl RunFault {
             | RunFault::Plan(_)
             | RunFault::PlanEnd
             | RunFault::Record(_)
+            | RunFault::Resume(_)
             | RunFault::MediaTwice(_)
             | RunFault::MediaTotal(_)
             | RunFault::Device
@@ -222,6 +229,7 @@ impl fmt::Display for RunFault {
                 let name = name.as_str();
                 write!(f, "nothing was recorded under the name {name}")
             }
+            RunFault::Resume(number) => write!(f, "line {number} of the history cannot be resumed"),
             RunFault::Clip(fault) => write!(f, "the input is no clip: {fault}"),
             RunFault::MediaTwice(name) => {
                 let name = name.as_str();

@@ -4,11 +4,8 @@ use Rattle.play_types.specs.History.{ticks}
 use Rattle.play_types.specs.declared.event.Event.{Event}
 use Rattle.play_types.specs.declared.event.Event.TheVariants.{Do, Batch, Tick, Stop}
 use Rattle.history_model.specs.recordings.Film.{Span}
-use Rattle.needed_frames.specs.Counted.{HasDepths}
 use Rattle.needed_frames.specs.Depth.{depth}
 use Rattle.play_recorder.specs.Recording.{is_recorded}
-use Rattle.play_recorder.specs.declared.first_needed.Look.{Look}
-use Rattle.play_recorder.specs.inner.Replay.{HasScenes, events_in}
 
 -- the least of a number and, if an event after a history is a recorded tick, of the number of ticks before the first one whose frames it
 -- needs
@@ -35,8 +32,3 @@ NeedsNoneOf skipped span past (Do tag cmd) = Unit {0}
 NeedsNoneOf skipped span past (Batch tag cmds) = Unit {0}
 NeedsNoneOf skipped span past Tick = is_recorded span (ticks past) ≡ true → skipped ≤ ticks past - depth past span.channel
 NeedsNoneOf skipped span past (Stop tag) = Unit {0}
-
--- a look knows the depths of the channels of its stage
-pub record IsLook (look : Look) : Type 0 where
-  pub scenes : HasScenes look.replay
-  pub depths : HasDepths look.replay.stage.channels (events_in look.replay) look.depths

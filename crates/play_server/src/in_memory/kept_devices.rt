@@ -1,6 +1,6 @@
 //! Devices that a site in memory keeps.
 ghost use Rattle.std.specs.Prelude.{◌≡◌};
-ghost use Rattle.play_server.specs.Site.{device_states};
+ghost use Rattle.server_run.specs.Devices.{device_states};
 ghost use Rattle.play_server.specs.Unused.{AreUnused, unused-prop};
 
 use play_outside::{Clock, Devices, Listener, Sink};
@@ -13,7 +13,8 @@ pub(crate) struct KeptDevices<C: Clock, D: Listener, O: Sink> {
 }
 
 impl<C: Clock, D: Listener, O: Sink> KeptDevices<C, D, O> {
-    ghost use Rattle.play_server.specs.Site.{AreNew, device_states};
+    ghost use Rattle.server_run.specs.Devices.{device_states};
+    ghost use Rattle.play_server.specs.Site.{AreNew};
 
     /// Keeps the devices.
     pub(crate) fn new(devices: Devices<C, D, O>) -> KeptDevices<C, D, O>

@@ -1,20 +1,26 @@
 //! A site in memory.
 ghost use Rattle.std.specs.Prelude.{◌≡◌, Some, None, true, false, [], refl, option_map, IfOk, MatchResult, ◌-◌, vec_len, vec_capacity};
-ghost use Rattle.play_server.specs.Site.{AreNew, AreReady, Finishes, IsNotReady, Says, device_states, ready_call};
+ghost use Rattle.play_outside.specs.declared.folder.FileFault.TheVariants as file;
+ghost use Rattle.server_run.specs.Devices.{device_states};
+ghost use Rattle.play_server.specs.Site.{AreNew, AreReady, Finishes, IsNotOpened, IsNotReady, Opens, Says, ready_call};
 ghost use Rattle.play_server.specs.SiteState.{after_call};
-ghost use Rattle.play_server.specs.MemSite.{fails_next, finish_step, is_ready};
+ghost use Rattle.play_server.specs.MemSite.{can_open, fails_next, finish_step, is_ready};
 
 use super::copies::{new_call, push_line};
 use super::kept_devices::KeptDevices;
+use super::kept_history::KeptHistory;
+use crate::resumed::Resumed;
 use crate::site::{FinishStep, ReadyCall, Site};
+use history_reader::NoTeller;
 use play_outside::{
-    Clock, Devices, FileFault, Listener, MemMedia, PlannedFaults, Rest, Sink, WriteStep,
+    Clock, Devices, FileFault, Listener, MemMedia, MemSource, PlannedFaults, Rest, Sink, Source,
+    WriteStep,
 };
-use play_types::Config;
+use play_types::{ByteList, Config};
 use std::alloc::{AllocError, Global};
 
-/// A site that hands out, once, the devices that it was created with. It records its calls, the devices that came back and
-/// the lines that were printed.
+/// A site that hands out, once, the devices that it was created with. It records its calls, the devices that came back, the lines
+/// that were printed, and the paths of the histories that were opened.
 #[derive(Drop)]
 pub struct MemSite<C: Clock, D: Listener, O: Sink> {
     media: MemMedia,
@@ -24,16 +30,18 @@ pub struct MemSite<C: Clock, D: Listener, O: Sink> {
     finished: Option<Devices<C, D, O>>,
     finishes: u64,
     said: Vec<u8>,
+    history: KeptHistory,
+    resumed: Vec<ByteList>,
     planned: PlannedFaults,
 }
 
 impl<C: Clock, D: Listener, O: Rest + Send> MemSite<C, D, O> {
-    /// Creates a site with the folder `media` and these devices, and with room for `room` bytes of printed lines. The calls of
-    /// `ready`, `finish` and `say` whose numbers are in `fails` return `Failed`. The numbers count from 1 over all three
-    /// functions, without the calls of `ready` that run out of memory.
+    /// Creates a site with the folder `media` and these devices, without a history, and with room for `room` bytes of printed
+    /// lines. The calls of `ready`, `finish`, `resume` and `say` whose numbers are in `fails` return `Failed`. The numbers count
+    /// from 1 over all four functions, without the calls of `ready` and `resume` that run out of memory.
     ///
-    /// `ready` also fails for another number of doors or outputs, and after the devices were handed out; `say` also fails if
-    /// there is no room for the line and its line feed.
+    /// `ready` also fails for another number of doors or outputs, and after the devices were handed out; `resume` also fails
+    /// without a history; `say` also fails if there is no room for the line and its line feed.
     pub fn new(
         alloc: Global,
         media: MemMedia,
@@ -42,7 +50,7 @@ impl<C: Clock, D: Listener, O: Rest + Send> MemSite<C, D, O> {
         fails: Vec<u64>,
     ) -> Result<MemSite<C, D, O>, AllocError>
         requires { AreNew (device_states C.state D.state O.state) devices }
-        ensures fresh { IfOk result (λ site. ⟦<MemSite<C, D, O> as Site>⟧.state site ≡ record { told = Some (record { calls = []; calls_without_memory = 0; finished = None; finishes = 0; said = [] }); faults = 0 }) }
+        ensures fresh { IfOk result (λ site. ⟦<MemSite<C, D, O> as Site>⟧.state site ≡ record { told = Some (record { calls = []; calls_without_memory = 0; finished = None; finishes = 0; said = []; resumed = [] }); history = record { left = Some []; faults = 0 }; faults = 0 }) }
         ensures folder { IfOk result (λ site. ⟦<MemSite<C, D, O> as Site>⟧.folder site ≡ media) }
         ensures devices { IfOk result (λ site. option_map (λ kept. kept.devices) site.held ≡ Some devices) }
         ensures room { IfOk result (λ site. vec_capacity site.said - vec_len site.said ≡ room) }
@@ -56,8 +64,20 @@ impl<C: Clock, D: Listener, O: Rest + Send> MemSite<C, D, O> {
             finished: None,
             finishes: 0,
             said,
+            history: KeptHistory::none(alloc),
+            resumed: Vec::new(alloc),
             planned: PlannedFaults::new(fails),
         })
+    }
+
+    /// Returns the site with a history of these bytes at each path, in place of its own. The reads of it whose numbers, counted from
+    /// 1, are in `fails` return `Failed`.
+    pub fn with_history(mut self, bytes: Vec<u8>, fails: Vec<u64>) -> MemSite<C, D, O>
+        ensures history { ⟦<MemSite<C, D, O> as Site>⟧.state result ≡ record (⟦<MemSite<C, D, O> as Site>⟧.state self) { history = record { left = Some bytes.items; faults = 0 } } }
+        ensures kept { result.history.is_kept ≡ true }
+    {
+        self.history = KeptHistory::of(bytes, fails);
+        self
     }
 
     /// Returns the calls of `ready` that did not run out of memory, in order.
@@ -95,7 +115,14 @@ impl<C: Clock, D: Listener, O: Rest + Send> MemSite<C, D, O> {
         self.said.as_slice()
     }
 
-    /// Returns how often a call of `ready`, `finish` or `say` has failed.
+    /// Returns the paths of the histories that were opened, in order.
+    pub fn resumed(&self) -> &[ByteList]
+        ensures { option_map (λ told. told.resumed) (⟦<MemSite<C, D, O> as Site>⟧.state self.now).told ≡ Some result.now }
+    {
+        self.resumed.as_slice()
+    }
+
+    /// Returns how often a call of `ready`, `finish`, `resume` or `say` has failed.
     pub fn faults(&self) -> u64
         ensures { result ≡ (⟦<MemSite<C, D, O> as Site>⟧.state self.now).faults }
     {
@@ -106,13 +133,17 @@ impl<C: Clock, D: Listener, O: Rest + Send> MemSite<C, D, O> {
 impl<C: Clock, D: Listener, O: Rest + Send> Site for MemSite<C, D, O> {
     type Media = MemMedia;
 
+    type History = MemSource;
+
+    type Teller = NoTeller;
+
     type Clock = C;
 
     type Door = D;
 
     type Out = O;
 
-    ghost state = { λ s. record { told = Some (record { calls = s.calls.items; calls_without_memory = s.calls_without_memory; finished = s.finished; finishes = s.finishes; said = s.said.items }); faults = s.planned.count } };
+    ghost state = { λ s. record { told = Some (record { calls = s.calls.items; calls_without_memory = s.calls_without_memory; finished = s.finished; finishes = s.finishes; said = s.said.items; resumed = s.resumed.items }); history = record { left = Some s.history.bytes.items; faults = 0 }; faults = s.planned.count } };
 
     ghost folder = { λ s. s.media };
 
@@ -121,6 +152,30 @@ impl<C: Clock, D: Listener, O: Rest + Send> Site for MemSite<C, D, O> {
     fn media(&mut self) -> &mut MemMedia {
         &mut self.media
     }
+
+    fn resume(&mut self, alloc: Global, path: &str) -> Result<MemSource, FileFault>
+        ensures told { MatchResult result
+            (λ file. Opens path.now (⟦<MemSource as Source>⟧.state file) (⟦<MemSite<C, D, O> as Site>⟧.state self.old) (⟦<MemSite<C, D, O> as Site>⟧.state self.new))
+            (λ fault. IsNotOpened fault (⟦<MemSite<C, D, O> as Site>⟧.state self.old) (⟦<MemSite<C, D, O> as Site>⟧.state self.new)) }
+        ensures folder { self.new.media ≡ self.old.media }
+        ensures exact { MatchResult result (λ _. can_open (fails_next self.old.planned) self.old.history.is_kept ≡ true) (λ fault. fault ≡ file.Failed → can_open (fails_next self.old.planned) self.old.history.is_kept ≡ false) }
+    {
+        let path = ByteList::new(Vec::from_slice(alloc, path.as_bytes())?);
+        let source = self.history.source(alloc)?;
+        self.resumed.reserve(1)?;
+        if self.planned.fails_now() || !self.history.is_kept() {
+            self.planned.raise();
+            return Err(FileFault::Failed);
+        }
+        self.resumed.push_reserved(path);
+        Ok(source)
+    }
+
+    fn teller(&self) -> NoTeller {
+        NoTeller
+    }
+
+    fn tell_resumed(&self, _path: &str, _teller: NoTeller, _resumed: Option<Resumed>) {}
 
     fn ready(
         &mut self,

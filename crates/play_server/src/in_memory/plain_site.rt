@@ -1,17 +1,20 @@
 //! A site whose devices never fail.
-ghost use Rattle.std.specs.Prelude.{◌≡◌, None, refl, IfOk, All, vec_len};
+ghost use Rattle.std.specs.Prelude.{◌≡◌, None, Some, [], refl, IfOk, All, vec_len};
 ghost use Rattle.play_server.specs.Site.{AreNumbered, AreReady, Finishes, IsNewDoor};
 ghost use Rattle.play_outside.specs.Fresh.{IsNewSink};
 
+use crate::resumed::Resumed;
 use crate::site::{FinishStep, Site};
+use history_reader::NoTeller;
 use play_outside::{
-    Devices, FileFault, Listener, PlainClock, PlainDoor, PlainMedia, PlainSink, Sink, WriteStep,
+    Devices, FileFault, Listener, MemSource, PlainClock, PlainDoor, PlainMedia, PlainSink, Sink,
+    WriteStep,
 };
 use play_types::Config;
 use std::alloc::{AllocError, Global};
 
-/// A site that gives plain devices at each call, as many as the configuration names. It fails only if memory runs out, and
-/// does not record its calls.
+/// A site that gives plain devices at each call, as many as the configuration names, and an empty history. It fails only if memory
+/// runs out, and does not record its calls.
 #[derive(Clone, Copy)]
 pub struct PlainSite {
     media: PlainMedia,
@@ -22,7 +25,7 @@ pub struct PlainSite {
 impl PlainSite {
     /// Creates a site whose clocks give `pulses` pulses, and whose doors give `lines` links each.
     pub fn new(pulses: u64, lines: u32) -> PlainSite
-        ensures { ⟦<PlainSite as Site>⟧.state result ≡ record { told = None; faults = 0 } }
+        ensures { ⟦<PlainSite as Site>⟧.state result ≡ record { told = None; history = record { left = Some []; faults = 0 }; faults = 0 } }
     {
         PlainSite {
             media: PlainMedia,
@@ -35,13 +38,17 @@ impl PlainSite {
 impl Site for PlainSite {
     type Media = PlainMedia;
 
+    type History = MemSource;
+
+    type Teller = NoTeller;
+
     type Clock = PlainClock;
 
     type Door = PlainDoor;
 
     type Out = PlainSink;
 
-    ghost state = { λ _. record { told = None; faults = 0 } };
+    ghost state = { λ _. record { told = None; history = record { left = Some []; faults = 0 }; faults = 0 } };
 
     ghost folder = { λ s. s.media };
 
@@ -50,6 +57,16 @@ impl Site for PlainSite {
     fn media(&mut self) -> &mut PlainMedia {
         &mut self.media
     }
+
+    fn resume(&mut self, alloc: Global, _path: &str) -> Result<MemSource, FileFault> {
+        Ok(MemSource::new(Vec::new(alloc), 1, Vec::new(alloc)))
+    }
+
+    fn teller(&self) -> NoTeller {
+        NoTeller
+    }
+
+    fn tell_resumed(&self, _path: &str, _teller: NoTeller, _resumed: Option<Resumed>) {}
 
     fn ready(
         &mut self,

@@ -1,7 +1,8 @@
 //! Devices in memory, made by a plan.
 ghost use Rattle.std.specs.Prelude.{◌≡◌, All, IfOk};
 ghost use Rattle.play_outside.specs.Fresh.{IsNewSink};
-ghost use Rattle.play_server.specs.Site.{AreNew, AreNumbered, IsNewClock, IsNewDoor, device_states};
+ghost use Rattle.server_run.specs.Devices.{device_states};
+ghost use Rattle.play_server.specs.Site.{AreNew, AreNumbered, IsNewClock, IsNewDoor};
 
 use super::plan::{Calls, Client, Moment, Plan};
 use play_outside::{

@@ -2,7 +2,8 @@
 mod table;
 
 use super::devices::{HeldDevices, HeldSite, folder_of, run, site_of};
-use play_server::{MemSite, PlainSite, ServeEnd, Site, serve};
+use play_server::{MemSite, PlainSite, Site};
+use server_run::{ServeEnd, serve};
 use server_setup::set_up;
 use std::process::Abort;
 use std::str;

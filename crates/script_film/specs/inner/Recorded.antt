@@ -61,6 +61,7 @@ WritesFilm player name (Some faults.ConfigText) before after = ⊥
 WritesFilm player name (Some (faults.ConfigKey key)) before after = ⊥
 WritesFilm player name (Some (faults.Plan number)) before after = ⊥
 WritesFilm player name (Some faults.PlanEnd) before after = ⊥
+WritesFilm player name (Some (faults.Resume number)) before after = ⊥
 WritesFilm player name (Some (faults.Clip fault)) before after = ⊥
 WritesFilm player name (Some (faults.MediaTwice twice)) before after = ⊥
 WritesFilm player name (Some (faults.MediaTotal sum)) before after = ⊥

@@ -4,7 +4,7 @@ use Rattle.std.specs.Str.{encode_utf8_all}
 use Rattle.play_types.specs.declared.clip_fault.ClipFault.{ClipFault}
 use Rattle.play_types.specs.declared.clip_fault.ClipFault.TheVariants as clip
 use Rattle.server_setup.specs.declared.fault.RunFault.{RunFault}
-use Rattle.server_setup.specs.declared.fault.RunFault.TheVariants.{Usage, ConfigText, ConfigKey, BadLine, InputTooLong, Plan, PlanEnd, Record, Clip, MediaTwice, MediaTotal, Device, OutOfMemory}
+use Rattle.server_setup.specs.declared.fault.RunFault.TheVariants.{Usage, ConfigText, ConfigKey, BadLine, InputTooLong, Plan, PlanEnd, Record, Resume, Clip, MediaTwice, MediaTotal, Device, OutOfMemory}
 
 -- the first number in the line of a refused clip, or nothing if it has none
 abbrev pub first_number : ClipFault → List ℕ
@@ -34,6 +34,7 @@ detail_of InputTooLong = []
 detail_of (Plan number) = decimal number
 detail_of PlanEnd = []
 detail_of (Record name) = encode_utf8_all name
+detail_of (Resume number) = decimal number
 detail_of (Clip fault) = first_number fault
 detail_of (MediaTwice name) = encode_utf8_all name
 detail_of (MediaTotal total) = decimal total
@@ -50,6 +51,7 @@ second_of InputTooLong = []
 second_of (Plan number) = []
 second_of PlanEnd = []
 second_of (Record name) = []
+second_of (Resume number) = []
 second_of (Clip fault) = second_number fault
 second_of (MediaTwice name) = []
 second_of (MediaTotal total) = []

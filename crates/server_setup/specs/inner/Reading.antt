@@ -6,7 +6,7 @@ use Rattle.play_outside.specs.FolderState.{FolderState}
 use Rattle.clip_format.specs.Table.{media_names}
 use Rattle.clip_store.specs.declared.fault.ScanFault.TheVariants as scan
 use Rattle.server_setup.specs.declared.fault.RunFault.{RunFault}
-use Rattle.server_setup.specs.declared.fault.RunFault.TheVariants.{Usage, ConfigText, ConfigKey, BadLine, InputTooLong, Plan, PlanEnd, Record, Clip, MediaTwice, MediaTotal, Device, OutOfMemory}
+use Rattle.server_setup.specs.declared.fault.RunFault.TheVariants.{Usage, ConfigText, ConfigKey, BadLine, InputTooLong, Plan, PlanEnd, Record, Resume, Clip, MediaTwice, MediaTotal, Device, OutOfMemory}
 use Rattle.server_setup.specs.declared.setup.ServerSetup.{ServerSetup}
 use Rattle.server_setup.specs.Setup.{Scans}
 
@@ -26,4 +26,5 @@ ReadsMedia config (Err InputTooLong) before after = ⊥
 ReadsMedia config (Err (Plan number)) before after = ⊥
 ReadsMedia config (Err PlanEnd) before after = ⊥
 ReadsMedia config (Err (Record name)) before after = ⊥
+ReadsMedia config (Err (Resume number)) before after = ⊥
 ReadsMedia config (Err (Clip fault)) before after = ⊥

@@ -9,7 +9,7 @@ pub loop-init : goal.loop-init
 loop-init g c = record {
   of = c.requires.of;
   text = c.new-text.ensures;
-  keeping = none_kept c.args.stage.now.sizes.given c.args.names.now (record { pass = c.args.pass.now; sink = g.K.Sink.state c.args.log.now }) c.args.place c.requires.place;
+  keeping = none_kept c.args.stage.now.sizes.given c.args.names.now (record { pass = c.args.pass.now; sink = g.K.Sink.state c.args.log.now }) c.start-place.result c.start-place.ensures;
 }
 
 pub write_runs-requires : goal.write_runs-requires

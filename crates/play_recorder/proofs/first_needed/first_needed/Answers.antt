@@ -16,7 +16,7 @@ pub event-requires-clause-can : goal.event-requires-clause-can
 event-requires-clause-can c =
     let events = c.args.journal.now.events in
     let can : CanPlay (new_stage c.args.config.now) events = can_play c.args.config.now c.args.journal.now c.held-held.ensures.range c.requires.served c.requires.room in
-    next_can (new_stage c.args.config.now) events c.loop-event.look.replay.stage c.in-Some.event.now c.next.new.self
+    next_can (new_stage c.args.config.now) events c.loop-event.look.replay.played.stage c.in-Some.event.now c.next.new.self
     (rw c.in-Some.ensures.steps at c.loop-event.invariant.played) can
 
 pub loop-event-preserved : goal.loop-event-preserved
@@ -24,5 +24,5 @@ loop-event-preserved c =
     let next =
     one_looked c.args.film.now (new_stage c.args.config.now) c.args.journal.now.events c.loop-event.look c.in-Some.event.now c.next.new.self c.event.new.self
     c.loop-event.invariant.film (rw c.in-Some.ensures.steps at c.loop-event.invariant.played) (rw c.in-Some.ensures.steps at c.loop-event.invariant.first)
-    c.in_ok-event.ensures.look c.in_ok-event.ensures.made c.event.ensures.film c.in_ok-event.ensures.first in
-    record { look = next.0; film = next.1; played = next.2; first = next.3 }
+    c.in_ok-event.ensures.depths c.in_ok-event.ensures.made c.event.ensures.film c.in_ok-event.ensures.first in
+    record { depths = next.0; film = next.1; played = next.2; first = next.3 }

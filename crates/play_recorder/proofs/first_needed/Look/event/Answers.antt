@@ -1,23 +1,8 @@
-use Rattle.std.proofs.Common.{◌≢◌, inl, inr}
-use Rattle.play_types.specs.declared.event.Event.TheVariants.{Tick}
-use Rattle.play_recorder.proofs.Looking.{look_after_event}
 use Rattle.play_recorder.proofs.Playing.{next_running, tick_time}
 use Rattle.play_recorder.proofs.first_needed.Look.event.Goals as goal
 
 pub tick-requires-clause-running : goal.tick-requires-clause-running
-tick-requires-clause-running c = next_running c.args.self.now.replay.stage c.args.event.now c.requires.can
+tick-requires-clause-running c = next_running c.args.self.now.replay.played.stage c.args.event.now c.requires.can
 
 pub tick-requires-clause-time : goal.tick-requires-clause-time
-tick-requires-clause-time c = tick_time c.args.self.now.replay.stage c.args.event.now c.requires.can c.in-Tick.is
-
-pub returns-in_ok-event-in-Do-clause-look : goal.returns-in_ok-event-in-Do-clause-look
-returns-in_ok-event-in-Do-clause-look c =
-    let other : c.args.event.now ≢ Tick = λ same. elim c.in-Do.is [
-      | inl command ↦ let is = command.2 in cc
-      | inr others ↦ elim others [
-        | inl batch ↦ let is = batch.2 in cc
-        | inr stop ↦ let is = stop.1 in cc
-      ]
-    ] in
-    look_after_event c.args.self.now c.event.new.self c.args.event.now other c.requires.look
-    c.in_ok-event-in-Do.ensures.scenes c.in_ok-event-in-Do.ensures.made
+tick-requires-clause-time c = tick_time c.args.self.now.replay.played.stage c.args.event.now c.requires.can c.in-Tick.is

@@ -24,7 +24,7 @@ write_event-requires-clause-needed g c κs within = none_skipped _ _ _ _ _ _ _ (
 pub loop-event-preserved : goal.loop-event-preserved
 loop-event-preserved g c =
     one_recorded _ _ _ _ _ _ _ (rw c.in-Some.ensures.steps at c.loop-event.invariant) c.write_event.new.self _
-    c.in_ok-write_event.ensures.ready c.in_ok-write_event.ensures.follows c.in_ok-write_event.ensures.written
+    c.in_ok-write_event.ensures.ready c.in_ok-write_event.ensures.follows c.write_event.ensures.film c.in_ok-write_event.ensures.written
 
 pub returns-in_err-write_event : goal.returns-in_err-write_event
 returns-in_err-write_event g c =

@@ -1,0 +1,12 @@
+pub mod FaultyLines
+pub mod Stopped
+pub mod Texts
+pub mod Asked
+pub mod Steps
+pub mod Plain
+pub mod RightLines
+pub mod RightTexts
+pub mod Taking
+pub mod PlayedUpTo
+pub mod Spoken
+pub mod ReadTexts

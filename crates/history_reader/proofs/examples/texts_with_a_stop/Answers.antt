@@ -1,0 +1,29 @@
+use Rattle.std.proofs.Common.{refl}
+use Rattle.history_model.specs.scripts.History.{events_after, goes_on, goes_on_after, script_events}
+use Rattle.history_model.specs.scripts.Input.{ended_lines}
+use Rattle.history_reader.specs.HistoryText.{fault_after}
+use Rattle.history_reader.proofs.examples.texts_with_a_stop.Goals as goal
+
+pub returns-clause-last : goal.returns-clause-last
+unfolding events_after goes_on goes_on_after script_events ended_lines fault_after
+returns-clause-last c = refl
+
+pub returns-clause-made : goal.returns-clause-made
+unfolding events_after goes_on goes_on_after script_events ended_lines fault_after
+returns-clause-made c = refl
+
+pub returns-clause-stop : goal.returns-clause-stop
+unfolding events_after goes_on goes_on_after script_events ended_lines fault_after
+returns-clause-stop c = refl
+
+pub returns-clause-events : goal.returns-clause-events
+unfolding events_after goes_on goes_on_after script_events ended_lines fault_after
+returns-clause-events c = refl
+
+pub returns-clause-followed : goal.returns-clause-followed
+unfolding events_after goes_on goes_on_after script_events ended_lines fault_after
+returns-clause-followed c = refl
+
+pub returns-clause-twice : goal.returns-clause-twice
+unfolding events_after goes_on goes_on_after script_events ended_lines fault_after
+returns-clause-twice c = refl

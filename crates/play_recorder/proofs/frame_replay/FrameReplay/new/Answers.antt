@@ -1,0 +1,8 @@
+use Rattle.play_recorder.proofs.FrameReplays.{new_ready}
+use Rattle.play_recorder.proofs.frame_replay.FrameReplay.new.Goals as goal
+
+pub returns-clause-ready : goal.returns-clause-ready
+returns-clause-ready c =
+    new_ready
+    (record { config = c.args.config; media = c.args.media; played = c.in_ok-new.field-0; renderer = c.in_ok-new-2.field-0; skipped = c.args.skipped })
+    c.in_ok-new.ensures.stage c.in_ok-new.ensures.scenes c.in_ok-new-2.ensures

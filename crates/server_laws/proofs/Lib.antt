@@ -1,0 +1,8 @@
+mod Filmed
+mod HasServedClients
+mod HistoryOutput
+mod IsAnsweredAgain
+mod IsOpenedAgain
+mod IsReplayable
+mod IsShownAgain
+mod LoggedAgain

@@ -1,9 +1,7 @@
 -- What is returned for a text that was played.
 use Rattle.std.proofs.Common.{◌≡◌, ℕ, Bool, true, false, List, [], length, take, refl, sym, ap, ◌∙◌, subst}
 use Rattle.std.specs.Prelude.{Some, None, Result, Ok, Err, All}
-use Rattle.std.specs.Result.{IsErrAnd}
 use Rattle.std.proofs.lemmas.Bool.{false≢true}
-use Rattle.std.proofs.lemmas.Option.{none-some}
 use Rattle.play_types.specs.History.{stop_at}
 use Rattle.history_model.specs.scripts.History.{Playout}
 use Rattle.history_model.specs.scripts.Input.{unended}
@@ -23,7 +21,7 @@ use Rattle.history_reader.specs.declared.reading.ReadHistory.{ReadHistory}
 use Rattle.history_reader.specs.declared.text.TextEnd.{TextEnd}
 use Rattle.history_reader.specs.declared.text.TextEnd.TheVariants as end
 use Rattle.history_reader.specs.inner.PlayedLines.{HasPlayed}
-use Rattle.history_reader.specs.inner.PlayedText.{HasText, IsHistoryOf, IsKilled, PlaysText, ReadsText}
+use Rattle.history_reader.specs.inner.PlayedText.{HasText, IsHistoryOf, IsKilled, PlaysAnew, PlaysText}
 use Rattle.history_reader.proofs.Asked.{text_written_as}
 use Rattle.history_reader.proofs.PlayedUpTo.{none_played}
 
@@ -41,20 +39,15 @@ pub plays_on : (here playout : Playout) → here ≡ playout → (text : List �
     → PlaysText here text result player → PlaysText playout text result player
 plays_on here playout same text result player plays = subst (λ p. PlaysText p text result player) same plays
 
--- memory ran out
-pub no_memory : (setup : ServerSetup) (text : List ℕ) (result : Result ReadHistory ReadHistoryFault) → IsErrAnd result (λ reason. reason ≡ fault.OutOfMemory)
-    → ReadsText setup text result
-no_memory setup text (Ok history) is = absurd is
-no_memory setup text (Err reason) is = subst (λ f. ReadsText setup text (Err f)) (sym is) tt
+-- a text that a player did not play is not played by a new one
+pub not_played : (setup : ServerSetup) (playout : Playout) → playout ≡ playout_of setup false → (text : List ℕ) (reason : ReadHistoryFault) (player : Player)
+    → PlaysText playout text (Err reason) player → PlaysAnew setup text (Err reason)
+not_played setup playout same text (fault.Line number) player plays = subst (λ p. faulty_line p text ≡ Some number) same plays
+not_played setup playout same text fault.OutOfMemory player plays = tt
+not_played setup playout same text fault.Device player plays = plays
+not_played setup playout same text fault.TooLong player plays = plays
 
 module _ (setup : ServerSetup) (playout : Playout) (same : playout ≡ playout_of setup false) (text : List ℕ) where
-  -- a text that is not played is not read
-  pub not_read : (reason : ReadHistoryFault) (player : Player) → PlaysText playout text (Err reason) player → ReadsText setup text (Err reason)
-  not_read (fault.Line number) player plays = subst (λ p. faulty_line p text ≡ Some number) same plays
-  not_read fault.OutOfMemory player plays = tt
-  not_read fault.Device player plays = plays
-  not_read fault.TooLong player plays = plays
-
   -- the history of a player that has the events of the text
   module _ (front : List ℕ) (left_out left : ℕ) (stopped stop : Bool) (player : Player) (history : ReadHistory) (has : HasText playout front left stop player)
       (of : IsHistoryOf player left_out stopped history) (back : player.setup ≡ setup) where
@@ -88,17 +81,8 @@ module _ (setup : ServerSetup) (playout : Playout) (same : playout ≡ playout_o
 
   -- the lines before a kill were played again
   module _ (front left_out : ℕ) (killed_player : Player) (killed : IsKilled playout text front left_out killed_player) where
-    pub killed_on : playout_of killed_player.setup false ≡ playout
-    killed_on = ap (λ (p : Playout). record p { digests = false }) (killed.on ∙ same) ∙ sym same
-
     pub read_before_kill : (player : Player) (history : ReadHistory) (then : TextEnd) → PlaysText playout (take front text) (Ok then) player
         → IsHistoryOf player left_out true history → player.setup ≡ setup → IsReadFrom setup text history
     read_before_kill player history (end.Whole left stop) plays of back =
         read_as (take front text) left_out left true stop player history plays of back killed.right killed.events killed.left (sym killed.stop)
     read_before_kill player history (end.Killed again left) plays of back = absurd (false≢true (sym plays.over ∙ killed.goes))
-
-    pub not_read_again : (reason : ReadHistoryFault) (player : Player) → PlaysText playout (take front text) (Err reason) player → ReadsText setup text (Err reason)
-    not_read_again (fault.Line number) player plays = absurd (none-some number (sym killed.right_before ∙ plays))
-    not_read_again fault.OutOfMemory player plays = tt
-    not_read_again fault.Device player plays = plays
-    not_read_again fault.TooLong player plays = plays

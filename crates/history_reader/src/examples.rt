@@ -5,6 +5,7 @@ ghost use Rattle.history_model.specs.Worked.{one_pixel};
 ghost use Rattle.history_model.specs.scripts.History.{script_events, server};
 ghost use Rattle.history_reader.specs.HistoryText.{faulty_line, has_stop, text_events, text_lines};
 ghost use Rattle.history_reader.specs.Worked.{short_journal};
+ghost use Rattle.history_reader.specs.declared.reading.TheConstants.{MAX_HISTORY_BYTES};
 
 /// A stop may be the last line, and is left out of the events. The line that follows it is faulty.
 pub fn texts_with_a_stop()
@@ -57,4 +58,9 @@ pub fn faulty_texts()
 pub fn refused_lines()
     ensures clip { faulty_line one_pixel (codes "T 1\n1.1 PLAY 1-0 BARS\n") ≡ Some 2 }
     ensures limit { faulty_line short_journal (codes "1.1 PAUSE 1-0\n1.1 STOP 1-0\n") ≡ Some 2 }
+{}
+
+/// The most bytes of a history, as a number.
+pub fn limits()
+    ensures { MAX_HISTORY_BYTES ≡ 4294967295 }
 {}

@@ -3,7 +3,7 @@ ghost use Rattle.std.specs.Prelude.{◌≡◌, ◌<◌, ◌^◌, false, length};
 ghost use Rattle.script_player.specs.Player.{IsReady};
 ghost use Rattle.script_player.specs.Playouts.{playout_of};
 ghost use Rattle.history_reader.specs.Reading.{ReadsHistory};
-ghost use Rattle.history_reader.specs.inner.PlayedText.{IsHistoryOf, IsReadFault, ReadsText, fault_of};
+ghost use Rattle.history_reader.specs.inner.PlayedText.{IsHistoryOf, IsReadFault, PlaysAnew, ReadsText, fault_of};
 
 use crate::fault::ReadHistoryFault;
 use crate::teller::ReadTeller;
@@ -48,7 +48,10 @@ pub fn read_history<I: Source, T: ReadTeller>(
 {
     match read_all(alloc, MAX_HISTORY_BYTES, input) {
         Ok(text) => read_text(alloc, setup, text.as_slice(), teller),
-        Err(fault) => Err(unread(fault)),
+        Err(fault) => {
+            drop(setup);
+            Err(unread(fault))
+        }
     }
 }
 
@@ -85,15 +88,50 @@ fn read_text<T: ReadTeller>(
     requires { length text.now < 2 ^ 32 }
     ensures { ReadsText setup text.now result }
 {
-    let mut player = Player::new(alloc, setup, false, true)?;
-    match play_lines(&mut player, alloc, text, teller)? {
+    let (end, player) = play_text(alloc, setup, text, teller)?;
+    match end {
         TextEnd::Whole { left_out, stopped } => Ok(history_of(player, left_out, stopped)),
         TextEnd::Killed { front, left_out } => {
-            let mut again = Player::new(alloc, player.setup, false, true)?;
-            play_lines(&mut again, alloc, &text[..front], teller)?;
+            let setup = setup_of(player);
+            let (_, again) = play_text(alloc, setup, &text[..front], teller)?;
             Ok(history_of(again, left_out, true))
         }
     }
+}
+
+/// Plays a text with a new player, and returns how the playing ended, and the player.
+fn play_text<T: ReadTeller>(
+    alloc: Global,
+    setup: ServerSetup,
+    text: &[u8],
+    teller: &mut T,
+) -> Result<(TextEnd, Player), ReadHistoryFault>
+    requires { length text.now < 2 ^ 32 }
+    ensures { PlaysAnew setup text.now result }
+{
+    let mut player = Player::new(alloc, setup, false, true)?;
+    match play_lines(&mut player, alloc, text, teller) {
+        Ok(end) => Ok((end, player)),
+        Err(fault) => {
+            drop(player);
+            Err(fault)
+        }
+    }
+}
+
+/// Returns the setup of a player that is given up.
+fn setup_of(player: Player) -> ServerSetup
+    ensures { result ≡ player.setup }
+{
+    let Player {
+        setup,
+        clients,
+        stage,
+        scenes,
+        ..
+    } = player;
+    drop((clients, stage, scenes));
+    setup
 }
 
 /// Returns the history of a player. `left_out` bytes were left out, and a stop if `stopped`.

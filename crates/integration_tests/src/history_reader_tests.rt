@@ -58,7 +58,7 @@ const FAULTY: [(&str, u64); 8] = [
 ];
 
 /// Returns the setup of the configuration.
-fn setup<R: Threads + Sync>(rt: &R, alloc: Global) -> Result<ServerSetup, Fail> {
+pub(crate) fn setup<R: Threads + Sync>(rt: &R, alloc: Global) -> Result<ServerSetup, Fail> {
     let config = MemConfig {
         path: String::from_str(alloc, "c")?,
         bytes: Vec::from_slice(alloc, CONFIG)?,
@@ -68,7 +68,7 @@ fn setup<R: Threads + Sync>(rt: &R, alloc: Global) -> Result<ServerSetup, Fail> 
 }
 
 /// Returns a source of a text, which gives three bytes a read.
-fn source(alloc: Global, text: &str) -> Result<MemSource, Fail> {
+pub(crate) fn source(alloc: Global, text: &str) -> Result<MemSource, Fail> {
     Ok(MemSource::new(text.as_bytes().to_vec(alloc)?, 3, Vec::new(alloc)))
 }
 

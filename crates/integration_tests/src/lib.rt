@@ -39,3 +39,7 @@ mod play_types_tests;
 mod route_graph_tests;
 #[cfg(test)]
 mod server_setup_tests;
+#[cfg(test)]
+mod status_display_tests;
+#[cfg(test)]
+mod view_status_tests;

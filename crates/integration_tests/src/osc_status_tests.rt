@@ -41,7 +41,7 @@ fn is_read(
     bytes: &[u8],
 ) -> Result<bool, OscFault> {
     let message = read_message(alloc, bytes)?;
-    Ok(message.address.is_same(address) && are_args(&message.args, args))
+    Ok(message.address.as_str() == address && are_args(&message.args, args))
 }
 
 /// Returns whether the message of an address and of arguments is written as these bytes, and they are read as this message.

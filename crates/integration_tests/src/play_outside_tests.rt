@@ -3,7 +3,7 @@ mod devices;
 
 use play_outside::{
     FileFault, Gather, MediaDir, MemConfig, MemFile, MemMedia, MemSink, MemSource, PlainMedia,
-    PlainSink, PlainSource, ReadStep, Sent, Sink, Source, WriteStep, send, send_number, send_parts,
+    PlainSink, PlainSource, ReadStep, Sent, Sink, Source, WriteStep, send, send_parts,
 };
 use std::process::Abort;
 use std::test::Fail;
@@ -48,7 +48,7 @@ fn a_send_goes_on_until_all_is_taken_or_a_write_fails(rt: HostRuntime) -> Result
     let mut sink = MemSink::new(rt.alloc(), 0, 8, 3, Vec::new(rt.alloc()))?;
     let sent = [
         send(b"abcd", &mut sink),
-        send_number(907, &mut sink),
+        send(b"907", &mut sink),
         send_parts(&[b"e", b"fg"], &mut sink),
         send(b"efg", &mut PlainSink::new(0)),
     ];

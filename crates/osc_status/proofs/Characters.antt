@@ -13,7 +13,7 @@ use Rattle.play_types.proofs.Letters.{high_bytes}
 use Rattle.osc_status.specs.Texts.{IsText, is_zero, text_bytes, without_zeros}
 use Rattle.osc_status.specs.Message.{begins_with}
 use Rattle.osc_status.specs.inner.Reading.{padded_at, text_at}
-use Rattle.osc_status.specs.inner.Lines.{are_plain, is_plain}
+use Rattle.osc_status.specs.inner.Plain.{are_plain, is_plain}
 use Rattle.osc_status.proofs.Padded.{bind_some, passed, padded_again, padded_takes}
 
 high_is_not_zero : (c : ℕ) → 128 ≤ c → is_zero c ≡ false

@@ -1,4 +1,4 @@
--- The lines of the status, in the parts in which they are written.
+-- The messages and the lines of the status, in the parts in which they are written.
 use Rattle.std.proofs.Common.{◌≡◌, ℕ, ◌<◌, ◌/◌, ◌%◌, ◌^◌, zero, suc, Bool, true, false, ◌==◌, List, [], ◌∷◌, ◌++◌, refl, sym, ap, subst, ◌∙◌, append_assoc, append-nil, arith, inl, inr}
 use Rattle.std.specs.Prelude.{codes, decimal, encode_utf8_all, flat_map}
 use Rattle.std.specs.Fmt.{digit_glyph, digits, digits_onto}
@@ -14,12 +14,15 @@ use Rattle.play_types.specs.Place.{PlaceView}
 use Rattle.history_model.specs.text.Commands.{capital_digits, place_text}
 use Rattle.osc_status.specs.declared.layer.LayerStatus.{LayerStatus}
 use Rattle.osc_status.specs.declared.message.Message.{Message}
-use Rattle.osc_status.specs.declared.status.TheConstants.{TICKS_MODULUS}
+use Rattle.osc_status.specs.declared.status_message.TheConstants.{TICKS_MODULUS}
 use Rattle.osc_status.specs.Texts.{padded, text_bytes, without_zeros}
-use Rattle.osc_status.specs.Message.{letters, value_bytes}
+use Rattle.osc_status.specs.Message.{letters, message_bytes, value_bytes}
 use Rattle.osc_status.specs.Status.{channel_address, flag_number, frame_message, layer_address, layer_lines, paused_message, producer_message, producer_text, status_line, ticks_message}
-use Rattle.osc_status.specs.inner.Lines.{are_plain, is_plain, line_start}
-use Rattle.osc_status.proofs.Formed.{encode_lower-append}
+use Rattle.osc_status.specs.inner.Lines.{line_start}
+use Rattle.osc_status.specs.inner.Plain.{are_plain, is_plain}
+use Rattle.osc_status.specs.declared.form.Form.{Form}
+use Rattle.osc_status.specs.inner.Form.{formed}
+use Rattle.osc_status.proofs.Formed.{formed-append}
 use Rattle.osc_status.proofs.Characters.{plain-append, plain_encoded, plain_kept, plain_word}
 
 -- digits are plain
@@ -98,63 +101,55 @@ place-route place =
     ∙ ap (λ (word : List ℕ). codes "route://" ++ (decimal place.channel ++ (45 ∷ word))) (append-nil (decimal place.layer))
     ∙ sym (plain_word (codes "route://" ++ place_text place) whole)
 
--- a line was begun whose address is written in parts
-pub begun : (result : Sent) (start : List ℕ) (count : ℕ) (parts address letters more : List ℕ) (first after : SinkState) → parts ≡ encode_utf8_all address
-    → Adds result (start ++ ((codes "O " ++ (decimal count ++ 32 ∷ [])) ++ (encode_lower (padded parts) ++ encode_lower (padded letters)))) more first after
-    → Adds result (start ++ line_start count address letters) more first after
-unfolding line_start
-begun result start count parts address letters more first after e adds =
-    subst (λ (text : List ℕ). Adds result (start ++ ((codes "O " ++ (decimal count ++ 32 ∷ [])) ++ (encode_lower (padded text) ++ encode_lower (padded letters)))) more first after) e adds
+-- a text was added that is written in parts
+pub worded : (result : Sent) (form : Form) (start parts word more : List ℕ) (first after : SinkState) → parts ≡ encode_utf8_all word
+    → Adds result (start ++ formed form (padded parts)) more first after → Adds result (start ++ formed form (text_bytes word)) more first after
+worded result form start parts word more first after e adds = subst (λ (text : List ℕ). Adds result (start ++ formed form (padded text)) more first after) e adds
 
--- a word was added that is written in parts
-pub worded : (result : Sent) (start parts word more : List ℕ) (first after : SinkState) → parts ≡ encode_utf8_all word
-    → Adds result (start ++ encode_lower (padded parts)) more first after → Adds result (start ++ encode_lower (text_bytes word)) more first after
-worded result start parts word more first after e adds = subst (λ (text : List ℕ). Adds result (start ++ encode_lower (padded text)) more first after) e adds
+-- a message in either form: its address, the letters, and the arguments
+message-parts : (form : Form) (message : Message) → formed form (message_bytes message)
+    ≡ formed form (text_bytes message.address) ++ (formed form (padded (letters message.args)) ++ formed form (flat_map value_bytes message.args))
+message-parts form message =
+    formed-append form (text_bytes message.address) (padded (letters message.args) ++ flat_map value_bytes message.args)
+    ∙ ap (λ (rest : List ℕ). formed form (text_bytes message.address) ++ rest) (formed-append form (padded (letters message.args)) (flat_map value_bytes message.args))
 
--- a line up to its arguments, the arguments, and its end
-line-parts : (count : ℕ) (message : Message) → status_line count message
-    ≡ line_start count message.address (letters message.args) ++ (encode_lower (flat_map value_bytes message.args) ++ 10 ∷ [])
-unfolding status_line line_start
-line-parts count message =
-    let values : List ℕ = flat_map value_bytes message.args in
-    rw (
-      encode_lower-append (text_bytes message.address) (padded (letters message.args) ++ flat_map value_bytes message.args),
-      encode_lower-append (padded (letters message.args)) (flat_map value_bytes message.args),
-    )
-    (simp append_assoc refl)
+pub ticks-parts : (form : Form) (channel count : ℕ) → formed form (message_bytes (ticks_message channel count))
+    ≡ formed form (text_bytes (channel_address channel ++ codes "/ticks")) ++ (formed form (padded (codes ",i")) ++ formed form (to_be_bytes w32 (count % TICKS_MODULUS)))
+ticks-parts form channel count = message-parts form (ticks_message channel count)
 
-pub ticks-line : (count channel : ℕ) → status_line count (ticks_message channel count)
-    ≡ line_start count (channel_address channel ++ codes "/ticks") (codes ",i") ++ (encode_lower (to_be_bytes w32 (count % TICKS_MODULUS)) ++ 10 ∷ [])
-ticks-line count channel = line-parts count (ticks_message channel count)
-
-pub producer-line : (count : ℕ) (names : List MediaNameView) (layer : LayerStatus) → status_line count (producer_message names layer)
-    ≡ line_start count (layer_address layer.channel layer.layer ++ codes "/producer") (codes ",s")
-    ++ (encode_lower (text_bytes (without_zeros (producer_text names layer.spec))) ++ 10 ∷ [])
-producer-line count names layer =
-    line-parts count (producer_message names layer)
-    ∙ ap (λ (word : List ℕ). line_start count (layer_address layer.channel layer.layer ++ codes "/producer") (codes ",s") ++ (encode_lower word ++ 10 ∷ []))
+pub producer-parts : (form : Form) (names : List MediaNameView) (layer : LayerStatus) → formed form (message_bytes (producer_message names layer))
+    ≡ formed form (text_bytes (layer_address layer.channel layer.layer ++ codes "/producer"))
+    ++ (formed form (padded (codes ",s")) ++ formed form (text_bytes (without_zeros (producer_text names layer.spec))))
+producer-parts form names layer =
+    message-parts form (producer_message names layer)
+    ∙ ap (λ (word : List ℕ). formed form (text_bytes (layer_address layer.channel layer.layer ++ codes "/producer")) ++ (formed form (padded (codes ",s")) ++ formed form word))
     (append-nil (text_bytes (without_zeros (producer_text names layer.spec))))
 
-pub frame-line : (count : ℕ) (layer : LayerStatus) → status_line count (frame_message layer)
-    ≡ line_start count (layer_address layer.channel layer.layer ++ codes "/frame") (codes ",ii")
-    ++ (encode_lower (to_be_bytes w32 layer.frame) ++ (encode_lower (to_be_bytes w32 layer.length) ++ 10 ∷ []))
-frame-line count layer =
-    let start : List ℕ = line_start count (layer_address layer.channel layer.layer ++ codes "/frame") (codes ",ii") in
-    line-parts count (frame_message layer)
-    ∙ ap (λ (values : List ℕ). line_start count (layer_address layer.channel layer.layer ++ codes "/frame") (codes ",ii") ++ (values ++ 10 ∷ []))
-    (encode_lower-append (to_be_bytes w32 layer.frame) (to_be_bytes w32 layer.length))
-    ∙ ap (λ (rest : List ℕ). line_start count (layer_address layer.channel layer.layer ++ codes "/frame") (codes ",ii") ++ rest)
-    (append_assoc (encode_lower (to_be_bytes w32 layer.frame)) (encode_lower (to_be_bytes w32 layer.length)) (10 ∷ []))
+pub frame-parts : (form : Form) (layer : LayerStatus) → formed form (message_bytes (frame_message layer))
+    ≡ formed form (text_bytes (layer_address layer.channel layer.layer ++ codes "/frame"))
+    ++ (formed form (padded (codes ",ii")) ++ (formed form (to_be_bytes w32 layer.frame) ++ formed form (to_be_bytes w32 layer.length)))
+frame-parts form layer =
+    message-parts form (frame_message layer)
+    ∙ ap (λ (values : List ℕ). formed form (text_bytes (layer_address layer.channel layer.layer ++ codes "/frame")) ++ (formed form (padded (codes ",ii")) ++ values))
+    (formed-append form (to_be_bytes w32 layer.frame) (to_be_bytes w32 layer.length))
 
 flag_bytes : (flag : Bool) → to_be_bytes w32 (cast_unsigned w32 (flag_number flag)) ≡ to_be_bytes w32 (from_bool flag)
 flag_bytes true = refl
 flag_bytes false = refl
 
-pub paused-line : (count : ℕ) (layer : LayerStatus) → status_line count (paused_message layer)
-    ≡ line_start count (layer_address layer.channel layer.layer ++ codes "/paused") (codes ",i") ++ (encode_lower (to_be_bytes w32 (from_bool layer.paused)) ++ 10 ∷ [])
-paused-line count layer =
-    line-parts count (paused_message layer)
-    ∙ ap (λ (value : List ℕ). line_start count (layer_address layer.channel layer.layer ++ codes "/paused") (codes ",i") ++ (encode_lower value ++ 10 ∷ [])) (flag_bytes layer.paused)
+pub paused-parts : (form : Form) (layer : LayerStatus) → formed form (message_bytes (paused_message layer))
+    ≡ formed form (text_bytes (layer_address layer.channel layer.layer ++ codes "/paused"))
+    ++ (formed form (padded (codes ",i")) ++ formed form (to_be_bytes w32 (from_bool layer.paused)))
+paused-parts form layer =
+    message-parts form (paused_message layer)
+    ∙ ap (λ (value : List ℕ). formed form (text_bytes (layer_address layer.channel layer.layer ++ codes "/paused")) ++ (formed form (padded (codes ",i")) ++ formed form value))
+    (flag_bytes layer.paused)
+
+-- a line: O and the number of ticks, the message in hexadecimal, and the end of the line
+pub line-parts : (count : ℕ) (message : Message) → status_line count message
+    ≡ line_start count ++ (encode_lower (message_bytes message) ++ 10 ∷ [])
+unfolding status_line
+line-parts count message = simp append_assoc refl
 
 -- the three lines of a layer
 pub three-lines : (names : List MediaNameView) (count : ℕ) (layer : LayerStatus) → layer_lines names count layer

@@ -16,7 +16,9 @@ use Rattle.history_model.specs.text.Commands.{producer_word, word_meant}
 use Rattle.osc_status.specs.declared.arg.OscValue.TheVariants.{Int, Word}
 use Rattle.osc_status.specs.declared.layer.LayerStatus.{LayerStatus}
 use Rattle.osc_status.specs.declared.message.Message.{Message}
-use Rattle.osc_status.specs.declared.status.TheConstants.{TICKS_MODULUS}
+use Rattle.osc_status.specs.declared.status_message.TheConstants.{TICKS_MODULUS}
+use Rattle.osc_status.specs.declared.status_message.StatusMessage.{StatusMessage}
+use Rattle.osc_status.specs.declared.status_message.StatusMessage.TheVariants.{Ticks, Producer, Frame, Paused}
 use Rattle.osc_status.specs.Texts.{without_zeros}
 use Rattle.osc_status.specs.Message.{message_bytes}
 
@@ -64,6 +66,13 @@ paused_message layer = record {
   address = layer_address layer.channel layer.layer ++ codes "/paused";
   args = Int (flag_number layer.paused) ∷ [];
 }
+
+-- a message of the status, with these names of clips
+abbrev pub message_of : List MediaNameView → StatusMessage → Message
+message_of names (Ticks channel count) = ticks_message channel count
+message_of names (Producer layer) = producer_message names layer
+message_of names (Frame layer) = frame_message layer
+message_of names (Paused layer) = paused_message layer
 
 -- the messages of a layer
 abbrev pub layer_messages : List MediaNameView → LayerStatus → List Message

@@ -1,4 +1,5 @@
 pub mod Reading
 pub mod Views
 pub mod Form
+pub mod Plain
 pub mod Lines

@@ -6,6 +6,7 @@ ghost use Rattle.std.specs.Prelude.{◌≡◌, ◌∷◌, [], pos, neg_ℤ, code
 ghost use Rattle.osc_status.specs.Status.{frame_message, paused_message, producer_message, ticks_message};
 ghost use Rattle.osc_status.specs.Worked.{hex, message, red};
 ghost use Rattle.osc_status.specs.declared.arg.OscValue.TheVariants.{Int, Word};
+ghost use Rattle.osc_status.specs.declared.status_message.TheConstants.{TICKS_MODULUS};
 
 /// A text has one to four zero bytes after it, and numbers have their highest byte first.
 pub fn bytes_of_messages()
@@ -21,4 +22,9 @@ pub fn messages_of_a_colour()
     ensures producer { hex (producer_message [] red) ≡ codes "2f6368616e6e656c2f312f6c617965722f302f70726f6475636572002c730000234646464630303030000000" }
     ensures frame { hex (frame_message red) ≡ codes "2f6368616e6e656c2f312f6c617965722f302f6672616d65000000002c6969000000000000000000" }
     ensures paused { hex (paused_message red) ≡ codes "2f6368616e6e656c2f312f6c617965722f302f7061757365640000002c69000000000000" }
+{}
+
+/// Numbers have 32 bits with a sign, so ticks are counted modulo 2,147,483,648.
+pub fn limits()
+    ensures { TICKS_MODULUS ≡ 2147483648 }
 {}

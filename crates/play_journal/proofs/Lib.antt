@@ -1,6 +1,7 @@
 pub mod Blocks
 pub mod Copying
 pub mod Determined
+pub mod Ends
 pub mod Few
 pub mod Kept
 pub mod Places

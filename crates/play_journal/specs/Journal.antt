@@ -1,10 +1,11 @@
 -- What contracts see of a journal.
-use Rattle.std.specs.Prelude.{◌≡◌, ℕ, ◌+◌, ◌<◌, ◌≤◌, List, [], ◌∷◌, ◌++◌}
+use Rattle.std.specs.Prelude.{◌≡◌, ℕ, ◌+◌, ◌<◌, ◌≤◌, Bool, false, List, [], ◌∷◌, ◌++◌}
 use Rattle.play_types.specs.History.{IsHistory, held, ticks}
 use Rattle.play_types.specs.declared.event.Event.{Event}
 use Rattle.play_types.specs.declared.event.TheConstants.{MAX_TICKS}
 use Rattle.play_journal.specs.declared.fault.PushFault.{PushFault}
 use Rattle.play_journal.specs.declared.fault.PushFault.TheVariants.{OutOfMemory, JournalFull}
+use Rattle.play_journal.specs.Runs.{is_tick}
 
 -- the most commands that a journal may hold, and its events in order
 pub record JournalView : Type 0 where
@@ -26,3 +27,9 @@ pub record IsJournal (journal : JournalView) : Type 0 where
 abbrev pub IsRefused : JournalView → ℕ → PushFault → Type 0
 IsRefused journal commands OutOfMemory = held journal.events + commands ≤ journal.limit
 IsRefused journal commands (JournalFull already) = (journal.limit < held journal.events + commands) × (already ≡ held journal.events)
+
+-- whether the last event is a tick
+abbrev pub ends_in_tick : List Event → Bool
+ends_in_tick [] = false
+ends_in_tick (event ∷ []) = is_tick event
+ends_in_tick (event ∷ next ∷ events) = ends_in_tick (next ∷ events)

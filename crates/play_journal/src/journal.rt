@@ -5,7 +5,7 @@ ghost use Rattle.play_types.specs.History.{held, held_by, stop_at, ticks};
 ghost use Rattle.play_types.specs.declared.event.Event.{Event};
 ghost use Rattle.play_types.specs.declared.event.Event.TheVariants.{Batch, Do, Stop, Tick};
 ghost use Rattle.play_types.specs.declared.event.TheConstants.{MAX_TICKS};
-ghost use Rattle.play_journal.specs.Journal.{IsJournal, IsRefused, followed_by};
+ghost use Rattle.play_journal.specs.Journal.{IsJournal, IsRefused, ends_in_tick, followed_by};
 ghost use Rattle.play_journal.specs.Kept.{HoldsCommands};
 ghost use Rattle.play_journal.specs.Places.{Copies, passed};
 ghost use Rattle.play_journal.specs.Runs.{AreRuns, HasItsTimes};
@@ -239,6 +239,16 @@ impl Journal {
         match self.stop {
             Some(_) => Some(self.before),
             None => None,
+        }
+    }
+
+    /// Returns whether the last event is a tick.
+    pub fn ends_in_tick(&self) -> bool
+        ensures { result ≡ ends_in_tick self.now.events }
+    {
+        match self.stop {
+            Some(_) => false,
+            None => self.after > 0,
         }
     }
 

@@ -33,5 +33,5 @@ pub use memory::{
 };
 pub use plain::{PlainClock, PlainDoor, PlainLink, PlainMedia, PlainSink, PlainSource};
 pub use rest::Rest;
-pub use sink::{Sent, Sink, WriteFailed, WriteStep, send, send_number, send_parts};
+pub use sink::{Sent, Sink, WriteFailed, WriteStep, send, send_parts};
 pub use source::{ReadStep, Source};

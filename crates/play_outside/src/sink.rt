@@ -1,11 +1,10 @@
 //! What is written to.
-ghost use Rattle.std.specs.Prelude.{◌≡◌, ◌<◌, length, decimal, flat_map};
+ghost use Rattle.std.specs.Prelude.{◌≡◌, ◌<◌, length, flat_map, IsErr, IsErrAnd};
 ghost use Rattle.play_outside.specs.SinkState.{SinkState};
 ghost use Rattle.play_outside.specs.Sink.{Writes, Sends, sent_from};
 ghost use Rattle.play_outside.specs.declared.sink.Sent.TheVariants as sent;
 
 use super::Gather;
-use itoa::Buffer;
 use std::ops::{ControlFlow, FromResidual, Try};
 
 /// How many bytes of small parts are gathered before they are written.
@@ -61,6 +60,15 @@ impl FromResidual<WriteFailed> for Sent {
     }
 }
 
+/// In a function that returns a `Result`, `?` after `Failed` returns what its error makes of a failed write.
+impl<T, E: From<WriteFailed>> FromResidual<WriteFailed> for Result<T, E> {
+    ghost from_residual_gives = { λ failed result. IsErr result × IsErrAnd result (E.from_gives failed) };
+
+    fn from_residual(failed: WriteFailed) -> Result<T, E> {
+        Err(E::from(failed))
+    }
+}
+
 /// A place to write bytes to.
 pub trait Sink: Drop {
     /// The bytes taken, now and when a write last failed, if the sink exposes them; how many calls failed; the mark, which
@@ -95,12 +103,4 @@ pub fn send_parts<K: Sink>(parts: &[&[u8]], to: &mut K) -> Sent
     let mut gather = Gather::<SMALL>::new();
     gather.add_parts(parts, to)?;
     gather.finish(to)
-}
-
-/// Writes a number in decimal digits, without leading zeros.
-pub fn send_number<K: Sink>(number: u64, to: &mut K) -> Sent
-    ensures { Sends result (decimal number) (K.state to.old) (K.state to.new) }
-{
-    let mut buffer = Buffer::new();
-    send(buffer.format(number).as_bytes(), to)
 }

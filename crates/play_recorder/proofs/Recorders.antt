@@ -16,7 +16,7 @@ use Rattle.history_model.specs.pictures.Media.{size}
 use Rattle.history_model.specs.recordings.Film.{Span, film_span, filmed}
 use Rattle.stage_core.specs.Stage.{StageView}
 use Rattle.play_recorder.specs.Recording.{recorded_after, recorded_at, setup_with}
-use Rattle.play_recorder.specs.declared.recorder.Halt.{Halt}
+use Rattle.play_recorder.specs.declared.recorder.FilmFault.{FilmFault}
 use Rattle.play_recorder.specs.declared.recorder.Recorder.{Recorder}
 use Rattle.play_recorder.specs.inner.Frames.{Follows, IsReady, channels_in, events_in, setup_in}
 use Rattle.play_recorder.specs.inner.Recorder.{WritesText, header_in, is_over}
@@ -94,7 +94,7 @@ module _ (first : Recorder) (events : List Event) (start state : SinkState) (now
   }
 
   -- a recorder that stopped at the event stopped in the whole text
-  pub stopped_at : (reason : Halt) (after : SinkState) → WritesText (Err reason) (recorded_at (setup_in now.replay) now.film.now (events_in now.replay) event) state after
+  pub stopped_at : (reason : FilmFault) (after : SinkState) → WritesText (Err reason) (recorded_at (setup_in now.replay) now.film.now (events_in now.replay) event) state after
       → WritesText (Err reason) (recorded_after (setup_in first.replay) first.film.now [] events) start after
   stopped_at reason after stops =
       let past = events_in now.replay in

@@ -15,8 +15,8 @@ use Rattle.play_outside.proofs.Taking.{after_taking-after_taking, after_taking-n
 use Rattle.history_model.specs.pictures.Media.{Setup}
 use Rattle.history_model.specs.recordings.Film.{Span}
 use Rattle.play_recorder.specs.Recording.{TakesPrefix, is_recorded, recorded_after, recorded_at}
-use Rattle.play_recorder.specs.declared.recorder.Halt.{Halt}
-use Rattle.play_recorder.specs.declared.recorder.Halt.TheVariants as halt
+use Rattle.play_recorder.specs.declared.recorder.FilmFault.{FilmFault}
+use Rattle.play_recorder.specs.declared.recorder.FilmFault.TheVariants as fault
 use Rattle.play_recorder.specs.inner.Recorder.{WritesText}
 
 -- a prefix of a part was taken, after the text before the part
@@ -37,13 +37,13 @@ prefix-within whole done piece rest first state after parts so_far takes =
     })
 
 -- what stopped in a part of a text, after the text before the part was written, stopped in the text
-pub stopped-within : (reason : Halt) (whole done piece rest : List ℕ) (first state after : SinkState) → whole ≡ (done ++ piece) ++ rest → state ≡ after_taking first done
+pub stopped-within : (reason : FilmFault) (whole done piece rest : List ℕ) (first state after : SinkState) → whole ≡ (done ++ piece) ++ rest → state ≡ after_taking first done
     → WritesText (Err reason) piece state after → WritesText (Err reason) whole first after
-stopped-within halt.Failed whole done piece rest first state after parts so_far fails = Fails-within whole done piece rest first state after parts so_far fails
-stopped-within halt.OutOfMemory whole done piece rest first state after parts so_far takes = prefix-within whole done piece rest first state after parts so_far takes
+stopped-within fault.Failed whole done piece rest first state after parts so_far fails = Fails-within whole done piece rest first state after parts so_far fails
+stopped-within fault.OutOfMemory whole done piece rest first state after parts so_far takes = prefix-within whole done piece rest first state after parts so_far takes
 
 -- what stopped in the last part
-pub stopped-last : (reason : Halt) (done piece : List ℕ) (first state after : SinkState) → state ≡ after_taking first done
+pub stopped-last : (reason : FilmFault) (done piece : List ℕ) (first state after : SinkState) → state ≡ after_taking first done
     → WritesText (Err reason) piece state after → WritesText (Err reason) (done ++ piece) first after
 stopped-last reason done piece first state after so_far stops =
     stopped-within reason (done ++ piece) done piece [] first state after (sym (append-nil (done ++ piece))) so_far stops

@@ -5,3 +5,4 @@ pub mod Frames
 pub mod Recorder
 pub mod Depths
 pub mod Needed
+pub mod Last

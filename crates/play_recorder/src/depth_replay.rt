@@ -5,7 +5,7 @@ ghost use Rattle.play_types.specs.declared.event.Event.TheVariants.{Tick};
 ghost use Rattle.play_types.specs.declared.event.TheConstants.{MAX_TICKS};
 ghost use Rattle.play_types.specs.declared.place.TheConstants.{MAX_CHANNELS};
 ghost use Rattle.stage_core.specs.Stage.{after_event};
-ghost use Rattle.play_recorder.specs.inner.Depths.{KnowsDepths, unneeded};
+ghost use Rattle.play_recorder.specs.inner.Depths.{KnowsDepths};
 ghost use Rattle.play_recorder.specs.inner.Replay.{CanPlay, events_in, new_stage};
 
 use crate::replay::Replay;
@@ -62,15 +62,5 @@ impl DepthReplay {
     {
         self.played.tick();
         self.depths.tick(&self.played.scenes);
-    }
-
-    /// Returns the number of first ticks whose frames no channel needs at the last tick.
-    pub(crate) fn unneeded(&self) -> u64
-        requires { KnowsDepths self.now }
-        ensures { result ≡ unneeded self.now.played.stage.channels (events_in self.now.played) }
-    {
-        let ticks = self.played.stage.journal().ticks();
-        let greatest = self.depths.greatest(self.played.scenes.channels());
-        ticks.saturating_sub(1).saturating_sub(greatest)
     }
 }

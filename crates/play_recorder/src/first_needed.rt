@@ -32,13 +32,9 @@ pub(crate) fn first_needed(
 {
     let _held = journal.held();
     let mut look = Look::new(alloc, config, film)?;
-    for event in each_event(journal) {
-        if film.is_over(look.replay.played.stage.journal().ticks()) {
-            return Ok(look.first);
-        }
-        look.event(alloc, event)?;
-    }
-    Ok(look.first)
+    let first = look.first_needed(alloc, journal);
+    drop(look);
+    first
 }
 
 /// The frames that a film needs, by the events so far: the number of ticks before the first needed one.
@@ -62,6 +58,27 @@ impl<'a> Look<'a> {
             replay: DepthReplay::new(alloc, config)?,
             first: film.first,
         })
+    }
+
+    /// Plays the events of a journal until the film is over, and returns the number of ticks before the first one whose frames it needs.
+    fn first_needed(&mut self, alloc: Global, journal: &Journal) -> Result<u64, AllocError>
+        requires depths { KnowsDepths self.old.replay }
+        requires new { events_in self.old.replay.played ≡ [] }
+        requires first { self.old.first ≡ self.old.film.now.first }
+        requires channel { IsConfigured self.old.replay.played.stage.channels self.old.film.now.channel }
+        requires can { CanPlay self.old.replay.played.stage journal.now.events }
+        ensures { IfOk result (λ first. first ≡ first_needed self.old.film.now journal.now.events) }
+    {
+        for event in each_event(journal) {
+            if self
+                .film
+                .is_over(self.replay.played.stage.journal().ticks())
+            {
+                return Ok(self.first);
+            }
+            self.event(alloc, event)?;
+        }
+        Ok(self.first)
     }
 
     /// Plays an event.

@@ -1,9 +1,11 @@
 //! A history that is played once more with its frames.
-ghost use Rattle.std.specs.Prelude.{◌≡◌, ◌-◌, ◌<◌, ◌≤◌, ◌++◌, ◌∷◌, [], ℕ, IfOk, None, OnOk};
+ghost use Rattle.std.specs.Prelude.{◌≡◌, ◌-◌, ◌<◌, ◌≤◌, ◌++◌, ◌∷◌, [], ℕ, IfOk, None, OnOk, map};
+ghost use Rattle.std.specs.List.{range_with_len};
 ghost use Rattle.play_types.specs.History.{stop_at, ticks};
 ghost use Rattle.play_types.specs.Scene.{IsConfigured};
 ghost use Rattle.play_types.specs.declared.event.Event.TheVariants.{Tick};
 ghost use Rattle.play_types.specs.declared.event.TheConstants.{MAX_TICKS};
+ghost use Rattle.history_model.specs.pictures.Scene.{scene};
 ghost use Rattle.history_model.specs.scripts.Output.{raw_frame};
 ghost use Rattle.needed_frames.specs.Depth.{depth};
 ghost use Rattle.play_recorder.specs.inner.Frames.{Follows, IsReady, bytes_in, channels_in, events_in, setup_in};
@@ -45,11 +47,13 @@ impl<'a> FrameReplay<'a> {
         ensures media { IfOk result (λ replay. replay.media.now ≡ media.entry.now) }
         ensures skipped { IfOk result (λ replay. replay.skipped ≡ skipped) }
     {
+        let renderer = Renderer::new(alloc, config, workers)?;
+        let played = Replay::new(alloc, config)?;
         Ok(FrameReplay {
             config,
             media,
-            played: Replay::new(alloc, config)?,
-            renderer: Renderer::new(alloc, config, workers)?,
+            played,
+            renderer,
             skipped,
         })
     }
@@ -86,6 +90,7 @@ impl<'a> FrameReplay<'a> {
         requires time { ticks (events_in self.old) < MAX_TICKS }
         ensures ready { IsReady self.new }
         ensures follows { Follows Tick self.old self.new }
+        ensures scenes { self.new.played.scenes ≡ map (scene (events_in self.old)) (range_with_len 1 self.old.played.stage.channels) }
         ensures frames { (channel : ℕ) → IsConfigured (channels_in self.old) channel →
             self.old.skipped ≤ ticks (events_in self.old) - depth (events_in self.old) channel →
             bytes_in self.new channel ≡ raw_frame (setup_in self.old) (events_in self.old) channel }

@@ -6,7 +6,7 @@ ghost use Rattle.play_types.specs.declared.event.Event.TheVariants.{Tick};
 ghost use Rattle.play_types.specs.declared.event.TheConstants.{MAX_TICKS};
 ghost use Rattle.play_outside.specs.Sink.{Sends};
 ghost use Rattle.play_recorder.specs.Recording.{Records, recorded_after, recorded_at};
-ghost use Rattle.play_recorder.specs.declared.recorder.Halt.TheVariants as halt;
+ghost use Rattle.play_recorder.specs.declared.recorder.FilmFault.TheVariants as fault;
 ghost use Rattle.play_recorder.specs.inner.Needed.{NeedsNoneOf, first_needed};
 ghost use Rattle.play_recorder.specs.inner.Frames.{Follows, IsReady, bytes_in, channels_in, events_in, setup_in};
 ghost use Rattle.play_recorder.specs.inner.Recorder.{WritesText, header_in};
@@ -20,61 +20,69 @@ use crate::watcher::Watcher;
 use clip_format::send_header;
 use frame_writer::write_raw;
 use play_journal::Journal;
-use play_outside::{Sent, Sink};
+use play_outside::{Sent, Sink, WriteFailed};
 use play_types::{Event, MULTIPLIED, channel_index};
 use std::alloc::{AllocError, Global};
 use std::thread::Threads;
 
-/// Why a recorder stops before its end.
+/// Why a film is not written to its end.
 #[derive(Clone, Copy, Debug, PartialEq, Eq)]
-pub(crate) enum Halt {
+pub(crate) enum FilmFault {
     /// The output failed.
     Failed,
     /// Memory ran out.
     OutOfMemory,
 }
 
-impl From<AllocError> for Halt {
-    ghost from_gives = { λ _ reason. reason ≡ halt.OutOfMemory };
+impl From<WriteFailed> for FilmFault {
+    ghost from_gives = { λ _ reason. reason ≡ fault.Failed };
 
-    fn from(_error: AllocError) -> Halt {
-        Halt::OutOfMemory
+    fn from(_failed: WriteFailed) -> FilmFault {
+        FilmFault::Failed
     }
 }
 
-/// The recorder of a film: the history that is played again, with the frames of its last tick.
+impl From<AllocError> for FilmFault {
+    ghost from_gives = { λ _ reason. reason ≡ fault.OutOfMemory };
+
+    fn from(_error: AllocError) -> FilmFault {
+        FilmFault::OutOfMemory
+    }
+}
+
+/// The recorder of a film: the journal, and the history as far as it was played again, with the frames of its last tick.
 #[derive(Drop)]
 pub(crate) struct Recorder<'a> {
     pub(crate) film: &'a Film,
+    pub(crate) journal: &'a Journal,
     pub(crate) replay: FrameReplay<'a>,
 }
 
 impl<'a> Recorder<'a> {
-    /// Plays the events of a journal in order, and writes the file of the film meanwhile: its header, and then the frames of the recorded
+    /// Plays the events of the journal in order, and writes the file of the film meanwhile: its header, and then the frames of the recorded
     /// ticks.
     pub(crate) fn write<R: Threads + Sync, K: Sink, W: Watcher>(
         &mut self,
         rt: &R,
         alloc: Global,
-        journal: &Journal,
         to: &mut K,
         watcher: &mut W,
     ) -> Recorded
         requires ready { IsReady self.old.replay }
         requires new { events_in self.old.replay ≡ [] }
         requires channel { IsConfigured (channels_in self.old.replay) self.old.film.now.channel }
-        requires can { CanPlay self.old.replay.played.stage journal.now.events }
-        requires needed { self.old.replay.skipped ≤ first_needed self.old.film.now journal.now.events }
+        requires can { CanPlay self.old.replay.played.stage self.old.journal.now.events }
+        requires needed { self.old.replay.skipped ≤ first_needed self.old.film.now self.old.journal.now.events }
         ensures { Records result
-            (header_in self.old ++ recorded_after (setup_in self.old.replay) self.old.film.now [] journal.now.events)
+            (header_in self.old ++ recorded_after (setup_in self.old.replay) self.old.film.now [] self.old.journal.now.events)
             (K.state to.old) (K.state to.new) }
     {
         match self.write_header(to) {
             Sent::Failed => Recorded::Failed,
-            Sent::All => match self.write_frames(rt, alloc, journal, to, watcher) {
+            Sent::All => match self.write_frames(rt, alloc, to, watcher) {
                 Ok(()) => Recorded::All,
-                Err(Halt::Failed) => Recorded::Failed,
-                Err(Halt::OutOfMemory) => Recorded::OutOfMemory,
+                Err(FilmFault::Failed) => Recorded::Failed,
+                Err(FilmFault::OutOfMemory) => Recorded::OutOfMemory,
             },
         }
     }
@@ -90,22 +98,22 @@ impl<'a> Recorder<'a> {
         send_header(MULTIPLIED, size, film.frames, to)
     }
 
-    /// Plays the events of a journal in order, and writes the frames of the recorded ticks.
+    /// Plays the events of the journal in order, and writes the frames of the recorded ticks.
     fn write_frames<R: Threads + Sync, K: Sink, W: Watcher>(
         &mut self,
         rt: &R,
         alloc: Global,
-        journal: &Journal,
         to: &mut K,
         watcher: &mut W,
-    ) -> Result<(), Halt>
+    ) -> Result<(), FilmFault>
         requires ready { IsReady self.old.replay }
         requires new { events_in self.old.replay ≡ [] }
         requires channel { IsConfigured (channels_in self.old.replay) self.old.film.now.channel }
-        requires can { CanPlay self.old.replay.played.stage journal.now.events }
-        requires needed { self.old.replay.skipped ≤ first_needed self.old.film.now journal.now.events }
-        ensures { WritesText result (recorded_after (setup_in self.old.replay) self.old.film.now [] journal.now.events) (K.state to.old) (K.state to.new) }
+        requires can { CanPlay self.old.replay.played.stage self.old.journal.now.events }
+        requires needed { self.old.replay.skipped ≤ first_needed self.old.film.now self.old.journal.now.events }
+        ensures { WritesText result (recorded_after (setup_in self.old.replay) self.old.film.now [] self.old.journal.now.events) (K.state to.old) (K.state to.new) }
     {
+        let journal = self.journal;
         for event in each_event(journal) {
             if self
                 .film
@@ -135,7 +143,7 @@ impl<'a> Recorder<'a> {
         alloc: Global,
         event: &Event,
         to: &mut K,
-    ) -> Result<(), Halt>
+    ) -> Result<(), FilmFault>
         requires ready { IsReady self.old.replay }
         requires channel { IsConfigured (channels_in self.old.replay) self.old.film.now.channel }
         requires can { CanPlay self.old.replay.played.stage (events_in self.old.replay ++ event.now ∷ []) }
@@ -156,7 +164,11 @@ impl<'a> Recorder<'a> {
     }
 
     /// Makes the next tick, and writes its frame if it is recorded.
-    fn write_tick<R: Threads + Sync, K: Sink>(&mut self, rt: &R, to: &mut K) -> Result<(), Halt>
+    fn write_tick<R: Threads + Sync, K: Sink>(
+        &mut self,
+        rt: &R,
+        to: &mut K,
+    ) -> Result<(), FilmFault>
         requires ready { IsReady self.old.replay }
         requires running { stop_at (events_in self.old.replay) ≡ None }
         requires channel { IsConfigured (channels_in self.old.replay) self.old.film.now.channel }
@@ -173,10 +185,8 @@ impl<'a> Recorder<'a> {
         if !self.film.has(before) {
             return Ok(());
         }
-        match self.write_frame(to) {
-            Sent::All => Ok(()),
-            Sent::Failed => Err(Halt::Failed),
-        }
+        self.write_frame(to)?;
+        Ok(())
     }
 
     /// Writes what the channel of the film shows and sounds at the last tick.

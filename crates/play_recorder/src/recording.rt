@@ -96,7 +96,11 @@ impl<'a> FilmSource<'a> {
     {
         let _held = self.journal.held();
         match self.recorder(alloc) {
-            Ok(mut recorder) => recorder.write(rt, alloc, self.journal, to, watcher),
+            Ok(mut recorder) => {
+                let recorded = recorder.write(rt, alloc, to, watcher);
+                drop(recorder);
+                recorded
+            }
             Err(AllocError) => Recorded::OutOfMemory,
         }
     }
@@ -113,12 +117,14 @@ impl<'a> FilmSource<'a> {
         ensures config { IfOk result (λ recorder. recorder.replay.config.now ≡ self.entry.config.now) }
         ensures media { IfOk result (λ recorder. recorder.replay.media.now ≡ self.entry.media.now) }
         ensures film { IfOk result (λ recorder. recorder.film.now ≡ self.entry.film.now) }
+        ensures journal { IfOk result (λ recorder. recorder.journal.now ≡ self.entry.journal.now) }
         ensures needed { IfOk result (λ recorder. recorder.replay.skipped ≡ first_needed self.entry.film.now self.entry.journal.now.events) }
     {
         let skipped = first_needed(alloc, self.config, self.journal, self.film)?;
         let (config, media) = (self.config, self.media);
         Ok(Recorder {
             film: self.film,
+            journal: self.journal,
             replay: FrameReplay::new(alloc, config, media, self.workers, skipped)?,
         })
     }

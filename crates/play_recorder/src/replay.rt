@@ -28,10 +28,9 @@ impl Replay {
         ensures stage { IfOk result (λ replay. replay.stage ≡ new_stage config.now) }
         ensures scenes { IfOk result HasScenes }
     {
-        Ok(Replay {
-            stage: Stage::new(alloc, config)?,
-            scenes: Scenes::new(alloc, config)?,
-        })
+        let scenes = Scenes::new(alloc, config)?;
+        let stage = Stage::new(alloc, config)?;
+        Ok(Replay { stage, scenes })
     }
 
     /// Applies an event of the history again, and returns the answer to it, which is `Done` for a tick and a stop.

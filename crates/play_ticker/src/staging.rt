@@ -1,10 +1,7 @@
 //! The side that makes ticks.
-ghost use Rattle.std.specs.Prelude.{◌≡◌, ◌≤◌, [], length};
-ghost use Rattle.play_types.specs.History.{ticks};
-ghost use Rattle.play_types.specs.declared.event.TheConstants.{MAX_TICKS};
-ghost use Rattle.scene_pipe.specs.declared.pipe.TheConstants.{SETS};
+ghost use Rattle.std.specs.Prelude.{◌≡◌};
 ghost use Rattle.play_ticker.specs.inner.Loop.{StopsAt};
-ghost use Rattle.play_ticker.specs.inner.Staging.{EndsStaging, HasStaged, MakesStep};
+ghost use Rattle.play_ticker.specs.inner.Staging.{EndsStaging, HasStaged, MakesStep, MayStage};
 
 use crate::ending::TickEnd;
 use crate::ticks::Ticker;
@@ -23,14 +20,7 @@ impl Ticker<'_> {
         pipe: &mut StageEnd,
         clock: &mut C,
     ) -> TickEnd
-        requires of { pass.old.stage ≡ self.now.stage.now }
-        requires first { pass.old.number ≡ 0 }
-        requires made { pass.old.made ≡ [] }
-        requires few { ticks self.now.stage.now.sizes.given ≤ MAX_TICKS }
-        requires channels { pipe.old.channels ≡ self.now.stage.now.sizes.channels }
-        requires sent { pipe.old.sent ≡ [] }
-        requires returned { pipe.old.returned ≡ [] }
-        requires held { length pipe.old.held ≤ SETS }
+        requires { MayStage self.now.stage.now pass.old pipe.old }
         ensures of { pass.new.stage ≡ self.now.stage.now }
         ensures staged { HasStaged self.now.stage.now.sizes.given result (record { pass = pass.old; clock = C.state clock.old; pipe = pipe.old }) (record { pass = pass.new; clock = C.state clock.new; pipe = pipe.new }) }
     {
@@ -48,14 +38,7 @@ impl Ticker<'_> {
         pipe: &mut StageEnd,
         clock: &mut C,
     ) -> TickEnd
-        requires of { pass.old.stage ≡ self.now.stage.now }
-        requires first { pass.old.number ≡ 0 }
-        requires made { pass.old.made ≡ [] }
-        requires few { ticks self.now.stage.now.sizes.given ≤ MAX_TICKS }
-        requires channels { pipe.old.channels ≡ self.now.stage.now.sizes.channels }
-        requires sent { pipe.old.sent ≡ [] }
-        requires returned { pipe.old.returned ≡ [] }
-        requires held { length pipe.old.held ≤ SETS }
+        requires { MayStage self.now.stage.now pass.old pipe.old }
         ensures of { pass.new.stage ≡ self.now.stage.now }
         ensures staged { EndsStaging self.now.stage.now.sizes.given result (record { pass = pass.old; clock = C.state clock.old; pipe = pipe.old }) (record { pass = pass.new; clock = C.state clock.new; pipe = pipe.new }) }
     {

@@ -1,16 +1,14 @@
 //! Ticks that are made by one thread, and rendered and written by another.
-ghost use Rattle.std.specs.Prelude.{◌≡◌, ◌≤◌, [], length, vec_len};
+ghost use Rattle.std.specs.Prelude.{◌≡◌, length, vec_len};
 ghost use Rattle.std.specs.Thread.{IsSync};
 ghost use mathlib.Core.List.{IsPrefix};
-ghost use Rattle.play_types.specs.History.{ticks};
-ghost use Rattle.play_types.specs.declared.event.TheConstants.{MAX_TICKS};
 ghost use Rattle.scene_pipe.specs.Calls.{AreNewEnds};
-ghost use Rattle.scene_pipe.specs.declared.pipe.TheConstants.{SETS};
 ghost use Rattle.play_ticker.specs.Ends.{HasEnded};
-ghost use Rattle.play_ticker.specs.Frames.{AreLast, setup_for, tick_positions};
+ghost use Rattle.play_ticker.specs.Frames.{setup_for, tick_positions};
 ghost use Rattle.play_ticker.specs.Outputs.{AreWritten};
-ghost use Rattle.play_ticker.specs.inner.Staging.{HasStaged};
-ghost use Rattle.play_ticker.specs.inner.Writing.{HasWritten};
+ghost use Rattle.play_ticker.specs.Starts.{MayTickAll};
+ghost use Rattle.play_ticker.specs.inner.Staging.{HasStaged, MayStage};
+ghost use Rattle.play_ticker.specs.inner.Writing.{HasWritten, MayWrite};
 
 use crate::ending::TickEnd;
 use band_render::Renderer;
@@ -59,14 +57,8 @@ pub fn tick_all<R: Threads + Wait + Sync, C: Clock, O: Sink + Send>(
     clock: &mut C,
     outs: &mut Vec<O>,
 ) -> TickEnd
-    requires of { pass.old.stage ≡ stage.now }
-    requires first { pass.old.number ≡ 0 }
-    requires made { pass.old.made ≡ [] }
+    requires ready { MayTickAll stage.now media.now pass.old renderer.old (vec_len outs.old) }
     requires pipe { pipe ≡ stage.now.sizes.channels }
-    requires renderer { length renderer.old ≡ stage.now.sizes.channels }
-    requires last { AreLast stage.now.sizes.given media.now renderer.old }
-    requires few { ticks stage.now.sizes.given ≤ MAX_TICKS }
-    requires outs { vec_len outs.old ≡ stage.now.sizes.channels }
     ensures of { pass.new.stage ≡ stage.now }
     ensures first { pass.new.number ≡ 0 }
     ensures seen { IsPrefix pass.old.seen pass.new.seen }
@@ -96,14 +88,8 @@ impl Ticker<'_> {
         clock: &mut C,
         outs: &mut Vec<O>,
     ) -> TickEnd
-        requires of { pass.old.stage ≡ self.now.stage.now }
-        requires first { pass.old.number ≡ 0 }
-        requires made { pass.old.made ≡ [] }
+        requires ready { MayTickAll self.now.stage.now self.now.media.now pass.old renderer.old (vec_len outs.old) }
         requires pipe { AreNewEnds self.now.stage.now.sizes.channels ends.old.stage_end ends.old.write_end }
-        requires renderer { length renderer.old ≡ self.now.stage.now.sizes.channels }
-        requires last { AreLast self.now.stage.now.sizes.given self.now.media.now renderer.old }
-        requires few { ticks self.now.stage.now.sizes.given ≤ MAX_TICKS }
-        requires outs { vec_len outs.old ≡ self.now.stage.now.sizes.channels }
         ensures of { pass.new.stage ≡ self.now.stage.now }
         ensures first { pass.new.number ≡ 0 }
         ensures seen { IsPrefix pass.old.seen pass.new.seen }
@@ -131,14 +117,8 @@ impl Ticker<'_> {
         clock: &mut C,
         outs: &mut [O],
     ) -> (Option<u8>, TickEnd)
-        requires of { pass.old.stage ≡ self.now.stage.now }
-        requires first { pass.old.number ≡ 0 }
-        requires made { pass.old.made ≡ [] }
+        requires ready { MayTickAll self.now.stage.now self.now.media.now pass.old renderer.old (length outs.old) }
         requires pipe { AreNewEnds self.now.stage.now.sizes.channels ends.old.stage_end ends.old.write_end }
-        requires renderer { length renderer.old ≡ self.now.stage.now.sizes.channels }
-        requires last { AreLast self.now.stage.now.sizes.given self.now.media.now renderer.old }
-        requires few { ticks self.now.stage.now.sizes.given ≤ MAX_TICKS }
-        requires outs { length outs.old ≡ self.now.stage.now.sizes.channels }
         ensures of { pass.new.stage ≡ self.now.stage.now }
         ensures written { HasWritten O.state (record { setup = setup_for renderer.old self.now.media.now; given = self.now.stage.now.sizes.given }) result.0
             (record { pipe = ends.old.write_end; frames = renderer.old; outs = outs.old }) (record { pipe = ends.new.write_end; frames = renderer.new; outs = outs.new }) }
@@ -152,12 +132,12 @@ impl Ticker<'_> {
         join_mut(
             rt,
             &mut || -> Option<u8>
-                requires { IsSync R.row × (write_end.now.channels ≡ length renderer.now) × AreLast ticker.stage.now.sizes.given ticker.media.now renderer.now × (length outs.now ≡ length renderer.now) × (write_end.now.taken ≡ []) × (write_end.now.given ≡ []) }
+                requires { IsSync R.row × MayWrite ticker.stage.now ticker.media.now write_end.now renderer.now (length outs.now) }
                 ensures { HasWritten O.state (record { setup = setup_for renderer.entry.now ticker.entry.media.now; given = ticker.entry.stage.now.sizes.given }) result
                     (record { pipe = write_end.entry.now; frames = renderer.entry.now; outs = outs.entry.now }) (record { pipe = write_end.exit.now; frames = renderer.exit.now; outs = outs.exit.now }) }
             { ticker.write_all(rt, renderer, write_end, outs) },
             &mut || -> TickEnd
-                requires { IsSync R.row × (pass.now.stage ≡ ticker.stage.now) × (pass.now.number ≡ 0) × (pass.now.made ≡ []) × (ticks ticker.stage.now.sizes.given ≤ MAX_TICKS) × (stage_end.now.channels ≡ ticker.stage.now.sizes.channels) × (stage_end.now.sent ≡ []) × (stage_end.now.returned ≡ []) × (length stage_end.now.held ≤ SETS) }
+                requires { IsSync R.row × MayStage ticker.stage.now pass.now stage_end.now }
                 ensures { (pass.exit.now.stage ≡ ticker.entry.stage.now) × HasStaged ticker.entry.stage.now.sizes.given result (record { pass = pass.entry.now; clock = C.state clock.entry.now; pipe = stage_end.entry.now }) (record { pass = pass.exit.now; clock = C.state clock.exit.now; pipe = stage_end.exit.now }) }
             { ticker.stage_all(rt, pass, stage_end, clock) },
         )

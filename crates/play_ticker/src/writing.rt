@@ -1,8 +1,8 @@
 //! The side that renders and writes.
-ghost use Rattle.std.specs.Prelude.{◌≡◌, [], length, true};
-ghost use Rattle.play_ticker.specs.Frames.{AreLast, setup_for};
+ghost use Rattle.std.specs.Prelude.{◌≡◌, length, true};
+ghost use Rattle.play_ticker.specs.Frames.{setup_for};
 ghost use Rattle.play_ticker.specs.inner.Items.{is_open};
-ghost use Rattle.play_ticker.specs.inner.Writing.{GivesBack, HasWritten, MakesWrite};
+ghost use Rattle.play_ticker.specs.inner.Writing.{GivesBack, HasWritten, MakesWrite, MayWrite};
 
 use crate::outputs::write_frames;
 use crate::ticks::Ticker;
@@ -14,7 +14,7 @@ use std::thread::Threads;
 
 /// What happened to the next item.
 #[derive(Clone, Copy)]
-pub(crate) enum Step {
+pub(crate) enum ItemOutcome {
     /// Its scenes were rendered, written and given back.
     Written,
     /// It was the end mark.
@@ -33,11 +33,7 @@ impl Ticker<'_> {
         pipe: &mut WriteEnd,
         outs: &mut [O],
     ) -> Option<u8>
-        requires channels { pipe.old.channels ≡ length renderer.old }
-        requires last { AreLast self.now.stage.now.sizes.given self.now.media.now renderer.old }
-        requires outs { length outs.old ≡ length renderer.old }
-        requires taken { pipe.old.taken ≡ [] }
-        requires given { pipe.old.given ≡ [] }
+        requires { MayWrite self.now.stage.now self.now.media.now pipe.old renderer.old (length outs.old) }
         ensures { HasWritten O.state (record { setup = setup_for renderer.old self.now.media.now; given = self.now.stage.now.sizes.given }) result
             (record { pipe = pipe.old; frames = renderer.old; outs = outs.old }) (record { pipe = pipe.new; frames = renderer.new; outs = outs.new }) }
     {
@@ -45,9 +41,9 @@ impl Ticker<'_> {
         laws::frames_of_a_tick();
         for _ in rt.forever() {
             match self.write_next(rt, renderer, pipe, outs) {
-                Step::Written => {}
-                Step::Done => return None,
-                Step::Failed { channel } => {
+                ItemOutcome::Written => {}
+                ItemOutcome::Done => return None,
+                ItemOutcome::Failed { channel } => {
                     give_back(rt, pipe);
                     return Some(channel);
                 }
@@ -63,7 +59,7 @@ impl Ticker<'_> {
         renderer: &mut Renderer,
         pipe: &mut WriteEnd,
         outs: &mut [O],
-    ) -> Step
+    ) -> ItemOutcome
         requires channels { pipe.old.channels ≡ length renderer.old }
         requires outs { length outs.old ≡ length renderer.old }
         ensures channels { length renderer.new ≡ length renderer.old }
@@ -72,17 +68,17 @@ impl Ticker<'_> {
     {
         let scenes = match pipe.take(rt) {
             Taken::Staged { scenes, .. } => scenes,
-            Taken::Done => return Step::Done,
+            Taken::Done => return ItemOutcome::Done,
         };
         renderer.render(rt, &scenes, self.media, &OpenGate);
         match write_frames(scenes.channels(), renderer, outs) {
             Ok(()) => {
                 pipe.give(rt, scenes);
-                Step::Written
+                ItemOutcome::Written
             }
             Err(channel) => {
                 pipe.broken(rt, channel, scenes);
-                Step::Failed { channel }
+                ItemOutcome::Failed { channel }
             }
         }
     }

@@ -1,5 +1,5 @@
 //! A text.
-ghost use Rattle.std.specs.Prelude.{◌≡◌, ◌==◌, ◌↔◌, nat_eq, length, IsTrue, IfOk, string_bytes};
+ghost use Rattle.std.specs.Prelude.{◌≡◌, ◌==◌, nat_eq, length, IfOk, string_bytes};
 ghost use Rattle.std.specs.Cmp.{partial_equiv_from_equiv};
 ghost use Rattle.std.specs.Cmp.Lexicographic.{nat_list_eq_equiv, pointwise};
 ghost use Rattle.std.specs.Str.{chars};
@@ -43,13 +43,6 @@ impl Text {
         ensures { result ≡ (length self.now == 0) }
     {
         self.as_str().is_empty()
-    }
-
-    /// Returns whether the text and `other` have equal characters.
-    pub fn is_same(&self, other: &str) -> bool
-        ensures { IsTrue result ↔ (self.now ≡ chars other.now) }
-    {
-        self.as_str() == other
     }
 
     /// Hands the text out, without a copy.

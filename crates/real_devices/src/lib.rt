@@ -51,6 +51,7 @@ pub use patience::{INTERRUPTIONS, RESTORED_WAITS, RESTORING_BYTES, WRITE_WAITS};
 pub use place::Place;
 pub use rate_clock::RateClock;
 pub use signal_clock::SignalClock;
+pub use signals::{EndSignal, Signals};
 pub use tcp_door::TcpDoor;
 pub use tcp_link::TcpLink;
 pub use thread_trial::{start_threads, try_threads};

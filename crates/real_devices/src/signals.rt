@@ -19,9 +19,12 @@ const IGNORED: &[u8] = b"SigIgn:";
 
 /// A signal that asks a process to end.
 #[derive(Clone, Copy, Debug, PartialEq, Eq)]
-pub(crate) enum EndSignal {
+pub enum EndSignal {
+    /// SIGHUP: the terminal or the session that started the process is gone.
     Hangup,
+    /// SIGINT: somebody at the terminal interrupts the process.
     Interrupt,
+    /// SIGTERM: somebody asks the process to end.
     Terminate,
 }
 
@@ -56,21 +59,21 @@ impl Display for EndSignal {
 /// The pending signals of this process. Only signals that were blocked when it was started are seen: any other ends it
 /// at once.
 #[derive(Drop)]
-pub(crate) struct Signals {
+pub struct Signals {
     /// The file with the state of the process, if it could be opened.
     status: Option<File>,
 }
 
 impl Signals {
     /// Opens the file with the state of the process. Without it no signal is seen.
-    pub(crate) fn new<R: Files<File = File>>(rt: &R) -> Signals {
+    pub fn new<R: Files<File = File>>(rt: &R) -> Signals {
         Signals {
             status: fs::open(rt, STATUS).ok(),
         }
     }
 
     /// Returns a pending signal that asks the process to end and is not ignored, if there is one.
-    pub(crate) fn pending(&self) -> Option<EndSignal> {
+    pub fn pending(&self) -> Option<EndSignal> {
         let mut room = [0; STATUS_BYTES];
         let count = self.status.as_ref()?.read_at(&mut room, 0).ok()?;
         let status = room.get(..count)?;

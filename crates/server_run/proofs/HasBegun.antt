@@ -48,16 +48,20 @@ module _ {C D O : Type 0} (program : Program) (memory : RunMemory D) (devices : 
   pub new_ticker : vec_len devices.outs ≡ length program.config.channels → IsNewTicker begun.1.stage program.media begun.0.ticker
   new_ticker many =
       let pass = (passes_of_stage (vec_len devices.doors) refl).ticker in record {
-        of = ap (λ (p : PassView). p.stage) pass;
-        number = ap (λ (p : PassView). p.number) pass;
-        made = ap (λ (p : PassView). p.made) pass;
-        frames_many = sym (length-map begun.0.ticker.renderer (λ (frame : FrameView). frame.size)) ∙ ap length frames_are
-            ∙ length-map program.config.channels channel_size ∙ sym channels_are;
-        last = subst (λ (given : List Event). AreLast given program.media begun.0.ticker.renderer) (sym given_is)
-            (subst (λ (frames : List FrameView). AreLast program.given program.media frames) (sym has.renderer) is.last);
-        few = subst (λ (given : List Event). ticks given ≤ MAX_TICKS) (sym given_is) is.on.few;
+        ready = record {
+          tick = record {
+            of = ap (λ (p : PassView). p.stage) pass;
+            first = ap (λ (p : PassView). p.number) pass;
+            made = ap (λ (p : PassView). p.made) pass;
+            few = subst (λ (given : List Event). ticks given ≤ MAX_TICKS) (sym given_is) is.on.few;
+          };
+          renderer = sym (length-map begun.0.ticker.renderer (λ (frame : FrameView). frame.size)) ∙ ap length frames_are
+              ∙ length-map program.config.channels channel_size ∙ sym channels_are;
+          last = subst (λ (given : List Event). AreLast given program.media begun.0.ticker.renderer) (sym given_is)
+              (subst (λ (frames : List FrameView). AreLast program.given program.media frames) (sym has.renderer) is.last);
+          outs = begun.0.ticker.outs.ok.0 ∙ ap length has.devices_held.outs ∙ sym devices.outs.ok.0 ∙ many ∙ sym channels_are;
+        };
         pipe = subst (λ (n : ℕ). AreNewEnds n begun.0.ticker.ends.stage_end begun.0.ticker.ends.write_end) (is.pipe ∙ sym channels_are) has.ends;
-        outs_many = begun.0.ticker.outs.ok.0 ∙ ap length has.devices_held.outs ∙ sym devices.outs.ok.0 ∙ many ∙ sym channels_are;
       }
 
   pub log_of : IsLogOf begun.1.stage begun.0.others.log

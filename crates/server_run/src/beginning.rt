@@ -6,7 +6,7 @@ ghost use Rattle.server_run.specs.Beginning.{IsBeginning, MayGoOn};
 
 use band_render::Renderer;
 use clip_format::MediaTable;
-use play_recorder::last_frames;
+use play_recorder::{LastTickSource, last_frames};
 use play_ticker::laws;
 use play_types::Config;
 use stage_core::Stage;
@@ -54,7 +54,13 @@ impl Beginning {
         ensures stage { IfOk result (λ beginning. beginning.stage ≡ stage) }
     {
         let _held = stage.journal().held();
-        let renderer = last_frames(rt, alloc, config, media, stage.journal(), workers)?;
+        let source = LastTickSource {
+            config,
+            media,
+            journal: stage.journal(),
+            workers,
+        };
+        let renderer = last_frames(rt, alloc, source)?;
         Ok(Beginning { stage, renderer })
     }
 }

@@ -1,5 +1,7 @@
 //! The memory of a run, which is allocated before the first call on a device.
-ghost use Rattle.std.specs.Prelude.{◌≡◌, ◌+◌, ◌<◌, All, IfOk, None, vec_len};
+ghost use Rattle.std.specs.Prelude.{◌≡◌, ◌+◌, ◌<◌, ◌≤◌, [], All, IfOk, None, length, vec_capacity, vec_len};
+ghost use Rattle.clip_format.specs.Table.{media_names};
+ghost use Rattle.play_types.specs.Config.{IsConfig};
 ghost use Rattle.play_types.specs.History.{stop_at};
 ghost use Rattle.play_types.specs.Media.{IsMediaName};
 ghost use Rattle.history_replay.specs.Replay.{IsTextName};
@@ -7,7 +9,7 @@ ghost use Rattle.stage_lock.specs.Calls.{new_passes};
 ghost use Rattle.stage_lock.specs.Views.{sizes_of};
 ghost use Rattle.play_outside.specs.declared.listener.TheConstants.{MOST_AWAY};
 ghost use Rattle.server_run.specs.Beginning.{IsBeginning, program_from};
-ghost use Rattle.server_run.specs.inner.Threads.{HasBegun, HasRoomFor, IsRunMemory};
+ghost use Rattle.server_run.specs.inner.Threads.{HasBegun, HasRoomFor, IsRunMemory, counts_of, sessions_in};
 ghost use Rattle.server_run.specs.inner.Workers.{MayWork, door_states};
 
 use crate::beginning::Beginning;
@@ -56,15 +58,21 @@ impl<D: Listener> RunMemory<D> {
         requires { IsBeginning config.now media.now beginning }
         ensures { IfOk result (IsRunMemory (program_from config.now media.now beginning.stage)) }
     {
-        let names = media.names(alloc)?;
-        read_names(&names);
-        let pipe = ScenePipe::new(alloc, config)?;
+        let room = RunRoom::new(alloc, config, media)?;
         let Beginning { stage, renderer } = beginning;
         let _ticks = stage.journal().ticks();
-        let sessions = sessions(alloc, stage.journal(), config.connections())?;
-        let connection_workers = Vec::with_capacity(alloc, config.connections() as usize)?;
-        let log_room = LogRoom::new(alloc)?;
-        let (stage, passes) = share(alloc, config, stage)?;
+        let shared = share(alloc, config, stage)?;
+        let RunStage {
+            stage,
+            passes,
+            sessions,
+        } = shared;
+        let RunRoom {
+            names,
+            pipe,
+            connection_workers,
+            log_room,
+        } = room;
         Ok(RunMemory {
             names,
             renderer,
@@ -130,18 +138,64 @@ fn read_names(names: &MediaNames)
     }
 }
 
-/// Shares a stage, with a pass for the ticker, one for each connection worker, and one for the log.
-fn share(
-    alloc: Global,
-    config: &Config,
-    stage: Stage,
-) -> Result<(SharedStage, Vec<Pass>), AllocError>
+/// The memory of a run besides its stage and its frames.
+#[derive(Drop)]
+struct RunRoom<D> {
+    names: MediaNames,
+    pipe: ScenePipe,
+    connection_workers: Vec<ConnectionWorker<D>>,
+    log_room: LogRoom,
+}
+
+impl<D: Listener> RunRoom<D> {
+    /// Allocates the memory, with room for one connection worker per door.
+    fn new(alloc: Global, config: &Config, media: &MediaTable) -> Result<RunRoom<D>, AllocError>
+        ensures config { IfOk result (λ room. IsConfig config.now) }
+        ensures names { IfOk result (λ room. room.names ≡ media_names media.now) }
+        ensures ranges { IfOk result (λ room. All IsMediaName room.names) }
+        ensures texts { IfOk result (λ room. All IsTextName room.names) }
+        ensures pipe { IfOk result (λ room. room.pipe ≡ length config.now.channels) }
+        ensures empty { IfOk result (λ room. room.connection_workers.items ≡ []) }
+        ensures many { IfOk result (λ room. config.now.connections ≤ vec_capacity room.connection_workers) }
+    {
+        let names = media.names(alloc)?;
+        read_names(&names);
+        let pipe = ScenePipe::new(alloc, config)?;
+        let connection_workers = Vec::with_capacity(alloc, config.connections() as usize)?;
+        let log_room = LogRoom::new(alloc)?;
+        Ok(RunRoom {
+            names,
+            pipe,
+            connection_workers,
+            log_room,
+        })
+    }
+}
+
+/// A stage that is shared by the threads of a run, with what they need of it.
+struct RunStage {
+    stage: SharedStage,
+    /// The pass of the ticker, then one for each connection worker, and then that of the log.
+    passes: Vec<Pass>,
+    /// A session for each connection worker.
+    sessions: Vec<WorkerSession>,
+}
+
+/// Shares a stage, with a pass for the ticker, one for each connection worker, and one for the log, and a session for each connection
+/// worker, which is counted from the last one of the stage's events on.
+fn share(alloc: Global, config: &Config, stage: Stage) -> Result<RunStage, AllocError>
     requires { stop_at stage.journal.events ≡ None }
-    ensures sizes { IfOk result (λ shared. shared.0.sizes ≡ sizes_of stage (config.now.connections + 2)) }
-    ensures passes { IfOk result (λ shared. shared.1.items ≡ new_passes shared.0) }
+    ensures sizes { IfOk result (λ shared. shared.stage.sizes ≡ sizes_of stage (config.now.connections + 2)) }
+    ensures passes { IfOk result (λ shared. shared.passes.items ≡ new_passes shared.stage) }
+    ensures sessions { IfOk result (λ shared. counts_of shared.sessions.items ≡ sessions_in stage.journal.events config.now.connections) }
 {
+    let sessions = sessions(alloc, stage.journal(), config.connections())?;
     match SharedStage::share(alloc, stage, config.connections() + 2) {
-        Ok(shared) => Ok(shared),
+        Ok((stage, passes)) => Ok(RunStage {
+            stage,
+            passes,
+            sessions,
+        }),
         Err(_stage) => Err(AllocError),
     }
 }

@@ -1,12 +1,15 @@
 //! The stage over its own journal.
 ghost use Rattle.std.specs.Prelude.{◌≡◌, ℕ, ◌+◌, ◌<◌, ◌≤◌, [], All, IfOk, IfErr, IfSome, OnOk, OnErr, None, Some, false, length, map, slice_get};
 ghost use Rattle.std.specs.List.{range_with_len};
+ghost use Rattle.play_types.specs.Answer.{micros_of};
 ghost use Rattle.play_types.specs.History.{stop_at, ticks};
+ghost use Rattle.play_types.specs.Scene.{IsConfigured};
 ghost use Rattle.play_types.specs.declared.event.Event.TheVariants.{Batch, Do, Stop, Tick};
 ghost use Rattle.play_types.specs.declared.place.TheConstants.{MAX_LIVE_LAYERS};
 ghost use Rattle.history_model.specs.pictures.Media.{Setup};
 ghost use Rattle.history_model.specs.pictures.Scene.{scene};
-ghost use Rattle.history_model.specs.stage.Answer.{StageAnswer, answer, command_answer};
+ghost use Rattle.history_model.specs.stage.Answer.{StageAnswer, answer, command_answer, number_count};
+ghost use Rattle.history_model.specs.stage.Value.{value};
 ghost use Rattle.history_model.specs.commands.Channels.{IsServed};
 ghost use Rattle.stage_core.specs.Seen.{seen_layers};
 ghost use Rattle.stage_core.specs.Stage.{HasRoom, HasTime, IsNoTick, IsNotTaken, after_event};
@@ -19,7 +22,9 @@ use crate::settle::{settle, settle_all};
 use crate::status::statuses;
 use mixer_state::Mixer;
 use play_journal::Journal;
-use play_types::{Answer, Cmd, CommandShape, Config, MAX_TICKS, Query, Scenes, Tag};
+use play_types::{
+    Answer, Cmd, CommandShape, Config, MAX_TICKS, Micros, Place, Prop, Query, Scenes, Tag,
+};
 use route_graph::Routes;
 use std::alloc::{AllocError, Global};
 use std::marker::Model;
@@ -199,6 +204,16 @@ impl Stage {
             return None;
         }
         places.channel(channel).seen(at)
+    }
+
+    /// Returns the value of a mixer property of a place after the events so far, in millionths. The channel of the place is one of
+    /// the stage.
+    pub fn mixer_value(&self, place: Place, prop: Prop) -> Micros
+        requires { IsConfigured self.now.channels place.channel }
+        ensures { result ≡ micros_of
+            (value self.now.journal.events place prop (ticks self.now.journal.events)) (number_count prop) }
+    {
+        self.mixer.value(place, prop, self.journal.ticks())
     }
 
     /// Returns the journal.

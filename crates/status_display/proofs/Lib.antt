@@ -1,2 +1,3 @@
 pub mod ToldStatus
 pub mod TickStatus
+pub mod PushedMessages

@@ -1,5 +1,5 @@
 -- What is written for the status after a tick.
-use Rattle.std.proofs.Common.{◌≡◌, ℕ, ◌+◌, List, [], ◌∷◌, ◌++◌, length, refl, sym, ap, ◌∙◌, append-nil}
+use Rattle.std.proofs.Common.{◌≡◌, ℕ, List, [], ◌∷◌, ◌++◌, length, refl, sym, ap, ◌∙◌, append-nil}
 use Rattle.std.specs.Prelude.{flat_map}
 use Rattle.std.specs.List.{range_with_len}
 use Rattle.std.proofs.lemmas.List.{length-map}
@@ -10,8 +10,8 @@ use Rattle.play_types.specs.declared.event.Event.TheVariants.{Tick}
 use Rattle.play_types.proofs.Histories.{ticks-append}
 use Rattle.history_model.specs.pictures.Scene.{scene}
 use Rattle.history_model.specs.scripts.History.{channel_size, setup_of}
-use Rattle.play_outside.specs.SinkState.{SinkState, after_taking}
-use Rattle.play_outside.specs.Gathered.{Adds, Gathered}
+use Rattle.play_outside.specs.SinkState.{SinkState}
+use Rattle.play_outside.specs.Gathered.{Adds}
 use Rattle.play_outside.specs.Sink.{Sends}
 use Rattle.play_outside.specs.declared.sink.Sent.{Sent}
 use Rattle.play_outside.specs.declared.sink.Sent.TheVariants as sent

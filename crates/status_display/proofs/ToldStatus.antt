@@ -5,6 +5,7 @@ use Rattle.std.proofs.lemmas.List.{take_all}
 use Rattle.std.proofs.lemmas.Option.{get_or_from_slice_get, none-some, slice_get_cases, slice_get_within}
 use Rattle.std.specs.List.{cons_option, range_with_len}
 use Rattle.std.proofs.lemmas.Grind.{flat_map-append}
+use Rattle.std.proofs.lemmas.List.Folds.{flat_map-map}
 use Rattle.play_types.specs.History.{ticks}
 use Rattle.play_types.specs.Media.{MediaNameView}
 use Rattle.play_types.specs.declared.event.Event.{Event}
@@ -63,9 +64,20 @@ seen_statuses past count channel (layer ∷ numbers) =
     seen_status channel layer (standing_foreground past count channel layer) (filter_map (status_at past count channel) numbers)
     (filter_map (seen_at past count channel) numbers) (seen_statuses past count channel numbers)
 
-texts_of_others : {A : Type 0} {B : Type 0} {C : Type 0} (f : B → List C) (g : A → B) (l : List A) → flat_map f (map g l) ≡ flat_map (λ x. f (g x)) l
-texts_of_others f g [] = refl
-texts_of_others {C = C} f g (x ∷ l) = ap (λ (text : List C). f (g x) ++ text) (texts_of_others f g l)
+-- what comes of the statuses of the layers, from their views
+pub seen_each : {A : Type 0} (f : LayerStatus → List A) (history : List Event) (channel : ℕ)
+    → flat_map f (layer_statuses history channel) ≡ flat_map (λ view. f (status_of_view channel view)) (seen_layers history channel)
+unfolding layer_statuses
+seen_each f history channel =
+    ap (flat_map f) (seen_statuses (acts history) (ticks history) channel (layers (acts history)))
+    ∙ flat_map-map f (status_of_view channel) (seen_layers history channel)
+
+-- there is no view from this place on
+pub no_further : (views : List LayerView) (at : ℕ) → slice_get views at ≡ None → length views ≤ at
+no_further views at none = elim (slice_get_cases views at).1 [
+  | inl (x, within, there, is) ↦ absurd (none-some x (sym none ∙ there))
+  | inr (long, is) ↦ long
+]
 
 -- the lines of a layer, from its view
 abbrev pub view_lines : List MediaNameView → ℕ → ℕ → LayerView → List ℕ
@@ -73,10 +85,7 @@ view_lines names count channel layer = layer_lines names count (status_of_view c
 
 module _ (names : List MediaNameView) (count : ℕ) (history : List Event) (channel : ℕ) where
   seen_lines : flat_map (layer_lines names count) (layer_statuses history channel) ≡ flat_map (view_lines names count channel) (seen_layers history channel)
-  unfolding layer_statuses
-  seen_lines =
-      ap (flat_map (layer_lines names count)) (seen_statuses (acts history) (ticks history) channel (layers (acts history)))
-      ∙ texts_of_others (layer_lines names count) (status_of_view channel) (seen_layers history channel)
+  seen_lines = seen_each (layer_lines names count) history channel
 
   -- the lines of the first layers
   abbrev pub first_lines : ℕ → List ℕ
@@ -104,11 +113,5 @@ module _ (names : List MediaNameView) (count : ℕ) (history : List Event) (chan
     pub layers_told : slice_get (seen_layers history channel) at ≡ None → state ≡ after_taking first (flat_map (layer_lines names count) (layer_statuses history channel))
     layers_told none =
         let views = seen_layers history channel in
-        so_far ∙ ap (λ (some : List LayerView). after_taking first (flat_map (view_lines names count channel) some)) (take_all at views (past views at none))
+        so_far ∙ ap (λ (some : List LayerView). after_taking first (flat_map (view_lines names count channel) some)) (take_all at views (no_further views at none))
         ∙ ap (after_taking first) (sym seen_lines)
-      where
-        past : (views : List LayerView) (at : ℕ) → slice_get views at ≡ None → length views ≤ at
-        past views at none = elim (slice_get_cases views at).1 [
-          | inl (x, within, there, is) ↦ absurd (none-some x (sym none ∙ there))
-          | inr (long, is) ↦ long
-        ]

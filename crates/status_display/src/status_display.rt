@@ -70,7 +70,7 @@ fn send_layers<K: Sink>(tick: MadeTick<'_>, channel: u8, out: &mut K) -> Sent
 }
 
 /// Returns the status of a layer of a channel from its view in the stage.
-fn status_of(channel: u8, layer: LayerView) -> LayerStatus
+pub(crate) fn status_of(channel: u8, layer: LayerView) -> LayerStatus
     ensures { result ≡ status_of_view channel layer }
 {
     LayerStatus {

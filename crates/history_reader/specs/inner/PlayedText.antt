@@ -96,6 +96,14 @@ ReadsText setup text (Err OutOfMemory) = Unit {0}
 ReadsText setup text (Err Device) = ⊥
 ReadsText setup text (Err TooLong) = ⊥
 
+-- how a text is played by a new player: as on the playout of the setup, and the player keeps that setup
+abbrev pub PlaysAnew : ServerSetup → List ℕ → Result (TextEnd × Player) ReadHistoryFault → Type 0
+PlaysAnew setup text (Ok (end, player)) = PlaysText (playout_of setup false) text (Ok end) player × (player.setup ≡ setup)
+PlaysAnew setup text (Err (Line number)) = faulty_line (playout_of setup false) text ≡ Some number
+PlaysAnew setup text (Err OutOfMemory) = Unit {0}
+PlaysAnew setup text (Err Device) = ⊥
+PlaysAnew setup text (Err TooLong) = ⊥
+
 -- a fault with which the reading of an input ends
 abbrev pub IsReadFault : RunFault → Type 0
 IsReadFault faults.InputTooLong = Unit {0}

@@ -20,6 +20,10 @@ HasScenes replay = length replay.scenes ≡ replay.stage.channels
 abbrev pub new_stage : ConfigView → StageView
 new_stage config = record { journal = record { limit = config.journal_limit; events = [] }; channels = length config.channels }
 
+-- and after these events
+abbrev pub stage_with : ConfigView → List Event → StageView
+stage_with config events = record { journal = record { limit = config.journal_limit; events = events }; channels = length config.channels }
+
 -- these events are a history that such a stage can play: its commands are for the channels of the stage, and no more than the limit
 -- of its journal
 pub record CanPlay (stage : StageView) (events : List Event) : Type 0 where

@@ -8,7 +8,7 @@ use Rattle.play_types.specs.declared.event.Event.{Event}
 use Rattle.play_types.specs.declared.event.Event.TheVariants.{Tick}
 use Rattle.play_types.specs.declared.event.TheConstants.{MAX_TICKS}
 use Rattle.play_outside.specs.ClockState.{ClockState, after_clock_closed, after_clock_fault, after_pulse}
-use Rattle.stage_lock.specs.Views.{PassView}
+use Rattle.stage_lock.specs.Views.{PassView, SharedView}
 use Rattle.stage_lock.specs.Calls.{IsFound, Looks, added}
 use Rattle.scene_pipe.specs.declared.item.Room.TheVariants.{Free, Broken}
 use Rattle.scene_pipe.specs.declared.item.Taken.TheVariants.{Done}
@@ -19,10 +19,20 @@ use Rattle.scene_pipe.specs.Counts.{EndsWithNews, free_count, is_news}
 use Rattle.scene_pipe.specs.Views.{StageView}
 use Rattle.play_ticker.specs.Ends.{EndsPass, clock_at_end, pulses_taken, turns_won}
 use Rattle.play_ticker.specs.Frames.{tick_positions}
+use Rattle.play_ticker.specs.Starts.{MayTick}
 use Rattle.play_ticker.specs.inner.Items.{staged_item, staged_of}
 use Rattle.play_ticker.specs.inner.Loop.{IsAtEnd, IsKnown, MadeTicks}
 use Rattle.play_ticker.specs.declared.ending.TickEnd.{TickEnd}
 use Rattle.play_ticker.specs.declared.ending.TickEnd.TheVariants.{ClockClosed, Ended, TicksOver, ClockFault, OutFault}
+
+-- the side that makes ticks may begin: its pass may make the ticks of the stage, and its end of the pipe is for the channels of the stage, holds
+-- at most SETS sets of scenes, has sent nothing, and nothing came back to it
+pub record MayStage (stage : SharedView) (pass : PassView) (pipe : StageView) : Type 0 where
+  pub tick : MayTick stage pass
+  pub channels : pipe.channels ≡ stage.sizes.channels
+  pub sent : pipe.sent ≡ []
+  pub returned : pipe.returned ≡ []
+  pub held : length pipe.held ≤ SETS
 
 -- what the side that makes ticks has: a pass, a clock, and its end of the pipe
 pub record Staging : Type 0 where

@@ -8,6 +8,7 @@ use Rattle.play_types.specs.declared.event.Event.{Event}
 use Rattle.play_outside.specs.SinkState.{SinkState, after_taking}
 use Rattle.play_outside.specs.Sink.{Fails}
 use Rattle.clip_format.specs.Table.{Entry}
+use Rattle.stage_lock.specs.Views.{SharedView}
 use Rattle.play_scene.specs.Frames.{FrameView, frame_at}
 use Rattle.band_render.specs.Rendered.{AreRendered}
 use Rattle.scene_pipe.specs.declared.item.Taken.{Taken}
@@ -18,10 +19,11 @@ use Rattle.scene_pipe.specs.Calls.{GetsTaken}
 use Rattle.scene_pipe.specs.Counts.{free_before_news}
 use Rattle.scene_pipe.specs.Items.{IsClosed}
 use Rattle.scene_pipe.specs.Views.{WriteView}
+use Rattle.play_ticker.specs.Frames.{AreLast}
 use Rattle.play_ticker.specs.Outputs.{AllTakeFrames, Beginning, EachOutput, IsCutAt, shown_from}
 use Rattle.play_ticker.specs.inner.Items.{AllFit, is_broken, staged_item, staged_of}
-use Rattle.play_ticker.specs.declared.writing.Step.{Step}
-use Rattle.play_ticker.specs.declared.writing.Step.TheVariants as step
+use Rattle.play_ticker.specs.declared.writing.ItemOutcome.{ItemOutcome}
+use Rattle.play_ticker.specs.declared.writing.ItemOutcome.TheVariants as outcome
 
 -- the bytes of the frame of a channel, and of its sound
 abbrev pub bytes_in : List FrameView → ℕ → List ℕ
@@ -32,6 +34,15 @@ pub record FailsAt (failed : ℕ) (bytes : ℕ → List ℕ) (channel : ℕ) (ol
   pub below : channel < failed → new ≡ after_taking old (bytes channel)
   pub failing : channel ≡ failed → Fails (bytes channel) old new
   pub above : failed < channel → new ≡ old
+
+-- the side that writes may begin: each channel of its end of the pipe has a frame, and each frame an output; the frames are those of the last
+-- tick among the events that the stage was given, and blank if there is none; and the end has taken nothing, and given nothing back
+pub record MayWrite (stage : SharedView) (entries : List Entry) (pipe : WriteView) (frames : List FrameView) (outputs : ℕ) : Type 0 where
+  pub channels : pipe.channels ≡ length frames
+  pub last : AreLast stage.sizes.given entries frames
+  pub outs : outputs ≡ length frames
+  pub taken : pipe.taken ≡ []
+  pub given : pipe.given ≡ []
 
 -- what the side that writes has: its end of the pipe, the frames that were rendered last, and the outputs
 pub record Writing (O : Type 0) : Type 0 where
@@ -73,12 +84,12 @@ module _ {O : Type 0} where
     pub outs : EachOutput (Holds new.frames) 1 old.outs new.outs
     pub gives : new.pipe ≡ record got { given = got.given ++ back scenes ∷ [] }
 
-  -- what one step does
-  abbrev pub MakesWrite : (O → SinkState) → List Entry → Step → Writing O → Writing O → Type 0
-  MakesWrite state entries step.Written old new =
+  -- what is done with the next item, by its outcome
+  abbrev pub MakesWrite : (O → SinkState) → List Entry → ItemOutcome → Writing O → Writing O → Type 0
+  MakesWrite state entries outcome.Written old new =
       WritesSet entries (λ frames channel before after. state after ≡ after_taking (state before) (bytes_in frames channel)) (λ scenes. Free scenes) old new
-  MakesWrite state entries step.Done old new = GetsTaken Done old.pipe new.pipe × (new.frames ≡ old.frames) × (new.outs ≡ old.outs)
-  MakesWrite state entries (step.Failed failed) old new =
+  MakesWrite state entries outcome.Done old new = GetsTaken Done old.pipe new.pipe × (new.frames ≡ old.frames) × (new.outs ≡ old.outs)
+  MakesWrite state entries (outcome.Failed failed) old new =
       IsConfigured (length old.frames) failed × WritesSet entries (λ frames channel before after. FailsAt failed (bytes_in frames) channel (state before) (state after)) (λ scenes. Broken failed scenes) old new
 
   -- the output of a channel failed at one of the sets that were taken

@@ -2,10 +2,8 @@
 use Rattle.std.specs.Prelude.{◌≡◌, ℕ, ◌+◌, ◌≤◌, List, [], ◌∷◌, length, map, reverse, vec_capacity, vec_len}
 use Rattle.std.specs.List.{AllZip, range_with_len}
 use Rattle.play_types.specs.Config.{ConfigView}
-use Rattle.play_types.specs.History.{ticks}
 use Rattle.play_types.specs.Media.{MediaNameView}
 use Rattle.play_types.specs.declared.event.Event.{Event}
-use Rattle.play_types.specs.declared.event.TheConstants.{MAX_TICKS}
 use Rattle.play_outside.specs.ClockState.{ClockState}
 use Rattle.play_outside.specs.SinkState.{SinkState}
 use Rattle.play_outside.specs.declared.devices.Devices.{Devices}
@@ -23,6 +21,7 @@ use Rattle.scene_pipe.specs.Calls.{AreNewEnds}
 use Rattle.play_ticker.specs.Ends.{HasEnded}
 use Rattle.play_ticker.specs.Frames.{AreLast, tick_positions}
 use Rattle.play_ticker.specs.Outputs.{AreWritten}
+use Rattle.play_ticker.specs.Starts.{MayTickAll}
 use Rattle.play_ticker.specs.declared.ending.TickEnd.{TickEnd}
 use Rattle.server_run.specs.Doors.{last_session}
 use Rattle.server_run.specs.Run.{IsProgram, Program}
@@ -92,17 +91,11 @@ pub record TickerStates (C O : Type 0) : Type 0 where
 abbrev pub ticker_states : {C O : Type 0} → (C → ClockState) → (O → SinkState) → TickerStates C O
 ticker_states clock out = record { clock = clock; out = out }
 
--- a ticker before its first tick, on a table of clips: its pass has number 0 and has made nothing, its frames are those of the last tick
--- before the run, its pipe is new, and there are as many frames, channels of the pipe and outputs as the stage has channels
+-- a ticker before its first tick, on a table of clips: its pass may make the ticks of the stage, its frames are those of the last tick before
+-- the run, its pipe is new, and there are as many frames, channels of the pipe and outputs as the stage has channels
 pub record IsNewTicker {C O : Type 0} (stage : SharedView) (clips : List Entry) (ticker : TickerThread C O) : Type 0 where
-  pub of : ticker.pass.stage ≡ stage
-  pub number : ticker.pass.number ≡ 0
-  pub made : ticker.pass.made ≡ []
-  pub frames_many : length ticker.renderer ≡ stage.sizes.channels
-  pub last : AreLast stage.sizes.given clips ticker.renderer
-  pub few : ticks stage.sizes.given ≤ MAX_TICKS
+  pub ready : MayTickAll stage clips ticker.pass ticker.renderer (vec_len ticker.outs)
   pub pipe : AreNewEnds stage.sizes.channels ticker.ends.stage_end ticker.ends.write_end
-  pub outs_many : vec_len ticker.outs ≡ stage.sizes.channels
 
 -- a ticker took pulses, from the first of two moments to the second, and its ticks ended with `tick_end`
 pub record HasTicked {C O : Type 0} (states : TickerStates C O) (setup : Setup) (stage : SharedView) (tick_end : TickEnd) (moments : TickerThread C O × TickerThread C O) : Type 0 where

@@ -1,5 +1,5 @@
 -- What is seen of a layer, computed from its stored state.
-use Rattle.std.specs.Prelude.{ℕ, Option, option_map}
+use Rattle.std.specs.Prelude.{ℕ, min, Option, option_map}
 use Rattle.play_types.specs.Playhead.{head}
 use Rattle.history_model.specs.stage.Life.{Life}
 use Rattle.history_model.specs.stage.StageHistory.{foreground_of}
@@ -13,8 +13,12 @@ view_of layer front = record {
   layer = layer;
   spec = front.take.spec;
   frame = head front.take front.shown;
+  seek = front.take.seek;
   length = front.take.length;
+  looped = front.take.looped;
   paused = front.paused;
+  trans = front.take.trans;
+  step = min front.shown front.take.trans.duration;
 }
 
 -- what is seen of a live place, none without a foreground

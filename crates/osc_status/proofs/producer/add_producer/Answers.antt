@@ -14,20 +14,20 @@ returns-in-None g c =
 pub returns-in-Colour : goal.returns-in-Colour
 returns-in-Colour g c =
     rw c.in-Colour.is
-    (worded _ c.args.pieces.now (35 ∷ (without_zeros (capital_digits 8 c.in-Colour.value) ++ [])) (without_zeros (35 ∷ capital_digits 8 c.in-Colour.value)) _ _ _
+    (worded _ c.args.form c.args.pieces.now (35 ∷ (without_zeros (capital_digits 8 c.in-Colour.value) ++ [])) (without_zeros (35 ∷ capital_digits 8 c.in-Colour.value)) _ _ _
     (colour-parts c.in-Colour.value) (rw c.colour_digits.ensures at c.add_text.ensures))
 
 pub returns-in-RouteChannel : goal.returns-in-RouteChannel
 returns-in-RouteChannel g c =
     rw c.in-RouteChannel.is
-    (worded _ c.args.pieces.now (codes "route://" ++ (without_zeros (decimal c.in-RouteChannel.channel) ++ [])) (without_zeros (codes "route://" ++ decimal c.in-RouteChannel.channel)) _ _ _
+    (worded _ c.args.form c.args.pieces.now (codes "route://" ++ (without_zeros (decimal c.in-RouteChannel.channel) ++ [])) (without_zeros (codes "route://" ++ decimal c.in-RouteChannel.channel)) _ _ _
     (channel-route c.in-RouteChannel.channel)
     (rw (c.as_bytes.ensures.value, c.format.ensures.text) at c.add_text-in-RouteChannel.ensures))
 
 pub returns-in-RouteLayer : goal.returns-in-RouteLayer
 returns-in-RouteLayer g c =
     rw c.in-RouteLayer.is
-    (worded _ c.args.pieces.now (codes "route://" ++ (without_zeros (decimal c.in-RouteLayer.place.channel) ++ (45 ∷ (without_zeros (decimal c.in-RouteLayer.place.layer) ++ []))))
+    (worded _ c.args.form c.args.pieces.now (codes "route://" ++ (without_zeros (decimal c.in-RouteLayer.place.channel) ++ (45 ∷ (without_zeros (decimal c.in-RouteLayer.place.layer) ++ []))))
     (without_zeros (codes "route://" ++ place_text c.in-RouteLayer.place)) _ _ _
     (place-route c.in-RouteLayer.place)
     (rw (c.as_bytes-in-RouteLayer.ensures.value, c.format-in-RouteLayer.ensures.text, c.channel.ensures.value, c.as_bytes-in-RouteLayer-2.ensures.value, c.format-in-RouteLayer-2.ensures.text, c.layer.ensures.value) at c.add_text-in-RouteLayer.ensures))

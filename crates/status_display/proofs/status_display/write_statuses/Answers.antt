@@ -1,4 +1,4 @@
-use Rattle.std.proofs.Common.{◌+◌, ◌<◌, length, arith}
+use Rattle.std.proofs.Common.{◌<◌, length, arith}
 use Rattle.script_player.specs.declared.ending.Halt.TheVariants.{Write}
 use Rattle.script_player.proofs.Ticking.{no_texts, text_more, text_stopped}
 use Rattle.status_display.specs.Status.{channel_status}

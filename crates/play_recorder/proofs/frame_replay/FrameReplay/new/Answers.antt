@@ -4,5 +4,5 @@ use Rattle.play_recorder.proofs.frame_replay.FrameReplay.new.Goals as goal
 pub returns-clause-ready : goal.returns-clause-ready
 returns-clause-ready c =
     new_ready
-    (record { config = c.args.config; media = c.args.media; played = c.in_ok-new.field-0; renderer = c.in_ok-new-2.field-0; skipped = c.args.skipped })
-    c.in_ok-new.ensures.stage c.in_ok-new.ensures.scenes c.in_ok-new-2.ensures
+    (record { config = c.args.config; media = c.args.media; played = c.in_ok-played.played; renderer = c.in_ok-renderer.renderer; skipped = c.args.skipped })
+    c.in_ok-played.ensures.stage c.in_ok-played.ensures.scenes c.in_ok-renderer.ensures

@@ -77,7 +77,7 @@ returns-in-Some-clause-ended g c =
     c.in-Some.is
     (joined_end g.O.Sink.state c.run_sides-failed.result.0 c.run_sides-failed.result.1 channels (record { setup = setup_for c.args.renderer.now c.args.self.now.media.now; given = c.args.self.now.stage.now.sizes.given }) base now first last same
     c.run_sides-failed.ensures.written c.run_sides-failed.ensures.staged
-    (c.requires.renderer ∙ sym (ap (λ (s : SharedView). s.sizes.channels) c.run_sides-failed.ensures.of)))
+    (c.requires.ready.renderer ∙ sym (ap (λ (s : SharedView). s.sizes.channels) c.run_sides-failed.ensures.of)))
 
 pub returns-in-None-clause-ended : goal.returns-in-None-clause-ended
 returns-in-None-clause-ended g c =
@@ -94,4 +94,4 @@ returns-in-None-clause-ended g c =
     c.in-None.is
     (joined_end g.O.Sink.state c.run_sides-failed.result.0 c.run_sides-failed.result.1 channels (record { setup = setup_for c.args.renderer.now c.args.self.now.media.now; given = c.args.self.now.stage.now.sizes.given }) base now first last same
     c.run_sides-failed.ensures.written c.run_sides-failed.ensures.staged
-    (c.requires.renderer ∙ sym (ap (λ (s : SharedView). s.sizes.channels) c.run_sides-failed.ensures.of)))
+    (c.requires.ready.renderer ∙ sym (ap (λ (s : SharedView). s.sizes.channels) c.run_sides-failed.ensures.of)))

@@ -6,11 +6,11 @@ use Rattle.play_ticker.proofs.ticks.Ticker.stage_ticks.Goals as goal
 
 pub loop-init : goal.loop-init
 loop-init g c = record {
-  of = c.requires.of;
-  first = c.requires.first;
+  of = c.requires.tick.of;
+  first = c.requires.tick.first;
   channels = c.requires.channels;
   staging = staging_first c.args.self.now.stage.now.sizes.given (record { pass = c.args.pass.now; clock = g.C.Clock.state c.args.clock.now; pipe = c.args.pipe.now })
-      c.requires.few c.requires.first c.requires.made c.requires.sent c.requires.returned c.requires.held;
+      c.requires.tick.few c.requires.tick.first c.requires.tick.made c.requires.sent c.requires.returned c.requires.held;
 }
 
 pub loop-preserved : goal.loop-preserved

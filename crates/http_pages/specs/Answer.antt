@@ -33,14 +33,15 @@ pub record Answer : Type 0 where
   pub fields : List Header
   pub body : List ℕ
 
--- the fields of every answer: what its body is, that no browser keeps it or takes its body for something else, and that a page
--- loads from this server alone, is in no frame of another and sends no form
+-- the fields of every answer to a request that was read: what its body is, that no browser keeps it or takes its body for something else, and that a page runs
+-- the script and the style with these SHA-256 sums alone (Content Security Policy Level 3), loads pictures and documents from this
+-- server alone, is in no frame of another and sends no form
 abbrev pub fields_for : ContentType → List Header
 fields_for content =
     (codes "content-type", content_text content)
     ∷ (codes "cache-control", codes "no-store")
     ∷ (codes "x-content-type-options", codes "nosniff")
-    ∷ (codes "content-security-policy", codes "default-src 'self'; base-uri 'none'; form-action 'none'; frame-ancestors 'none'")
+    ∷ (codes "content-security-policy", codes "default-src 'none'; script-src 'sha256-gEe6tNrdoCWCg9Nww8uoDAabtLMuLI7s9apYeF3xVSM='; style-src 'sha256-PD1FBd6N4jZliuRlmko7X0PXi7ykvQPCpICLkXAyc/s='; img-src 'self'; connect-src 'self'; base-uri 'none'; form-action 'none'; frame-ancestors 'none'")
     ∷ []
 
 -- the answer if there is this page, or none

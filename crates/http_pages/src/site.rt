@@ -13,9 +13,10 @@ use http::{HeaderName, HeaderValue, Request, StatusCode};
 use http_server::{Response, Service};
 use std::alloc::{AllocError, Global};
 
-/// What a browser may load for a page: from this server alone. A page is in no frame of another, and sends no form.
+/// What a browser may load for a page: pictures and documents, from this server alone. It runs the script and the style with these
+/// sums, which are those of the page of `live_view`, and no others. A page is in no frame of another, and sends no form.
 const POLICY: &str =
-    "default-src 'self'; base-uri 'none'; form-action 'none'; frame-ancestors 'none'";
+    "default-src 'none'; script-src 'sha256-gEe6tNrdoCWCg9Nww8uoDAabtLMuLI7s9apYeF3xVSM='; style-src 'sha256-PD1FBd6N4jZliuRlmko7X0PXi7ykvQPCpICLkXAyc/s='; img-src 'self'; connect-src 'self'; base-uri 'none'; form-action 'none'; frame-ancestors 'none'";
 
 /// The pages of a program, as a service.
 #[derive(Drop)]

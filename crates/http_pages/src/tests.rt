@@ -158,7 +158,9 @@ fn every_answer_of_a_page_has_the_fields_for_browsers(rt: HostRuntime) -> Result
     let port = start(&rt)?;
     let answer = ask(&rt, port, "GET / HTTP/1.1\r\nHost: a\r\n\r\n")?;
     assert!(rt; answer.contains(FIELDS));
-    assert!(rt; answer.contains("\r\ncontent-security-policy: default-src 'self';"));
+    assert!(rt;
+        answer.contains("\r\ncontent-security-policy: default-src 'none'; script-src 'sha256-")
+    );
     assert!(rt; answer.contains("\r\ncontent-length: 8\r\n"));
     Ok(())
 }

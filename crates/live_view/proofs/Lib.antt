@@ -1,0 +1,9 @@
+pub mod Histories
+pub mod Fresh
+pub mod Rendering
+pub mod Views
+pub mod Taking
+pub mod Pixels
+pub mod Sounds
+pub mod Pages
+pub mod Messages

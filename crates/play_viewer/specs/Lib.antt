@@ -1,0 +1,8 @@
+pub mod ViewerWords
+pub mod Moves
+pub mod Desk
+pub mod Viewing
+pub mod Program
+pub mod Statuses
+pub mod Worked
+pub mod inner

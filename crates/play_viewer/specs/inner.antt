@@ -1,0 +1,2 @@
+pub mod ViewerCommand
+pub mod UnderWay

@@ -27,25 +27,70 @@ use server_setup::{RunFault, ServerSetup};
 use std::alloc::Global;
 use std::thread::Threads;
 
-/// Reads a cue sheet to the end of the input, and plays each of its lines at its moment. The fault of a sheet that is refused, and the
-/// cues that are refused, are reported to `teller`. A sheet that is too long or faulty is refused before anything is written.
-pub fn plan<R: Threads + Sync, I: Source, K: Sink, T: Teller>(
-    rt: &R,
-    alloc: Global,
-    setup: ServerSetup,
-    options: FrameOptions,
-    input: &mut I,
-    out: &mut K,
-    teller: &mut T,
-) -> Result<(), RunFault>
-    requires some_workers { 1 ≤ options.workers }
-    requires few_workers { options.workers ≤ 64 }
-    ensures { PlaysPlan (playout_of setup options.digests) (fault_in result)
-        (record { input = I.state input.old; out = K.state out.old })
-        (record { input = I.state input.new; out = K.state out.new }) }
-{
-    let sheet = sheet_in(alloc, setup.config.rate(), input, teller)?;
-    play_sheet(rt, alloc, setup, options, &sheet, out, teller)
+/// A cue sheet that will be played: the channels and clips, how the frames are made, and who receives reports.
+#[derive(Drop)]
+pub struct SheetRun<'a, T> {
+    /// The channels and the clips.
+    pub setup: ServerSetup,
+    /// How frames are made and written.
+    pub options: FrameOptions,
+    /// Who receives reports.
+    pub teller: &'a mut T,
+}
+
+impl<T: Teller> SheetRun<'_, T> {
+    /// Reads a cue sheet to the end of the input, and plays each of its lines at its moment. The fault of a sheet that is refused, and
+    /// the cues that are refused, are reported to the teller. A sheet that is too long or faulty is refused before anything is written.
+    pub fn play<R: Threads + Sync, I: Source, K: Sink>(
+        self,
+        rt: &R,
+        alloc: Global,
+        input: &mut I,
+        out: &mut K,
+    ) -> Result<(), RunFault>
+        requires some_workers { 1 ≤ self.options.workers }
+        requires few_workers { self.options.workers ≤ 64 }
+        ensures { PlaysPlan (playout_of self.entry.setup self.entry.options.digests) (fault_in result)
+            (record { input = I.state input.old; out = K.state out.old })
+            (record { input = I.state input.new; out = K.state out.new }) }
+    {
+        let rate = self.setup.config.rate();
+        let sheet = sheet_in(alloc, rate, input, self.teller)?;
+        self.play_sheet(rt, alloc, &sheet, out)
+    }
+
+    /// Plays the lines of a cue sheet, each at its moment, to the end of the sheet or to a kill. Refused cues are reported to the teller.
+    fn play_sheet<R: Threads + Sync, K: Sink>(
+        self,
+        rt: &R,
+        alloc: Global,
+        sheet: &Sheet,
+        out: &mut K,
+    ) -> Result<(), RunFault>
+        requires some_workers { 1 ≤ self.options.workers }
+        requires few_workers { self.options.workers ≤ 64 }
+        requires time { ticks_in (script_of sheet.now) ≤ MAX_MOMENT }
+        requires lines { AreLines (script_of sheet.now) }
+        ensures { SheetEnds (playout_of self.entry.setup self.entry.options.digests) sheet.now (fault_in result) (K.state out.old) (K.state out.new) }
+    {
+        let SheetRun {
+            setup,
+            options,
+            teller,
+        } = self;
+        let display = FrameDisplay::new(rt, alloc, &setup, options)?;
+        let player = Player::new(alloc, setup, options.digests, false)?;
+        let mut steps = sheet.steps(alloc)?;
+        let report = CueReport::new(teller);
+        let mut sheet_player = SheetPlayer {
+            player,
+            display,
+            report,
+        };
+        let played = sheet_player.play_steps(alloc, &mut steps, out);
+        sheet_player.report.end();
+        outcome(played)
+    }
 }
 
 /// Reads an input to its end as a cue sheet, with `rate` frames a second. Why it is no sheet is reported to `teller`.
@@ -91,38 +136,6 @@ fn refusal(fault: SheetFault) -> RunFault
     }
 }
 
-/// Plays the lines of a cue sheet, each at its moment, to the end of the sheet or to a kill. Refused cues are reported to `teller`.
-fn play_sheet<R: Threads + Sync, K: Sink, T: Teller>(
-    rt: &R,
-    alloc: Global,
-    setup: ServerSetup,
-    options: FrameOptions,
-    sheet: &Sheet,
-    out: &mut K,
-    teller: &mut T,
-) -> Result<(), RunFault>
-    requires some_workers { 1 ≤ options.workers }
-    requires few_workers { options.workers ≤ 64 }
-    requires time { ticks_in (script_of sheet.now) ≤ MAX_MOMENT }
-    requires lines { AreLines (script_of sheet.now) }
-    ensures { SheetEnds (playout_of setup options.digests) sheet.now (fault_in result) (K.state out.old) (K.state out.new) }
-{
-    let mut display = FrameDisplay::new(rt, alloc, &setup, options)?;
-    let mut player = Player::new(alloc, setup, options.digests, false)?;
-    let mut steps = sheet.steps(alloc)?;
-    let mut report = CueReport::new(teller);
-    let played = play_steps(
-        alloc,
-        &mut player,
-        &mut steps,
-        &mut display,
-        out,
-        &mut report,
-    );
-    report.end();
-    outcome(played)
-}
-
 /// Returns the fault with which the lines of a cue sheet ended, if they had one. A kill is no fault.
 fn outcome(played: Result<(), Halt>) -> Result<(), RunFault>
     requires { played ≢ Err Rejected }
@@ -136,57 +149,64 @@ fn outcome(played: Result<(), Halt>) -> Result<(), RunFault>
     }
 }
 
-/// Plays the remaining steps of a cue sheet. It stops at the first line that ends the run.
-fn play_steps<D: Display, K: Sink, T: Teller>(
-    alloc: Global,
-    player: &mut Player,
-    steps: &mut SheetSteps<'_>,
-    display: &mut D,
-    out: &mut K,
-    report: &mut CueReport<'_, T>,
-) -> Result<(), Halt>
-    requires ready { IsReady player.old }
-    requires frames { D.shown display.old ≡ Frames }
-    requires shown { IsShownBy (D.shows display.old) (D.waiting display.old) player.old }
-    requires time { ticks (events_in player.old) + ticks_in steps.old ≤ MAX_TICKS }
-    requires lines { AreLines steps.old }
-    ensures { (run : Run) → HasPlayedLines run [] player.old (K.state out.old) → PlaysLines run steps.old result player.new (K.state out.new) }
-{
-    while let Some(step) = steps.next(alloc)? {
-        report.come_to(steps.place());
-        play_step(alloc, player, step, display, out, report)?;
-    }
-    Ok(())
+/// Plays the steps of a cue sheet: the player of its lines, the display of its ticks, and the report on its cues.
+#[derive(Drop)]
+struct SheetPlayer<'a, D, T> {
+    player: Player,
+    display: D,
+    report: CueReport<'a, T>,
 }
 
-/// Plays a step of a cue sheet: each of its ticks as a script line of one tick, or its line, whose reply is handed to `report`.
-fn play_step<D: Display, K: Sink, T: Teller>(
-    alloc: Global,
-    player: &mut Player,
-    step: SheetStep,
-    display: &mut D,
-    out: &mut K,
-    report: &mut CueReport<'_, T>,
-) -> Result<(), Halt>
-    requires ready { IsReady player.old }
-    requires frames { D.shown display.old ≡ Frames }
-    requires shown { IsShownBy (D.shows display.old) (D.waiting display.old) player.old }
-    requires time { ticks (events_in player.old) + step_ticks step ≤ MAX_TICKS }
-    requires line { AreLines (step_lines step) }
-    ensures ready { OnOk result (IsReady player.new) }
-    ensures told { D.shown display.new ≡ D.shown display.old }
-    ensures shown { OnOk result (IsShownBy (D.shows display.new) (D.waiting display.new) player.new) }
-    ensures ticks { OnOk result (ticks (events_in player.new) ≡ ticks (events_in player.old) + step_ticks step) }
-    ensures plays { (run : Run) (lines : List ScriptLine) → HasPlayedLines run lines player.old (K.state out.old)
-        → PlaysLines run (lines ++ step_lines step) result player.new (K.state out.new) }
-{
-    match step {
-        SheetStep::Ticks(count) => player.tick(count, display, out),
-        SheetStep::Line(tag, text) => {
-            report.count();
-            let reply = player.take_client_line(alloc, tag, text.as_slice(), out)?;
-            report.take(alloc, &player.setup, text.as_slice(), reply);
-            Ok(())
+impl<D: Display, T: Teller> SheetPlayer<'_, D, T> {
+    /// Plays the remaining steps of a cue sheet. It stops at the first line that ends the run.
+    fn play_steps<K: Sink>(
+        &mut self,
+        alloc: Global,
+        steps: &mut SheetSteps<'_>,
+        out: &mut K,
+    ) -> Result<(), Halt>
+        requires ready { IsReady self.old.player }
+        requires frames { D.shown self.old.display ≡ Frames }
+        requires shown { IsShownBy (D.shows self.old.display) (D.waiting self.old.display) self.old.player }
+        requires time { ticks (events_in self.old.player) + ticks_in steps.old ≤ MAX_TICKS }
+        requires lines { AreLines steps.old }
+        ensures { (run : Run) → HasPlayedLines run [] self.old.player (K.state out.old) → PlaysLines run steps.old result self.new.player (K.state out.new) }
+    {
+        while let Some(step) = steps.next(alloc)? {
+            self.report.come_to(steps.place());
+            self.play_step(alloc, step, out)?;
+        }
+        Ok(())
+    }
+
+    /// Plays a step of a cue sheet: each of its ticks as a script line of one tick, or its line, whose reply is handed to the report.
+    fn play_step<K: Sink>(
+        &mut self,
+        alloc: Global,
+        step: SheetStep,
+        out: &mut K,
+    ) -> Result<(), Halt>
+        requires ready { IsReady self.old.player }
+        requires frames { D.shown self.old.display ≡ Frames }
+        requires shown { IsShownBy (D.shows self.old.display) (D.waiting self.old.display) self.old.player }
+        requires time { ticks (events_in self.old.player) + step_ticks step ≤ MAX_TICKS }
+        requires line { AreLines (step_lines step) }
+        ensures ready { OnOk result (IsReady self.new.player) }
+        ensures told { D.shown self.new.display ≡ D.shown self.old.display }
+        ensures shown { OnOk result (IsShownBy (D.shows self.new.display) (D.waiting self.new.display) self.new.player) }
+        ensures ticks { OnOk result (ticks (events_in self.new.player) ≡ ticks (events_in self.old.player) + step_ticks step) }
+        ensures plays { (run : Run) (lines : List ScriptLine) → HasPlayedLines run lines self.old.player (K.state out.old)
+            → PlaysLines run (lines ++ step_lines step) result self.new.player (K.state out.new) }
+    {
+        match step {
+            SheetStep::Ticks(count) => self.player.tick(count, &mut self.display, out),
+            SheetStep::Line(tag, text) => {
+                self.report.count();
+                let line = text.as_slice();
+                let reply = self.player.take_client_line(alloc, tag, line, out)?;
+                self.report.take(alloc, &self.player.setup, line, reply);
+                Ok(())
+            }
         }
     }
 }

@@ -13,7 +13,8 @@ use Rattle.script_player.specs.declared.ending.Halt.{Halt}
 use Rattle.script_player.specs.declared.ending.Halt.TheVariants as halt
 use Rattle.made_script.specs.declared.made_run.MadeRun.{MadeRun}
 use Rattle.made_script.specs.inner.Made.{EndsMade, HasMade, HasPlayed, PlaysAll, TakesLine, in_memory}
-use Rattle.made_script.proofs.Making.{all_made, text_taken}
+use Rattle.vec_sink.proofs.Taken.{text_taken}
+use Rattle.made_script.proofs.Making.{all_made}
 
 -- the state after some steps
 pub step_state : ℕ → ℕ → ℕ

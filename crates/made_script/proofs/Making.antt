@@ -6,7 +6,7 @@ use Rattle.std.proofs.lemmas.List.Elements.{filter-append}
 use Rattle.sha2.specs.Hashers.{Holds256}
 use Rattle.sha2.specs.declared.Sha256.{Sha256}
 use Rattle.play_types.specs.declared.reply.Reply.{Reply}
-use Rattle.play_outside.specs.SinkState.{SinkState, after_taking, more_taken}
+use Rattle.play_outside.specs.SinkState.{SinkState}
 use Rattle.history_model.specs.sessions.Session.{Step, Local, Ask, AskBatch, KillServer, EndConnection, Skip}
 use Rattle.history_model.specs.scripts.Generator.{generator_playout}
 use Rattle.history_model.specs.scripts.History.{Playout, PlayedLine, Turn, ends_at, is_kill, said_step, script_events, turn_of}
@@ -21,6 +21,7 @@ use Rattle.history_model.proofs.WithMemory.{HasMemory-with_memory}
 use Rattle.script_player.specs.Script.{meanings}
 use Rattle.script_player.specs.declared.ending.Halt.{Halt}
 use Rattle.script_player.specs.declared.ending.Halt.TheVariants as halt
+use Rattle.vec_sink.proofs.Taken.{text_taken}
 use Rattle.made_script.specs.declared.made_run.MadeRun.{MadeRun}
 use Rattle.script_player.specs.declared.player.Player.{Player}
 use Rattle.made_script.specs.inner.Made.{CountsReply, HasMade, HasPlayed, TakesLine, in_memory, refusals}
@@ -38,10 +39,6 @@ none_made run represents hashed none = record {
   hashed = subst (Holds256 run.hasher) (sym (script_output-none generator_playout)) hashed;
   refused = none ∙ ap refusals (sym (script_replies-none generator_playout));
 }
-
--- all that a sink took that had taken nothing before
-pub taken_is : (taken text : List ℕ) → Some taken ≡ Some ([] ++ text) → taken ≡ text
-taken_is taken text is = cc
 
 -- the line after those that were played
 abbrev next_of : List PlayedLine → List ℕ → NextLine
@@ -159,11 +156,6 @@ last_made lines line rest old new before after made done hashed counted one =
           ∙ refusals-append (script_replies generator_playout made.played) (reply_list reply)
           ∙ (let none = quiet.1 in omega (arith, none)));
     })
-
--- all that a sink took after it had taken nothing
-pub text_taken : (before after : SinkState) (taken text : List ℕ) → before.taken ≡ Some [] → after.taken ≡ Some taken → after ≡ after_taking before text → taken ≡ text
-text_taken before after taken text none some is =
-    taken_is taken text (sym some ∙ ap (λ (s : SinkState). s.taken) is ∙ ap (λ t. more_taken t text) none)
 
 -- a line without a reply
 pub none_counted : (lines : List (List ℕ)) (line : List ℕ) (old new : MadeRun) (before after : SinkState) (taken : List ℕ) → HasMade lines old

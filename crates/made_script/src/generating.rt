@@ -16,7 +16,6 @@ ghost use Rattle.script_player.specs.Player.{IsReady, events_in};
 
 use crate::generator::Generator;
 use crate::made_run::MadeRun;
-use crate::vec_sink::VecSink;
 use frame_display::{FrameDisplay, FrameOptions};
 use itoa::Buffer;
 use play_journal::Journal;
@@ -27,6 +26,7 @@ use server_setup::RunFault;
 use sha2::{Digest, Sha256};
 use std::alloc::Global;
 use std::thread::Threads;
+use vec_sink::VecSink;
 
 /// One thread makes the frames, and they are written whole.
 const PLAINLY: FrameOptions = FrameOptions {
@@ -53,10 +53,8 @@ pub fn generate<R: Threads + Sync, K: Sink>(
     let mut display = FrameDisplay::new(rt, alloc, &setup, PLAINLY)?;
     let mut run = MadeRun::new(alloc, setup)?;
     outcome(play(alloc, seed, steps, &mut run, &mut display))?;
-    match send_summary(run, out) {
-        Sent::All => Ok(()),
-        Sent::Failed => Err(RunFault::Device),
-    }
+    send_summary(run, out)?;
+    Ok(())
 }
 
 /// Returns the fault with which a generated script ends, if it has one. A line that stops the run is no fault. The output of a line is

@@ -7,6 +7,5 @@
 mod generating;
 mod generator;
 mod made_run;
-mod vec_sink;
 
 pub use generating::{MAX_STEPS, generate};

@@ -14,12 +14,12 @@ ghost use Rattle.script_player.specs.Shown.{Frames};
 ghost use Rattle.made_script.specs.inner.Made.{CountsReply, HasMade, TakesLine};
 ghost use Rattle.script_player.specs.Ticks.{ticks_per_byte};
 
-use crate::vec_sink::VecSink;
 use play_types::{Reply, UNKNOWN_COMMAND};
 use script_player::{Display, Halt, Player};
 use server_setup::ServerSetup;
 use sha2::{Digest, Sha256};
 use std::alloc::{AllocError, Global};
+use vec_sink::VecSink;
 
 /// A run of a generated script so far: the player, the hash of the output, and the number of replies whose code is 400 or more.
 #[derive(Drop)]

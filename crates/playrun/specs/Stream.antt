@@ -1,18 +1,11 @@
--- What reads and writes do to a stream whose bytes are known.
+-- What reads do to a stream whose bytes are known.
 use Rattle.std.specs.Prelude.{ℕ, List, Option, take}
-use Rattle.std.specs.Io.KnownBytes.{Appends, Consumes, IsAtEnd, Keeps}
+use Rattle.std.specs.Io.KnownBytes.{Consumes, IsAtEnd, Keeps}
 use Rattle.play_outside.specs.declared.source.ReadStep.{ReadStep}
-use Rattle.play_outside.specs.declared.source.ReadStep.TheVariants as read
-use Rattle.play_outside.specs.declared.sink.WriteStep.{WriteStep}
-use Rattle.play_outside.specs.declared.sink.WriteStep.TheVariants as write
+use Rattle.play_outside.specs.declared.source.ReadStep.TheVariants.{Got, End, Failed}
 
 -- a read returned the next bytes of the stream, or found its end, or failed and consumed nothing
 abbrev pub GivesFrom : ReadStep → List ℕ → Option (List ℕ) → Option (List ℕ) → Type 0
-GivesFrom (read.Got count) buffer before after = Consumes before after (take count buffer)
-GivesFrom read.End buffer before after = Keeps before after × IsAtEnd after
-GivesFrom read.Failed buffer before after = Keeps before after
-
--- a write appended the first `count` bytes of the piece to the stream, or failed and appended nothing
-abbrev pub AddsTo : WriteStep → List ℕ → Option (List ℕ) → Option (List ℕ) → Type 0
-AddsTo (write.Took count) piece before after = Appends before after (take count piece)
-AddsTo write.Failed piece before after = Keeps before after
+GivesFrom (Got count) buffer before after = Consumes before after (take count buffer)
+GivesFrom End buffer before after = Keeps before after × IsAtEnd after
+GivesFrom Failed buffer before after = Keeps before after

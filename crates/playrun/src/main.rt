@@ -7,7 +7,6 @@ mod play;
 mod run_progress;
 mod run_times;
 mod script_ticks;
-mod std_sink;
 mod std_source;
 mod std_teller;
 #[cfg(test)]
@@ -17,16 +16,16 @@ mod watched_sink;
 
 use complaint::PROGRAM;
 use counted_media::CountedMedia;
-use host_system::{FolderMedia, Progress, WordsFault, words_of};
+use host_system::{FolderMedia, Progress, StdSink, WordsFault, words_of};
 use play::play;
 use run_progress::RunProgress;
+use run_script::Devices;
 use script_ticks::ticks_of_script;
 use std::alloc::AllocError;
 use std::cell::Cell;
 use std::env;
 use std::io::IsTerminal;
 use std::process::ExitCode;
-use std_sink::StdSink;
 use std_source::StdSource;
 use std_teller::StdTeller;
 use watched_sink::WatchedSink;
@@ -45,17 +44,14 @@ fn main(rt: HostRuntime) -> Result<ExitCode, AllocError> {
     } else {
         None
     };
-    let mut output = WatchedSink::new(StdSink::new(rt.stdout(), rt.clone()?), progress);
+    let mut output = WatchedSink::new(StdSink::new(rt.stdout(), rt.clone()?, PROGRAM), progress);
     let mut teller = StdTeller::new(rt.clone()?, is_terminal, &held);
-    let status = play(
-        &rt,
-        alloc,
-        words,
-        &mut input,
-        &mut media,
-        &mut output,
-        &mut teller,
-    );
+    let devices = Devices {
+        input: &mut input,
+        media: &mut media,
+        out: &mut output,
+    };
+    let status = play(&rt, alloc, words, devices, &mut teller);
     output.end();
     Ok(ExitCode::from(status))
 }

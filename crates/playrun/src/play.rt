@@ -8,7 +8,7 @@ ghost use Rattle.playrun.specs.Play.{EndsAtOnce};
 use super::complaint::say_usage;
 use host_system::WordsFault;
 use play_outside::{MediaDir, Sink, Source};
-use run_script::{Teller, run_and_tell};
+use run_script::{Devices, Teller, run_and_tell};
 use server_setup::RunFault;
 use std::alloc::Global;
 use std::io::Eprint;
@@ -28,21 +28,19 @@ pub fn play<
     rt: &R,
     alloc: Global,
     words: Result<Vec<String>, WordsFault>,
-    input: &mut I,
-    media: &mut M,
-    out: &mut O,
+    devices: Devices<'_, I, M, O>,
     teller: &mut T,
 ) -> u8
     ensures known { IfOk words (λ list. PlaysScript (map string_bytes list.items) result
-        (record { media = M.state media.old; input = I.state input.old; out = O.state out.old })
-        (record { media = M.state media.new; input = I.state input.new; out = O.state out.new })) }
+        (record { media = M.state devices.entry.media.now; input = I.state devices.entry.input.now; out = O.state devices.entry.out.now })
+        (record { media = M.state devices.exit.1.0.now; input = I.state devices.exit.0.now; out = O.state devices.exit.1.1.0.now })) }
     ensures unknown { IfErr words (λ fault. EndsAtOnce (run_fault_of fault) result
-        (record { media = M.state media.old; input = I.state input.old; out = O.state out.old })
-        (record { media = M.state media.new; input = I.state input.new; out = O.state out.new })) }
+        (record { media = M.state devices.entry.media.now; input = I.state devices.entry.input.now; out = O.state devices.entry.out.now })
+        (record { media = M.state devices.exit.1.0.now; input = I.state devices.exit.0.now; out = O.state devices.exit.1.1.0.now })) }
 {
     let status = match words {
-        Ok(words) => run_and_tell(rt, alloc, words.as_slice(), input, media, out, teller),
-        Err(fault) => end(RunFault::from(fault), out),
+        Ok(words) => run_and_tell(rt, alloc, words.as_slice(), devices, teller),
+        Err(fault) => end(RunFault::from(fault), devices.out),
     };
     if status == RunFault::Usage.status() {
         say_usage(rt);

@@ -4,12 +4,9 @@ ghost use Rattle.play_outside.specs.Source.{Reads};
 ghost use Rattle.playrun.specs.Stream.{GivesFrom};
 
 use super::complaint::PROGRAM;
-use host_system::complain;
+use host_system::{INTERRUPTIONS, complain};
 use play_outside::{ReadStep, Source};
 use std::io::{Eprint, ErrorKind, Read};
-
-/// How many interruptions of one call make it fail.
-pub const INTERRUPTIONS: u32 = 1000;
 
 /// Reads standard input, and reports on standard error why a read failed. Its state does not hold what is left.
 #[derive(Drop)]

@@ -2,6 +2,7 @@
 ghost use Rattle.std.specs.Prelude.{◌≤◌, IfOk};
 
 use super::*;
+use host_system::INTERRUPTIONS;
 use play_outside::{MemSink, MemSource, ReadStep, Sent, Sink, Source, WriteStep, send};
 use run_script::run_main;
 use run_times::{HourTime, Rate, time_left};
@@ -12,7 +13,6 @@ use std::rt::Files;
 use std::test::Fail;
 use std::time::{Clock, Duration};
 use std::{fs, io};
-use std_source::INTERRUPTIONS;
 use tick_lines::TickLines;
 
 /// A stream that is interrupted, moves two bytes a call until `calls` are made, and then fails once and ends.
@@ -85,11 +85,11 @@ fn reads_again_after_interruptions(rt: HostRuntime) -> Result<(), Fail> {
 /// No clause says that an interruption alone is no failure.
 #[test]
 fn writes_again_after_interruptions(rt: HostRuntime) -> Result<(), Fail> {
-    let mut sink = StdSink::new(Shaky::new(INTERRUPTIONS - 1), rt.clone()?);
+    let mut sink = StdSink::new(Shaky::new(INTERRUPTIONS - 1), rt.clone()?, PROGRAM);
     for step in [WriteStep::Took(2), WriteStep::Failed, WriteStep::Failed] {
         assert_eq!(rt; sink.write(b"abc"), step);
     }
-    let mut stuck = StdSink::new(Shaky::new(INTERRUPTIONS), rt.clone()?);
+    let mut stuck = StdSink::new(Shaky::new(INTERRUPTIONS), rt.clone()?, PROGRAM);
     for step in [WriteStep::Failed, WriteStep::Took(2)] {
         assert_eq!(rt; stuck.write(b"abc"), step);
     }
@@ -154,7 +154,10 @@ fn write_file<R: Files + Eprint + Clone + Drop>(
     path: &str,
     bytes: &[u8],
 ) -> Result<(), Fail> {
-    match send(bytes, &mut StdSink::new(fs::create(rt, path)?, rt.clone()?)) {
+    match send(
+        bytes,
+        &mut StdSink::new(fs::create(rt, path)?, rt.clone()?, PROGRAM),
+    ) {
         Sent::All => Ok(()),
         Sent::Failed => Err(Fail::new("a file is not written")),
     }

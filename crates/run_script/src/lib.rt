@@ -9,9 +9,11 @@
 
 mod command_line;
 mod converting;
+mod devices;
 pub mod examples;
 mod program;
 mod running;
 
+pub use devices::Devices;
 pub use program::{run_and_tell, run_main};
 pub use script_player::{MAX_TOLD_CUES, RefusalLine, RefusedCue, Silent, Teller};

@@ -7,12 +7,13 @@ ghost use Rattle.run_script.specs.inner.Outcome.{PlaysCommandLine};
 
 use crate::command_line::CommandLine;
 use crate::converting::convert;
-use crate::running::{report, run};
-use cue_player::plan;
+use crate::devices::Devices;
+use crate::running::{ScriptRun, report};
+use cue_player::SheetRun;
 use frame_display::FrameOptions;
 use made_script::generate;
 use play_outside::{MediaDir, Sink, Source};
-use script_film::{FilmOptions, record};
+use script_film::{FilmOptions, FilmRun};
 use script_player::{Silent, Teller, plain_setup};
 use server_setup::{RunFault, set_up};
 use std::alloc::Global;
@@ -87,7 +88,8 @@ pub fn run_main<R: Threads + Sync, I: Source, M: MediaDir, O: Sink>(
         (record { media = M.state media.old; input = I.state input.old; out = O.state out.old })
         (record { media = M.state media.new; input = I.state input.new; out = O.state out.new }) }
 {
-    run_and_tell(rt, alloc, words, input, media, out, &mut Silent)
+    let devices = Devices { input, media, out };
+    run_and_tell(rt, alloc, words, devices, &mut Silent)
 }
 
 /// Does what [`run_main`] does, and reports to `teller` the words for which lines of the script are refused, the refused cues or the
@@ -96,18 +98,18 @@ pub fn run_and_tell<R: Threads + Sync, I: Source, M: MediaDir, O: Sink, T: Telle
     rt: &R,
     alloc: Global,
     words: &[String],
-    input: &mut I,
-    media: &mut M,
-    out: &mut O,
+    devices: Devices<'_, I, M, O>,
     teller: &mut T,
 ) -> u8
     ensures { PlaysScript (map string_bytes words.now) result
-        (record { media = M.state media.old; input = I.state input.old; out = O.state out.old })
-        (record { media = M.state media.new; input = I.state input.new; out = O.state out.new }) }
+        (record { media = M.state devices.entry.media.now; input = I.state devices.entry.input.now; out = O.state devices.entry.out.now })
+        (record { media = M.state devices.exit.1.0.now; input = I.state devices.exit.0.now; out = O.state devices.exit.1.1.0.now }) }
 {
+    let Devices { input, media, out } = devices;
     match CommandLine::read(words) {
         Some(line) => {
-            let outcome = play(rt, alloc, line, input, media, out, teller);
+            let devices = Devices { input, media, out };
+            let outcome = play(rt, alloc, line, devices, teller);
             end(outcome, out)
         }
         None => end(Err(RunFault::Usage), out),
@@ -119,20 +121,25 @@ fn play<R: Threads + Sync, I: Source, M: MediaDir, O: Sink, T: Teller>(
     rt: &R,
     alloc: Global,
     line: CommandLine<'_>,
-    input: &mut I,
-    media: &mut M,
-    out: &mut O,
+    devices: Devices<'_, I, M, O>,
     teller: &mut T,
 ) -> Result<(), RunFault>
     requires { IsInRange line }
     ensures { PlaysCommandLine (command_line_view line.entry) result
-        (record { media = M.state media.old; input = I.state input.old; out = O.state out.old })
-        (record { media = M.state media.new; input = I.state input.new; out = O.state out.new }) }
+        (record { media = M.state devices.entry.media.now; input = I.state devices.entry.input.now; out = O.state devices.entry.out.now })
+        (record { media = M.state devices.exit.1.0.now; input = I.state devices.exit.0.now; out = O.state devices.exit.1.1.0.now }) }
 {
+    let Devices { input, media, out } = devices;
     match line {
         CommandLine::Plain(size) => {
-            let plain = plain_setup(alloc, size)?;
-            run(rt, alloc, plain, ONE_WORKER, input, out, teller).outcome()
+            let setup = plain_setup(alloc, size)?;
+            let options = ONE_WORKER;
+            let script = ScriptRun {
+                setup,
+                options,
+                teller,
+            };
+            script.play(rt, alloc, input, out).outcome()
         }
         CommandLine::Configured {
             path,
@@ -141,7 +148,12 @@ fn play<R: Threads + Sync, I: Source, M: MediaDir, O: Sink, T: Teller>(
         } => {
             let setup = set_up(rt, alloc, path, media)?;
             let options = FrameOptions { digests, workers };
-            run(rt, alloc, setup, options, input, out, teller).outcome()
+            let script = ScriptRun {
+                setup,
+                options,
+                teller,
+            };
+            script.play(rt, alloc, input, out).outcome()
         }
         CommandLine::Generated { seed, steps } => generate(rt, alloc, seed, steps, out),
         CommandLine::Converted => convert(alloc, input, out),
@@ -156,7 +168,12 @@ fn play<R: Threads + Sync, I: Source, M: MediaDir, O: Sink, T: Teller>(
         } => {
             let setup = set_up(rt, alloc, path, media)?;
             let options = FrameOptions { digests, workers };
-            plan(rt, alloc, setup, options, input, out, teller)
+            let sheet = SheetRun {
+                setup,
+                options,
+                teller,
+            };
+            sheet.play(rt, alloc, input, out)
         }
         CommandLine::Recorded {
             path,
@@ -165,7 +182,12 @@ fn play<R: Threads + Sync, I: Source, M: MediaDir, O: Sink, T: Teller>(
         } => {
             let setup = set_up(rt, alloc, path, media)?;
             let options = FilmOptions { name, workers };
-            record(rt, alloc, setup, options, input, out, teller)
+            let film = FilmRun {
+                setup,
+                options,
+                teller,
+            };
+            film.record(rt, alloc, input, out)
         }
     }
 }

@@ -7,35 +7,51 @@ ghost use Rattle.status_display.specs.Status.{Status};
 
 use frame_display::{FrameDisplay, FrameOptions};
 use play_outside::{Sink, Source};
-use script_player::{Ending, Player, Teller, play_input};
+use script_player::{Ending, Player, ScriptPlayer, Teller};
 use server_setup::ServerSetup;
 use status_display::StatusDisplay;
 use std::alloc::Global;
 use std::thread::Threads;
 
-/// Reads a script to its end, executes its lines, and writes the frames of all channels at each tick. The words for which lines are
-/// refused are reported to `teller`.
-pub fn run<R: Threads + Sync, I: Source, K: Sink, T: Teller>(
-    rt: &R,
-    alloc: Global,
-    setup: ServerSetup,
-    options: FrameOptions,
-    input: &mut I,
-    out: &mut K,
-    teller: &mut T,
-) -> Ending
-    requires some_workers { 1 ≤ options.workers }
-    requires few_workers { options.workers ≤ 64 }
-    ensures { RunsScript Frames (playout_of setup options.digests) result
-        (record { input = I.state input.old; out = K.state out.old })
-        (record { input = I.state input.new; out = K.state out.new }) }
-{
-    match FrameDisplay::new(rt, alloc, &setup, options) {
-        Ok(mut display) => match Player::new(alloc, setup, options.digests, false) {
-            Ok(player) => play_input(alloc, player, &mut display, input, out, teller),
+/// A script that will be played: its channels and clips, how the frames are made, and who receives reports.
+#[derive(Drop)]
+pub struct ScriptRun<'a, T> {
+    pub setup: ServerSetup,
+    pub options: FrameOptions,
+    pub teller: &'a mut T,
+}
+
+impl<T: Teller> ScriptRun<'_, T> {
+    /// Reads a script to its end, executes its lines, and writes the frames of all channels at each tick. The words for which lines are
+    /// refused are reported to the teller.
+    pub fn play<R: Threads + Sync, I: Source, K: Sink>(
+        self,
+        rt: &R,
+        alloc: Global,
+        input: &mut I,
+        out: &mut K,
+    ) -> Ending
+        requires some_workers { 1 ≤ self.options.workers }
+        requires few_workers { self.options.workers ≤ 64 }
+        ensures { RunsScript Frames (playout_of self.entry.setup self.entry.options.digests) result
+            (record { input = I.state input.old; out = K.state out.old })
+            (record { input = I.state input.new; out = K.state out.new }) }
+    {
+        let ScriptRun {
+            setup,
+            options,
+            teller,
+        } = self;
+        match FrameDisplay::new(rt, alloc, &setup, options) {
+            Ok(display) => match Player::new(alloc, setup, options.digests, false) {
+                Ok(player) => {
+                    let script = ScriptPlayer::new(alloc, player, display, teller);
+                    script.play_input(alloc, input, out)
+                }
+                Err(_) => Ending::Memory,
+            },
             Err(_) => Ending::Memory,
-        },
-        Err(_) => Ending::Memory,
+        }
     }
 }
 
@@ -53,7 +69,10 @@ pub fn report<I: Source, K: Sink, T: Teller>(
         (record { input = I.state input.new; out = K.state out.new }) }
 {
     match Player::new(alloc, setup, false, false) {
-        Ok(player) => play_input(alloc, player, &mut StatusDisplay, input, out, teller),
+        Ok(player) => {
+            let script = ScriptPlayer::new(alloc, player, StatusDisplay, teller);
+            script.play_input(alloc, input, out)
+        }
         Err(_) => Ending::Memory,
     }
 }

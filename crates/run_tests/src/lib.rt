@@ -3,18 +3,4 @@
 #![tactic(auto)]
 
 #[cfg(test)]
-mod conversions;
-#[cfg(test)]
-mod digests;
-#[cfg(test)]
-mod made_scripts;
-#[cfg(test)]
-mod plans;
-#[cfg(test)]
-mod scripts;
-#[cfg(test)]
-mod sheets;
-#[cfg(test)]
-mod tellers;
-#[cfg(test)]
-mod worked_runs;
+mod tests;

@@ -1,8 +1,8 @@
 //! Writes the clip file of a film that was recorded in a script.
 //!
-//! [`record`] plays a script without writing its output, finds the film of a name in its history, and writes it.
+//! [`FilmRun::record`] plays a script without writing its output, finds the film of a name in its history, and writes it.
 #![tactic(auto)]
 
 mod recording;
 
-pub use recording::{FilmOptions, record};
+pub use recording::{FilmOptions, FilmRun};

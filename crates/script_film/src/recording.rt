@@ -12,7 +12,7 @@ ghost use Rattle.script_film.specs.inner.Recorded.{ReplaysScript, WritesFilm, fa
 use play_outside::{PlainSink, Sink, Source};
 use play_recorder::{Film, FilmSource, Recorded, Watcher, find_film};
 use play_types::{ChannelList, Config, RecName, Text};
-use script_player::{Player, Script, Teller, Unshown, play_script};
+use script_player::{Player, ScriptPlayer, Teller, Unshown};
 use server_setup::{RunFault, ServerSetup};
 use std::alloc::{AllocError, Global};
 use std::thread::Threads;
@@ -39,28 +39,49 @@ impl<T: Teller> Watcher for FilmWatcher<'_, T> {
     }
 }
 
-/// Reads a script to its end, executes its lines with nothing written, and then writes the clip file of the film that was recorded under
-/// a name. The words for which lines are refused, the progress of writing the film, and the length of its file are reported to `teller`.
-///
-/// A line that would be answered with 500 or 501 ends the run with `OutOfMemory`. A history without a film of the name is refused with
-/// `Record`, and nothing is written.
-pub fn record<R: Threads + Sync, I: Source, K: Sink, T: Teller>(
-    rt: &R,
-    alloc: Global,
-    setup: ServerSetup,
-    options: FilmOptions,
-    input: &mut I,
-    out: &mut K,
-    teller: &mut T,
-) -> Result<(), RunFault>
-    requires some_workers { 1 ≤ options.workers }
-    requires few_workers { options.workers ≤ 64 }
-    ensures { RecordsFilm (film_of setup options.name) (fault_in result)
-        (record { input = I.state input.old; out = K.state out.old })
-        (record { input = I.state input.new; out = K.state out.new }) }
-{
-    let player = replayed(alloc, setup, input, teller)?;
-    write_recording(rt, alloc, &player, options, out, teller)
+/// A script whose film will be written: its channels and clips, which film it is, and who receives reports.
+#[derive(Drop)]
+pub struct FilmRun<'a, T> {
+    /// The channels and the clips.
+    pub setup: ServerSetup,
+    /// Which film is written, and how its frames are made.
+    pub options: FilmOptions,
+    /// Who receives reports.
+    pub teller: &'a mut T,
+}
+
+impl<T: Teller> FilmRun<'_, T> {
+    /// Reads a script to its end, executes its lines with nothing written, and then writes the clip file of the film that was recorded
+    /// under the name. The words for which lines are refused, the progress of writing the film, and the length of its file are reported
+    /// to the teller.
+    ///
+    /// A line that would be answered with 500 or 501 ends the run with `OutOfMemory`. A history without a film of the name is refused
+    /// with `Record`, and nothing is written.
+    pub fn record<R: Threads + Sync, I: Source, K: Sink>(
+        self,
+        rt: &R,
+        alloc: Global,
+        input: &mut I,
+        out: &mut K,
+    ) -> Result<(), RunFault>
+        requires some_workers { 1 ≤ self.options.workers }
+        requires few_workers { self.options.workers ≤ 64 }
+        ensures { RecordsFilm (film_of self.entry.setup self.entry.options.name) (fault_in result)
+            (record { input = I.state input.old; out = K.state out.old })
+            (record { input = I.state input.new; out = K.state out.new }) }
+    {
+        let FilmRun {
+            setup,
+            options,
+            teller,
+        } = self;
+        let player = replayed(alloc, setup, input, teller)?;
+        let recording = Recording {
+            player: &player,
+            options,
+        };
+        recording.write(rt, alloc, out, teller)
+    }
 }
 
 /// Reads a script to its end, executes its lines with nothing written, and returns its player, which has the history.
@@ -73,52 +94,54 @@ fn replayed<I: Source, T: Teller>(
     ensures { ReplaysScript (playout_of setup false) result (I.state input.old) (I.state input.new) }
 {
     let player = Player::new(alloc, setup, false, true)?;
-    let mut script = Script::new(alloc, player);
+    let mut replay = ScriptPlayer::new(alloc, player, Unshown, teller);
     let mut nowhere = PlainSink::new(0);
-    play_script(
-        alloc,
-        &mut script,
-        &mut Unshown,
-        input,
-        &mut nowhere,
-        teller,
-    )
-    .outcome()?;
+    replay.play(alloc, input, &mut nowhere).outcome()?;
+    let ScriptPlayer { script, .. } = replay;
     Ok(script.player)
 }
 
-/// Writes the clip file of the film that was recorded under a name, if the history of a player has one. The progress and the length of
-/// the file are reported to `teller`.
-fn write_recording<R: Threads + Sync, K: Sink, T: Teller>(
-    rt: &R,
-    alloc: Global,
-    player: &Player,
+/// A recording in the history of a player.
+#[derive(Clone, Copy)]
+struct Recording<'a> {
+    player: &'a Player,
     options: FilmOptions,
-    out: &mut K,
-    teller: &mut T,
-) -> Result<(), RunFault>
-    requires some_workers { 1 ≤ options.workers }
-    requires few_workers { options.workers ≤ 64 }
-    requires served { AreServedEvents (channels_in player.now) (events_in player.now) }
-    requires room { held (events_in player.now) ≤ player.now.setup.config.journal_limit }
-    ensures { WritesFilm player.now options.name (fault_in result) (K.state out.old) (K.state out.new) }
-{
-    let setup = &player.setup;
-    let journal = player.stage.journal();
-    match find_film(alloc, &setup.config, journal, options.name)? {
-        Some(film) => {
-            let source = FilmSource {
-                config: &setup.config,
-                media: &setup.media,
-                journal,
-                film: &film,
-                workers: options.workers,
-            };
-            let recorded = source.write_watched(rt, alloc, out, &mut FilmWatcher { teller });
-            tell_length(recorded, &setup.config, &film, teller);
-            outcome(recorded)
+}
+
+impl Recording<'_> {
+    /// Writes the clip file of the film that was recorded under the name, if the history has one. The progress and the length of the file
+    /// are reported to `teller`.
+    fn write<R: Threads + Sync, K: Sink, T: Teller>(
+        self,
+        rt: &R,
+        alloc: Global,
+        out: &mut K,
+        teller: &mut T,
+    ) -> Result<(), RunFault>
+        requires some_workers { 1 ≤ self.options.workers }
+        requires few_workers { self.options.workers ≤ 64 }
+        requires served { AreServedEvents (channels_in self.player.now) (events_in self.player.now) }
+        requires room { held (events_in self.player.now) ≤ self.player.now.setup.config.journal_limit }
+        ensures { WritesFilm self.entry.player.now self.entry.options.name (fault_in result) (K.state out.old) (K.state out.new) }
+    {
+        let Recording { player, options } = self;
+        let setup = &player.setup;
+        let journal = player.stage.journal();
+        match find_film(alloc, &setup.config, journal, options.name)? {
+            Some(film) => {
+                let source = FilmSource {
+                    config: &setup.config,
+                    media: &setup.media,
+                    journal,
+                    film: &film,
+                    workers: options.workers,
+                };
+                let recorded = source.write_watched(rt, alloc, out, &mut FilmWatcher { teller });
+                tell_length(recorded, &setup.config, &film, teller);
+                outcome(recorded)
+            }
+            None => Err(RunFault::Record(text_of(alloc, &options.name)?)),
         }
-        None => Err(RunFault::Record(text_of(alloc, &options.name)?)),
     }
 }
 

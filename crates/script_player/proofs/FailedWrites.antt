@@ -1,5 +1,5 @@
 -- What a failed write leaves.
-use Rattle.std.proofs.Common.{◌≡◌, ℕ, List, ap, arith}
+use Rattle.std.proofs.Common.{ℕ, List, ap, arith}
 use Rattle.play_outside.specs.Faults.{Rose}
 use Rattle.play_outside.specs.Sink.{Fails}
 use Rattle.play_outside.specs.SinkState.{SinkState}

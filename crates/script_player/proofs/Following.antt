@@ -1,5 +1,5 @@
 -- Requests that the stage takes or does not take, and the steps of connections.
-use Rattle.std.proofs.Common.{◌≡◌, ◌≢◌, ℕ, ◌+◌, ◌<◌, ◌≤◌, Bool, true, false, List, [], ◌∷◌, ◌++◌, refl, sym, ap, ◌∙◌, subst, subst₂, arith, append-nil, append_assoc, length}
+use Rattle.std.proofs.Common.{◌≡◌, ℕ, ◌+◌, ◌<◌, ◌≤◌, Bool, true, false, List, [], ◌∷◌, ◌++◌, refl, sym, ap, ◌∙◌, subst, subst₂, arith, append-nil, append_assoc, length}
 use Rattle.std.specs.Prelude.{Option, Some, None, Result, Ok, Err, IfErr, IfOk, OnErr, OnOk, nat_lt, if◌then◌else◌, option_map}
 use Rattle.std.proofs.lemmas.Bool.Decides.{nat_tests}
 use Rattle.std.proofs.lemmas.List.{length-map}
@@ -43,7 +43,7 @@ use Rattle.script_player.specs.Player.{DoesRequest, FollowsStep, Given, IsFollow
 
 -- nothing happened
 pub makes_nothing : (player : Player) → MakesEvents [] player player
-makes_nothing player = record { setup = refl; digests = refl; memory = refl; clients = refl; history = sym (append-nil (events_in player)) }
+makes_nothing player = record { setup = refl; digests = refl; memory = refl; clients = refl; channels = refl; history = sym (append-nil (events_in player)) }
 
 -- some events happened, and then others
 pub makes_then : (first second both : List Event) (old mid new : Player) → MakesEvents first old mid → MakesEvents second mid new → first ++ second ≡ both → MakesEvents both old new
@@ -52,12 +52,20 @@ makes_then first second both old mid new one two is = record {
   digests = two.digests ∙ one.digests;
   memory = two.memory ∙ one.memory;
   clients = two.clients ∙ one.clients;
+  channels = two.channels ∙ one.channels;
   history = two.history ∙ ap (λ (es : List Event). es ++ second) one.history ∙ append_assoc (events_in old) first second ∙ ap (λ (es : List Event). events_in old ++ es) is;
 }
 
 -- the stage took one event more
 pub makes_event : (player : Player) (event : Event) (stage : StageView) → stage ≡ after_event event player.stage → MakesEvents (event ∷ []) player (record player { stage = stage })
-makes_event player event stage is = record { setup = refl; digests = refl; memory = refl; clients = refl; history = ap (λ (s : StageView). s.journal.events) is }
+makes_event player event stage is = record {
+  setup = refl;
+  digests = refl;
+  memory = refl;
+  clients = refl;
+  channels = ap (λ (s : StageView). s.channels) is;
+  history = ap (λ (s : StageView). s.journal.events) is;
+}
 
 -- an event is no tick if it is a command or a stop
 pub ticks_kept : (event : Event) (player : Player) (stage : StageView) → ticks (event ∷ []) ≡ 0 → stage ≡ after_event event player.stage
@@ -339,6 +347,7 @@ follows_nothing given state replies none goes = record {
 pub no_tick_made : (made : List Event) (old new : Player) → MakesEvents made old new → ticks (events_in new) ≡ ticks (events_in old) → MakesNoTick old new
 no_tick_made made old new makes same = record {
   setup = makes.setup;
+  channels = makes.channels;
   made = made;
   none = (let both = ap ticks makes.history ∙ ticks-append (events_in old) made in omega (arith, both, same));
   history = makes.history;

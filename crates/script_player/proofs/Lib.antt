@@ -10,7 +10,6 @@ pub mod Stepping
 pub mod Shown
 pub mod Ticked
 pub mod Counting
-pub mod Writing
 pub mod Ticking
 pub mod Following
 pub mod Replying

@@ -1,26 +1,23 @@
 -- Texts and ticks, one after another.
-use Rattle.std.proofs.Common.{◌≡◌, ℕ, zero, suc, ◌+◌, ◌-◌, ◌<◌, List, [], ◌∷◌, ◌++◌, replicate, refl, sym, ap, ◌∙◌, subst, arith, append-nil, append_assoc}
-use Rattle.std.specs.Prelude.{Err, Ok, Result, flat_map}
+use Rattle.std.proofs.Common.{◌≡◌, ℕ, zero, suc, ◌+◌, ◌-◌, ◌<◌, List, [], ◌∷◌, ◌++◌, replicate, refl, sym, ap, ◌∙◌, arith, append-nil, append_assoc}
+use Rattle.std.specs.Prelude.{Err, Ok, flat_map}
 use Rattle.std.specs.List.{range_with_len}
 use Rattle.std.proofs.lemmas.Grind.{flat_map-append}
 use Rattle.play_types.specs.declared.event.Event.{Event}
 use Rattle.play_types.specs.declared.event.Event.TheVariants as event
 use Rattle.play_outside.specs.SinkState.{SinkState, after_taking}
-use Rattle.play_outside.specs.Sink.{Fails, Sends}
+use Rattle.play_outside.specs.Sink.{Fails}
 use Rattle.play_outside.specs.Gathered.{Adds, Gathered}
-use Rattle.play_outside.specs.declared.sink.Sent.{Sent}
 use Rattle.play_outside.specs.declared.sink.Sent.TheVariants as sent
 use Rattle.play_outside.proofs.Taking.{after_taking-nil}
-use Rattle.play_outside.proofs.Sending.{taken_more, Fails-after, Fails-before, Fails-within}
-use Rattle.play_outside.proofs.Gathering.{Gathered-more, Gathered-next, Adds-next, Adds-within, Sends-gathered}
+use Rattle.play_outside.proofs.Sending.{taken_more, Fails-within}
+use Rattle.play_outside.proofs.Gathering.{Gathered-more, Gathered-next, Adds-next, Adds-within}
 use Rattle.history_model.specs.scripts.History.{Playout}
 use Rattle.script_player.specs.declared.ending.Halt.{Halt}
 use Rattle.script_player.specs.declared.ending.Halt.TheVariants as halt
-use Rattle.script_player.specs.inner.Halt.{written_of}
 use Rattle.script_player.specs.Player.{WritesText}
 use Rattle.script_player.specs.Shown.{Shown, shown_tick, shown_ticks}
 use Rattle.script_player.proofs.Shown.{shown_ticks-none, shown_ticks-snoc}
-use Rattle.script_player.proofs.Writing.{text_written}
 
 replicate-more : {A : Type 0} (n : ℕ) (x : A) → replicate n x ++ x ∷ [] ≡ replicate (n + 1) x
 replicate-more zero x = refl
@@ -151,19 +148,3 @@ tick_failed shown playout events turn count waiting more first state after insid
     (ap (shown_ticks shown playout events) (let all : count ≡ turn + 1 + (count - (turn + 1)) = omega (arith, inside) in all)
     ∙ longer.1 ∙ ap (λ (l : List ℕ). l ++ longer.0) (shown_ticks-more shown playout events turn))
     so_far step).0
-
--- what waits was written at last
-pub rest_written : (result : Sent) (text waiting : List ℕ) (first state after : SinkState) → Gathered text waiting first state
-    → Sends result waiting state after → WritesText (written_of result) text first after
-rest_written result text waiting first state after so_far sends =
-    text_written result text first after (Sends-gathered result text waiting first state after so_far sends)
-
--- a write that did not stop the run wrote all
-pub all_sent : (result : Sent) (done : Unit {0}) → written_of result ≡ Ok done → result ≡ sent.All
-all_sent sent.All done is = refl
-all_sent sent.Failed done is = cc
-
--- and one that stopped it failed
-pub not_sent : (result : Sent) (reason : Halt) → written_of result ≡ Err reason → (result ≡ sent.Failed) × (reason ≡ halt.Write)
-not_sent sent.All reason is = cc
-not_sent sent.Failed reason is = (refl, cc)

@@ -8,7 +8,7 @@ use Rattle.history_model.specs.pictures.Scene.{scene}
 use Rattle.history_model.specs.scripts.History.{Playout}
 use Rattle.server_setup.specs.declared.setup.ServerSetup.{ServerSetup}
 use Rattle.script_player.specs.Playouts.{playout_of}
-use Rattle.script_player.specs.Player.{events_in}
+use Rattle.script_player.specs.Player.{channels_in, events_in}
 use Rattle.script_player.specs.declared.display.MadeTick.{MadeTick}
 use Rattle.script_player.specs.declared.player.Player.{Player}
 
@@ -38,3 +38,8 @@ pub record IsShowing (shows : ServerSetup → List Event → Type 0) : Type 0 wh
 pub record IsShownBy (shows : ServerSetup → List Event → Type 0) (waiting : List ℕ) (player : Player) : Type 0 where
   pub last : shows player.setup (events_in player)
   pub none_waits : waiting ≡ []
+
+-- the stage of the player has the configured channels, and the display shows its last tick, also after a stop
+pub record IsStillShownBy (shows : ServerSetup → List Event → Type 0) (waiting : List ℕ) (player : Player) : Type 0 where
+  pub channels : player.stage.channels ≡ channels_in player
+  pub shown : IsShownBy shows waiting player

@@ -54,17 +54,19 @@ pub record IsReady (player : Player) : Type 0 where
   pub batches : HaveAimedBatches player.setup.config player.clients.list.items
   pub running : stop_at (events_in player) ≡ None
 
--- these events were appended to the history, and the setup, the options and the connections did not change
+-- these events were appended to the history, and the setup, the options, the connections and the number of channels did not change
 pub record MakesEvents (events : List Event) (old new : Player) : Type 0 where
   pub setup : new.setup ≡ old.setup
   pub digests : new.digests ≡ old.digests
   pub memory : new.needs_memory ≡ old.needs_memory
   pub clients : new.clients ≡ old.clients
+  pub channels : new.stage.channels ≡ old.stage.channels
   pub history : events_in new ≡ events_in old ++ events
 
--- events that are no ticks were appended to the history, and the setup did not change
+-- events that are no ticks were appended to the history, and the setup and the number of channels did not change
 pub record MakesNoTick (old new : Player) : Type 0 where
   pub setup : new.setup ≡ old.setup
+  pub channels : new.stage.channels ≡ old.stage.channels
   pub made : List Event
   pub none : ticks made ≡ 0
   pub history : events_in new ≡ events_in old ++ made

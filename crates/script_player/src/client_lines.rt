@@ -12,6 +12,7 @@ ghost use Rattle.script_player.specs.Clients.{AddsClient, AreClients, ClientTake
 use crate::clients::{Client, ClientStep, Clients};
 use play_session::{Session, Step};
 use play_types::{Cmd, Config, MediaNames, Tag};
+use server_setup::ServerSetup;
 use std::alloc::{AllocError, Global};
 
 impl Clients {
@@ -23,19 +24,19 @@ impl Clients {
         alloc: Global,
         tag: Tag,
         text: &[u8],
-        config: &Config,
-        media: &MediaNames,
+        setup: &ServerSetup,
     ) -> Result<Option<ClientStep>, AllocError>
-        ensures fits { IfOk result (λ found. IfSome found (λ given. Fits config.now given.step)) }
+        ensures fits { IfOk result (λ found. IfSome found (λ given. Fits setup.now.config given.step)) }
         ensures filled { IfOk result (λ found. step_in found ≡ Some Step.AskBatch → batch_of tag self.new.list.items ≢ []) }
         ensures token { IfOk result (HasTokenOf text.now) }
-        ensures aimed { HaveAimedBatches config.now self.old.list.items → OnOk result (HaveAimedBatches config.now self.new.list.items) }
-        ensures takes { (playout : Playout) (played : List PlayedLine) (no_memory : Bool) → config.now ≡ playout.config → media.now ≡ playout.names
+        ensures aimed { HaveAimedBatches setup.now.config self.old.list.items → OnOk result (HaveAimedBatches setup.now.config self.new.list.items) }
+        ensures takes { (playout : Playout) (played : List PlayedLine) (no_memory : Bool) → setup.now.config ≡ playout.config → setup.now.names ≡ playout.names
             → list_any is_line_end text.now ≡ false → AreClients playout self.old.list.items played
             → IfOk result (λ found. ClientsTakeLine (record { playout = playout; played = played; tag = tag; text = text.now; no_memory = no_memory }) (step_in found) self.new.list.items) }
     {
         let at = self.place_of(alloc, tag)?;
-        Ok(take_client_line(&mut self.list[at], alloc, text, config, media))
+        let client = &mut self.list[at];
+        Ok(take_client_line(client, alloc, text, &setup.config, &setup.names))
     }
 
     /// Returns the commands of the batch of a connection, which an `AskBatch` asks for, until its next line is taken. There are none if

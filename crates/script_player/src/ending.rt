@@ -1,10 +1,9 @@
 //! Why a run stops at a line, and how a run ends.
 ghost use Rattle.std.specs.Prelude.{◌≡◌, ◌<◌, ◌^◌};
-ghost use Rattle.script_player.specs.declared.ending.Halt.TheVariants.{Memory};
+ghost use Rattle.script_player.specs.declared.ending.Halt.TheVariants.{Memory, Write};
 ghost use Rattle.script_player.specs.Ending.{ending_of, fault_in, fault_of};
-ghost use Rattle.script_player.specs.inner.Halt.{written_of};
 
-use play_outside::Sent;
+use play_outside::WriteFailed;
 use server_setup::RunFault;
 use std::alloc::{AllocError, AllocFailed};
 
@@ -40,6 +39,14 @@ pub enum Ending {
     Memory,
 }
 
+impl From<WriteFailed> for Halt {
+    ghost from_gives = { λ _ halt. halt ≡ Write };
+
+    fn from(_failed: WriteFailed) -> Halt {
+        Halt::Write
+    }
+}
+
 impl From<AllocError> for Halt {
     ghost from_gives = { λ _ halt. halt ≡ Memory };
 
@@ -53,16 +60,6 @@ impl<T: Drop> From<AllocFailed<T>> for Halt {
 
     fn from(_failed: AllocFailed<T>) -> Halt {
         Halt::Memory
-    }
-}
-
-/// Returns a failed write as [`Halt::Write`].
-pub fn written(sent: Sent) -> Result<(), Halt>
-    ensures { result ≡ written_of sent }
-{
-    match sent {
-        Sent::All => Ok(()),
-        Sent::Failed => Err(Halt::Write),
     }
 }
 

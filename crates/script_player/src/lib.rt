@@ -1,9 +1,9 @@
 //! Plays a script: reads lines of connections and of ticks, and writes the replies and what a display shows of the ticks.
 //!
 //! A [`Player`] has the connections and the stage, and executes one line at a time. A [`Display`] is handed each tick, and writes it or
-//! keeps what it needs of it; [`Unshown`] shows none. A [`Script`] splits the bytes of an input into lines for the player, and
-//! [`play_input`] plays a whole input. An [`Ending`] is how such a run ended. A [`Teller`] receives reports for a person, beside the
-//! output.
+//! keeps what it needs of it; [`Unshown`] shows none. A [`Script`] is what was read of an input: the line that has not ended, and the
+//! player. A [`ScriptPlayer`] takes bytes and executes the lines that end in them, or plays a whole input. An [`Ending`] is how such a
+//! run ended. A [`Teller`] receives reports for a person, beside the output.
 #![tactic(auto)]
 
 mod client_lines;
@@ -27,6 +27,5 @@ pub use plain::{generator_setup, plain_setup};
 pub use player::Player;
 pub use reading::read_all;
 pub use reply::{RefusalLine, is_refusal};
-pub use running::{play_input, play_script};
-pub use script::Script;
+pub use script::{Script, ScriptPlayer};
 pub use teller::{MAX_TOLD_CUES, RefusedCue, Silent, Teller};

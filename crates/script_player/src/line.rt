@@ -23,6 +23,13 @@ pub enum Line<'a> {
     Rejected,
 }
 
+/// A line of a script, without its end, and its number, from 1.
+#[derive(Clone, Copy)]
+pub(crate) struct NumberedLine<'a> {
+    pub number: u64,
+    pub bytes: &'a [u8],
+}
+
 /// Returns the meaning of a line without its end.
 pub fn meaning(line: &[u8]) -> Line<'_>
     ensures { line_view result ≡ meaning line.now }

@@ -1,5 +1,5 @@
 //! The player: the stage with the history so far, the scenes of its last tick, and the connections.
-ghost use Rattle.std.specs.Prelude.{◌≡◌, ◌≢◌, ℕ, ◌+◌, ◌*◌, ◌≤◌, ◌∷◌, List, [], IfOk, OnOk, Option, false, true, length};
+ghost use Rattle.std.specs.Prelude.{◌≡◌, ◌≢◌, ℕ, ◌+◌, ◌*◌, ◌≤◌, ◌∷◌, Err, List, [], IfOk, OnOk, Option, false, true, length};
 ghost use Rattle.std.specs.List.{list_any};
 ghost use Rattle.amcp_text.specs.Lines.{is_line_end};
 ghost use Rattle.play_types.specs.History.{ticks};
@@ -16,14 +16,14 @@ ghost use Rattle.play_session.specs.Session.{Fits};
 ghost use Rattle.script_player.specs.Playouts.{playout_of};
 ghost use Rattle.script_player.specs.Clients.{batch_of};
 ghost use Rattle.script_player.specs.Player.{DoesRequest, FollowsStep, IsGoingOn, IsReady, MakesEvents, MakesNoTick, PlaysLine, RepliesTo, Represents, WritesReply, answering, batch_request, command_request, events_in};
-ghost use Rattle.script_player.specs.Display.{IsShownBy};
+ghost use Rattle.script_player.specs.Display.{IsShownBy, IsStillShownBy};
 ghost use Rattle.script_player.specs.Ticks.{ticks_per_byte};
 ghost use Rattle.script_player.specs.Shown.{Shown, memory_needed};
 
-use crate::clients::Clients;
+use crate::clients::{ClientStep, Clients};
 use crate::display::Display;
-use crate::ending::{Halt, written};
-use crate::line::{Line, meaning};
+use crate::ending::Halt;
+use crate::line::{Line, NumberedLine, meaning};
 use crate::reply::send_tagged_reply;
 use crate::teller::Teller;
 use amcp_text::ReqToken;
@@ -97,6 +97,7 @@ impl Player {
         ensures setup { self.new.setup ≡ self.old.setup }
         ensures told { D.shown display.new ≡ D.shown display.old }
         ensures shown { OnOk result (IsShownBy (D.shows display.new) (D.waiting display.new) self.new) }
+        ensures stopped { result ≡ Err Halt.Stop → IsStillShownBy (D.shows display.new) (D.waiting display.new) self.new }
         ensures plays { (shown : Shown) (playout : Playout) (played : List PlayedLine) → shown ≡ D.shown display.old
             → list_any is_line_end line.now ≡ false → goes_on playout played ≡ true → Represents shown playout self.old played
             → PlaysLine (record { playout = playout; shown = shown; before = played; line = meaning line.now }) result self.new (K.state out.old) (K.state out.new) }
@@ -116,23 +117,22 @@ impl Player {
         }
     }
 
-    /// Reports to `teller` the word for which the line of this number was refused, if `reply` refuses it for a word and a person listens.
+    /// Reports to `teller` the word for which a line was refused, if `reply` refuses it for a word and a person listens.
     /// If there is no memory for finding the word, nothing is reported.
-    pub fn tell_refusal<T: Teller>(
+    pub(crate) fn tell_refusal<T: Teller>(
         &self,
         alloc: Global,
-        number: u64,
-        line: &[u8],
+        line: NumberedLine<'_>,
         reply: Option<Reply>,
         teller: &mut T,
     ) {
         if !teller.listens() || !is_refused(reply) {
             return;
         }
-        if let Line::Said(_tag, text) = meaning(line) {
+        if let Line::Said(_tag, text) = meaning(line.bytes) {
             let found = illegal_word(alloc, &self.setup.config, &self.setup.names, text);
             if let Ok(Some(word)) = found {
-                teller.tell_refused_word(number, text, word);
+                teller.tell_refused_word(line.number, text, word);
             }
         }
     }
@@ -153,12 +153,8 @@ impl Player {
             → Represents shown playout self.old played
             → PlaysLine (record { playout = playout; shown = shown; before = played; line = Said tag text.now }) result self.new (K.state out.old) (K.state out.new) }
     {
-        let setup = &self.setup;
-        match self
-            .clients
-            .take_line(alloc, tag, text, &setup.config, &setup.names)?
-        {
-            Some(given) => self.follow_step(alloc, tag, given.step, given.token, out),
+        match self.clients.take_line(alloc, tag, text, &self.setup)? {
+            Some(given) => self.follow_step(alloc, tag, given, out),
             None => Ok(None),
         }
     }
@@ -169,18 +165,18 @@ impl Player {
         &mut self,
         alloc: Global,
         tag: Tag,
-        step: Step,
-        token: Option<ReqToken>,
+        given: ClientStep,
         out: &mut K,
     ) -> Result<Option<Reply>, Halt>
         requires ready { IsReady self.old }
-        requires fits { Fits self.old.setup.config step }
-        requires filled { step ≡ Step.AskBatch → batch_of tag self.old.clients.list.items ≢ [] }
+        requires fits { Fits self.old.setup.config given.step }
+        requires filled { given.step ≡ Step.AskBatch → batch_of tag self.old.clients.list.items ≢ [] }
         ensures ready { OnOk result (IsReady self.new) }
         ensures ticks { ticks (events_in self.new) ≡ ticks (events_in self.old) }
-        ensures follows { (told : Option (List ℕ)) → (gives_up step ≡ false → token ≡ told)
-            → FollowsStep (record { player = self.old; tag = tag; step = viewed step (batch_of tag self.old.clients.list.items); token = told }) result self.new (K.state out.old) (K.state out.new) }
+        ensures follows { (told : Option (List ℕ)) → (gives_up given.step ≡ false → given.token ≡ told)
+            → FollowsStep (record { player = self.old; tag = tag; step = viewed given.step (batch_of tag self.old.clients.list.items); token = told }) result self.new (K.state out.old) (K.state out.new) }
     {
+        let ClientStep { step, token } = given;
         match step {
             Step::Local(reply) => self.write_reply(tag, reply, token, out),
             Step::Ask(cmd) => {
@@ -257,15 +253,8 @@ impl Player {
         if self.needs_memory && reply.is_out_of_memory() {
             return Err(Halt::Memory);
         }
-        let setup = &self.setup;
-        written(send_tagged_reply(
-            tag,
-            &reply,
-            token.as_ref(),
-            &setup.config,
-            &setup.names,
-            out,
-        ))?;
+        let token = token.as_ref();
+        send_tagged_reply(tag, &reply, token, &self.setup, out)?;
         Ok(Some(reply))
     }
 }

@@ -7,8 +7,9 @@ ghost use Rattle.play_outside.specs.Sink.{Sends};
 use amcp_text::ReqToken;
 use itoa::Buffer;
 use play_outside::{Sent, Sink};
-use play_types::{Config, MediaNames, Reply, Tag, UNKNOWN_COMMAND};
+use play_types::{Reply, Tag, UNKNOWN_COMMAND};
 use return_codes::{refusal, send_reply_lines};
+use server_setup::ServerSetup;
 use std::fmt;
 
 /// Writes the lines of a reply, with the token if there is one, each after the tag of its connection.
@@ -16,20 +17,19 @@ pub fn send_tagged_reply<K: Sink>(
     tag: Tag,
     reply: &Reply,
     token: Option<&ReqToken>,
-    config: &Config,
-    media: &MediaNames,
+    setup: &ServerSetup,
     out: &mut K,
 ) -> Sent
-    requires { IsReplyTo config.now reply.now }
+    requires { IsReplyTo setup.now.config reply.now }
     ensures { Sends result
-        (tagged_lines tag (answer_lines config.now media.now (option_map (λ token. token.now) token.entry) reply.now))
+        (tagged_lines tag (answer_lines setup.now.config setup.now.names (option_map (λ token. token.now) token.entry) reply.now))
         (K.state out.old) (K.state out.new) }
 {
     send_reply_lines(
         reply,
         token,
-        config,
-        media,
+        &setup.config,
+        &setup.names,
         &[
             Buffer::new().format(tag.worker).as_bytes(),
             b".",

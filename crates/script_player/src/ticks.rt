@@ -9,7 +9,7 @@ ghost use Rattle.script_player.specs.Shown.{shown_tick, shown_ticks};
 ghost use Rattle.script_player.specs.Player.{IsReady, MakesEvents, WritesText, events_in, playout_in};
 
 use crate::display::{Display, MadeTick};
-use crate::ending::{Halt, written};
+use crate::ending::Halt;
 use crate::player::Player;
 use play_outside::{Sent, Sink};
 
@@ -32,9 +32,10 @@ impl Player {
         ensures written { WritesText result (shown_ticks (D.shown display.old) (playout_in self.old) (events_in self.old) count) (K.state out.old) (K.state out.new) }
     {
         for _turn in 0..count {
-            written(self.add_tick(display, out))?;
+            self.add_tick(display, out)?;
         }
-        written(display.finish(out))
+        display.finish(out)?;
+        Ok(())
     }
 
     /// Makes the next tick, and hands it to `display`.

@@ -3,13 +3,13 @@ ghost use Rattle.std.specs.Prelude.{◌≡◌, ◌∷◌, ◌++◌, [], IfOk, Ma
 ghost use Rattle.play_outside.specs.Sink.{Sends};
 ghost use Rattle.server_setup.specs.Fault.{HasDetail, fault_line, fault_of_clip, fault_of_config, fault_of_file, fault_of_scan, status_of};
 ghost use Rattle.server_setup.specs.inner.Detail.{detail_of, second_of};
-ghost use Rattle.server_setup.specs.declared.fault.RunFault.TheVariants.{OutOfMemory};
+ghost use Rattle.server_setup.specs.declared.fault.RunFault.TheVariants.{Device, OutOfMemory};
 
 use crate::clip_line;
 use clip_store::ScanFault;
 use config_file::ConfigFault;
 use itoa::Buffer;
-use play_outside::{FileFault, Sent, Sink, send_parts};
+use play_outside::{FileFault, Sent, Sink, WriteFailed, send_parts};
 use play_types::{ClipFault, Text};
 use std::alloc::{AllocError, Global};
 use std::error::Error;
@@ -305,5 +305,13 @@ impl From<AllocError> for RunFault {
 
     fn from(_error: AllocError) -> RunFault {
         RunFault::OutOfMemory
+    }
+}
+
+impl From<WriteFailed> for RunFault {
+    ghost from_gives = { λ _ fault. fault ≡ Device };
+
+    fn from(_failed: WriteFailed) -> RunFault {
+        RunFault::Device
     }
 }

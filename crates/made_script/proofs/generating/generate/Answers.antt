@@ -5,13 +5,17 @@ use Rattle.script_player.proofs.Ticked.{first_shown}
 use Rattle.made_script.proofs.MadeScripts.{ended_by_memory, well_played}
 use Rattle.made_script.proofs.generating.generate.Goals as goal
 
-pub returns-in-All : goal.returns-in-All
-returns-in-All g c =
-    c.in-All.ensures (generated_run c.args.seed c.args.steps) (well_played c.args.seed c.args.steps c.play.result c.play.new.run c.in_ok-outcome.ensures c.play.ensures)
-
 pub returns : goal.returns
 returns g c =
-    c.in-Failed.ensures (generated_run c.args.seed c.args.steps) (well_played c.args.seed c.args.steps c.play.result c.play.new.run c.in_ok-outcome.ensures c.play.ensures)
+    (rw c.in_ok-send_summary.ensures at c.send_summary.ensures) (generated_run c.args.seed c.args.steps)
+    (well_played c.args.seed c.args.steps c.play.result c.play.new.run c.in_ok-outcome.ensures c.play.ensures)
+
+pub returns-in_err-send_summary : goal.returns-in_err-send_summary
+returns-in_err-send_summary g c =
+    let p = err_from_is_err_and c.from_residual-in_err-send_summary.result c.from_residual-in_err-send_summary.ensures.1 in
+    rw (p.1, p.2)
+    ((rw c.in_err-send_summary.ensures at c.send_summary.ensures) (generated_run c.args.seed c.args.steps)
+    (well_played c.args.seed c.args.steps c.play.result c.play.new.run c.in_ok-outcome.ensures c.play.ensures))
 
 pub returns-in_err-outcome : goal.returns-in_err-outcome
 returns-in_err-outcome g c =

@@ -3,7 +3,7 @@ use Rattle.play_types.specs.History.{ticks}
 use Rattle.stage_core.specs.Stage.{StageView}
 use Rattle.script_player.specs.Player.{events_in}
 use Rattle.script_player.proofs.Stepping.{from_if, from_ok, tick_taken}
-use Rattle.script_player.proofs.Ticked.{history_after, made_after, ready_after_tick}
+use Rattle.script_player.proofs.Ticked.{made_after, ready_after_tick}
 use Rattle.script_player.proofs.player.Player.add_tick.Goals as goal
 
 pub unwrap-number-requires : goal.unwrap-number-requires
@@ -29,7 +29,14 @@ returns-clause-ready g c =
 pub returns-clause-makes : goal.returns-clause-makes
 returns-clause-makes g c =
     let made = from_ok c.tick.result c.unwrap-number.result c.unwrap-number.ensures c.tick.ensures.journal in
-    record { setup = refl; digests = refl; memory = refl; clients = refl; history = ap (λ (s : StageView). s.journal.events) made }
+    record {
+      setup = refl;
+      digests = refl;
+      memory = refl;
+      clients = refl;
+      channels = ap (λ (s : StageView). s.channels) made;
+      history = ap (λ (s : StageView). s.journal.events) made;
+    }
 
 pub returns-clause-shown : goal.returns-clause-shown
 returns-clause-shown g c =

@@ -45,10 +45,10 @@ returns-in-Some-clause-makes g c =
     let old = record c.args.self.now { clients = c.take_line.new.self } in
     let follows = c.follow_step.ensures.follows (text_token c.args.text.now) token in
     let made = no_tick_made follows.made old c.follow_step.new.self follows.makes c.follow_step.ensures.ticks in
-    record { setup = made.setup; made = made.made; none = made.none; history = made.history }
+    record { setup = made.setup; channels = made.channels; made = made.made; none = made.none; history = made.history }
 
 pub returns-in-None-clause-makes : goal.returns-in-None-clause-makes
-returns-in-None-clause-makes g c = record { setup = refl; made = []; none = refl; history = sym (append-nil (events_in c.args.self.now)) }
+returns-in-None-clause-makes g c = record { setup = refl; channels = refl; made = []; none = refl; history = sym (append-nil (events_in c.args.self.now)) }
 
 pub returns-in_err-given-clause-makes : goal.returns-in_err-given-clause-makes
-returns-in_err-given-clause-makes g c = record { setup = refl; made = []; none = refl; history = sym (append-nil (events_in c.args.self.now)) }
+returns-in_err-given-clause-makes g c = record { setup = refl; channels = refl; made = []; none = refl; history = sym (append-nil (events_in c.args.self.now)) }

@@ -1,6 +1,7 @@
-use Rattle.std.proofs.Common.{sym, subst}
+use Rattle.std.proofs.Common.{length, sym, ap, ◌∙◌, subst}
 use Rattle.std.specs.Prelude.{Err, Ok}
 use Rattle.std.proofs.lemmas.Result.{err_from_is_err_and}
+use Rattle.server_setup.specs.declared.setup.ServerSetup.{ServerSetup}
 use Rattle.script_player.specs.Player.{PlaysLine, WritesText, events_in, playout_in}
 use Rattle.script_player.specs.Shown.{shown_ticks}
 use Rattle.script_player.proofs.Counting.{few_made}
@@ -45,3 +46,12 @@ returns-in-Said-clause-shown g c =
     always c.take_client_line.result
     (still_shown (g.D.Display.shows c.args.display.now) (g.met.D.Display.keeps c.args.display.now) (g.D.Display.waiting c.args.display.now) c.args.self.now c.take_client_line.new.self
     c.take_client_line.ensures.makes c.requires.shown)
+
+pub returns-in-Said-clause-stopped : goal.returns-in-Said-clause-stopped
+returns-in-Said-clause-stopped g c = λ stops.
+    let makes = c.take_client_line.ensures.makes in
+    record {
+      channels = makes.channels ∙ c.requires.ready.channels ∙ ap (λ (setup : ServerSetup). length setup.config.channels) (sym makes.setup);
+      shown = still_shown (g.D.Display.shows c.args.display.now) (g.met.D.Display.keeps c.args.display.now) (g.D.Display.waiting c.args.display.now) c.args.self.now
+          c.take_client_line.new.self makes c.requires.shown;
+    }

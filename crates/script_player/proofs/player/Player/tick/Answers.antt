@@ -1,16 +1,15 @@
 use Rattle.std.proofs.Common.{◌≡◌, ◌++◌, ◌∷◌, [], ◌+◌, ◌∙◌, ap₂, refl, sym, subst, arith, replicate}
-use Rattle.std.specs.Prelude.{Err}
 use Rattle.std.proofs.lemmas.Result.{err_from_is_err_and}
 use Rattle.play_types.specs.declared.event.Event.TheVariants.{Tick}
 use Rattle.play_outside.specs.Gathered.{Adds, Gathered}
 use Rattle.play_outside.specs.declared.sink.Sent.TheVariants as sent
+use Rattle.play_outside.proofs.Gathering.{Sends-gathered}
 use Rattle.script_player.specs.Playouts.{playout_of}
 use Rattle.script_player.specs.Shown.{shown_tick, shown_ticks}
-use Rattle.script_player.specs.Player.{WritesText, events_in, playout_in}
+use Rattle.script_player.specs.Player.{events_in, playout_in}
 use Rattle.script_player.proofs.Counting.{ticks-replicate, ticks_made}
 use Rattle.script_player.proofs.Following.{makes_nothing, makes_then}
-use Rattle.script_player.proofs.Stepping.{always}
-use Rattle.script_player.proofs.Ticking.{all_sent, no_ticks, not_sent, rest_written, tick-more, tick_added, tick_failed}
+use Rattle.script_player.proofs.Ticking.{no_ticks, tick-more, tick_added, tick_failed}
 use Rattle.script_player.proofs.player.Player.tick.Goals as goal
 
 pub loop-turn-init : goal.loop-turn-init
@@ -35,7 +34,6 @@ loop-turn-preserved g c =
     let turn = c.loop-turn._turn in
     let shown = g.D.Display.shown c.args.display.now in
     let waiting = g.D.Display.waiting c.loop-turn.display in
-    let all = all_sent c.add_tick.result c.in_ok-written.field-0 (sym c.written.ensures ∙ c.in_ok-written.was) in
     record {
       ready = c.add_tick.ensures.ready;
       makes = makes_then (replicate turn Tick) (Tick ∷ []) (replicate (turn + 1) Tick) old c.loop-turn.self c.add_tick.new.self before.makes c.add_tick.ensures.makes (tick-more [] turn);
@@ -44,49 +42,52 @@ loop-turn-preserved g c =
       added = tick_added shown (playout_in old) (events_in old) turn waiting (g.D.Display.waiting c.add_tick.new.display) _ _ _ before.added
           (subst (λ text. Gathered (waiting ++ text) (g.D.Display.waiting c.add_tick.new.display) (g.K.Sink.state c.loop-turn.out) (g.K.Sink.state c.add_tick.new.out))
           (λ i. shown_tick (before.told i) (ap₂ playout_of before.makes.setup before.makes.digests i) (before.makes.history i))
-          (rw all at c.add_tick.ensures.added));
+          (rw c.in_ok-add_tick.ensures at c.add_tick.ensures.added));
     }
 
-pub returns-in_err-written-clause-written : goal.returns-in_err-written-clause-written
-returns-in_err-written-clause-written g c =
+pub returns-in_err-add_tick-clause-written : goal.returns-in_err-add_tick-clause-written
+returns-in_err-add_tick-clause-written g c =
     let p = err_from_is_err_and c.from_residual.result c.from_residual.ensures.1 in
     let before = c.loop-turn.invariant in
     let old = c.args.self.now in
     let shown = g.D.Display.shown c.args.display.now in
     let waiting = g.D.Display.waiting c.loop-turn.display in
-    let failed = not_sent c.add_tick.result c.in_err-written.field-0.0 (sym c.written.ensures ∙ c.in_err-written.was) in
     rw (p.1, p.2)
-    (subst (λ r. WritesText (Err r) (shown_ticks shown (playout_in old) (events_in old) c.args.count) (g.K.Sink.state c.args.out.now) (g.K.Sink.state c.add_tick.new.out)) (sym failed.1)
     (tick_failed shown (playout_in old) (events_in old) c.loop-turn._turn c.args.count waiting (g.D.Display.waiting c.add_tick.new.display) _ _ _ c.loop-turn-test.true before.added
     (subst (λ text. Adds sent.Failed (waiting ++ text) (g.D.Display.waiting c.add_tick.new.display) (g.K.Sink.state c.loop-turn.out) (g.K.Sink.state c.add_tick.new.out))
     (λ i. shown_tick (before.told i) (ap₂ playout_of before.makes.setup before.makes.digests i) (before.makes.history i))
-    (rw failed.0 at c.add_tick.ensures.added))))
+    (rw c.in_err-add_tick.ensures at c.add_tick.ensures.added)))
 
 pub finish-requires : goal.finish-requires
 finish-requires g c = record { setup = c.loop-turn.self.setup; events = events_in c.loop-turn.self; last = c.loop-turn.invariant.shown }
 
-pub returns-in_err-written-clause-told : goal.returns-in_err-written-clause-told
-returns-in_err-written-clause-told g c = c.add_tick.ensures.told ∙ c.loop-turn.invariant.told
+pub returns-in_err-add_tick-clause-told : goal.returns-in_err-add_tick-clause-told
+returns-in_err-add_tick-clause-told g c = c.add_tick.ensures.told ∙ c.loop-turn.invariant.told
 
 pub returns-clause-told : goal.returns-clause-told
 returns-clause-told g c = c.finish.ensures.told ∙ c.loop-turn.invariant.told
 
 pub returns-clause-shown : goal.returns-clause-shown
-returns-clause-shown g c =
-    always c.written-2.result (record { last = c.finish.ensures.shows _ _ c.loop-turn.invariant.shown; none_waits = c.finish.ensures.none_waits })
-
-pub returns-clause-ready : goal.returns-clause-ready
-returns-clause-ready g c = always c.written-2.result c.loop-turn.invariant.ready
+returns-clause-shown g c = record { last = c.finish.ensures.shows _ _ c.loop-turn.invariant.shown; none_waits = c.finish.ensures.none_waits }
 
 pub returns-clause-makes : goal.returns-clause-makes
 returns-clause-makes g c =
     let all : c.loop-turn._turn ≡ c.args.count = omega arith in
-    always c.written-2.result (rw all at c.loop-turn.invariant.makes)
+    rw all at c.loop-turn.invariant.makes
 
 pub returns-clause-written : goal.returns-clause-written
 returns-clause-written g c =
-    let old = c.args.self.now in
     let all : c.loop-turn._turn ≡ c.args.count = omega arith in
-    let text = shown_ticks (g.D.Display.shown c.args.display.now) (playout_in old) (events_in old) c.args.count in
-    subst (λ r. WritesText r text (g.K.Sink.state c.args.out.now) (g.K.Sink.state c.finish.new.out)) (sym c.written-2.ensures)
-    (rest_written c.finish.result text (g.D.Display.waiting c.loop-turn.display) _ _ _ (rw all at c.loop-turn.invariant.added) c.finish.ensures.sends)
+    let text = shown_ticks (g.D.Display.shown c.args.display.now) (playout_in c.args.self.now) (events_in c.args.self.now) c.args.count in
+    Sends-gathered sent.All text (g.D.Display.waiting c.loop-turn.display) _ _ _ (rw all at c.loop-turn.invariant.added) (rw c.in_ok-finish.ensures at c.finish.ensures.sends)
+
+pub returns-in_err-finish-clause-told : goal.returns-in_err-finish-clause-told
+returns-in_err-finish-clause-told g c = c.finish.ensures.told ∙ c.loop-turn.invariant.told
+
+pub returns-in_err-finish-clause-written : goal.returns-in_err-finish-clause-written
+returns-in_err-finish-clause-written g c =
+    let p = err_from_is_err_and c.from_residual-in_err-finish.result c.from_residual-in_err-finish.ensures.1 in
+    let all : c.loop-turn._turn ≡ c.args.count = omega arith in
+    let text = shown_ticks (g.D.Display.shown c.args.display.now) (playout_in c.args.self.now) (events_in c.args.self.now) c.args.count in
+    rw (p.1, p.2)
+    (Sends-gathered sent.Failed text (g.D.Display.waiting c.loop-turn.display) _ _ _ (rw all at c.loop-turn.invariant.added) (rw c.in_err-finish.ensures at c.finish.ensures.sends))

@@ -32,7 +32,9 @@ LOG, PART, KEPT = "history.script.log", "history.script.part", "history.script.l
 
 
 def block():
-    """Blocks these signals in a process that becomes a server."""
+    """Blocks these signals in a process that becomes a server, which ignores none of them, even if what started the trials does."""
+    for number in ASKS:
+        signal.signal(number, signal.SIG_DFL)
     signal.pthread_sigmask(signal.SIG_BLOCK, ASKS)
 
 
@@ -300,8 +302,8 @@ def a_signal_that_is_ignored(server, _player, room):
     prepare(room)
 
     def before():
-        signal.signal(signal.SIGHUP, signal.SIG_IGN)
         block()
+        signal.signal(signal.SIGHUP, signal.SIG_IGN)
 
     with Server(server, room, preexec_fn=before) as run:
         client = Client(run.port())

@@ -28,7 +28,7 @@ def build(folder, name, source, below):
     shutil.copy(f"{TOP}/bench/{source}", f"{crate}/src/main.rt")
     with open(f"{folder}/crates.txt", "w", encoding="utf-8") as it:
         for lower, line in lines_below(below).items():
-            shutil.copytree(f"{TOP}/crates/{lower}", f"{folder}/crates/{lower}", ignore=shutil.ignore_patterns("must-fail"))
+            shutil.copytree(f"{TOP}/crates/{lower}", f"{folder}/crates/{lower}", ignore=shutil.ignore_patterns("must-fail", "edits"))
             it.write(line)
         it.write(f"{name}: {' '.join(below)}\n")
     print("the program is proved and built first, and below it what is not proved yet", file=sys.stderr, flush=True)

@@ -4,8 +4,8 @@ The programs in this folder call it. It runs the program that was built here of 
 (released.py), if that is of the same sources and has its checksum. If there is neither, it says why, and the program is proved and
 built first, on a copy of the sources and on all processors, and what the gate passed on this machine is taken from there. What
 happens is told on standard error: one line a crate, and each minute what the build is at. Then the program runs in the place
-of this script, with the caller's standard streams, and its status is the status. The server runs with SIGTERM, SIGINT and SIGHUP
-blocked, since it looks for these and ends as after a KILL.
+of this script, with the caller's standard streams, and its status is the status. The server and the viewer run with SIGTERM,
+SIGINT and SIGHUP blocked, since they look for these and end by themselves.
 
 Other first words run no program. --build builds what is neither built nor released of the sources as they are, all at once, and
 with --anew all programs, whatever there is. --install and a folder puts the programs there, each under its name and the sum of its
@@ -50,10 +50,11 @@ SAID = re.compile(r"rt: (\w+) (proved|is kept|NOT PROVED)\b")
 
 
 # The programs of this repository.
-PROGRAMS = ["playrun", "playd"]
+PROGRAMS = ["playrun", "playd", "playview"]
 
 # The signals that a program is started with blocked, by its name: it looks for these itself.
-LOOKED_FOR = {"playd": (signal.SIGTERM, signal.SIGINT, signal.SIGHUP)}
+ENDING = (signal.SIGTERM, signal.SIGINT, signal.SIGHUP)
+LOOKED_FOR = {"playd": ENDING, "playview": ENDING}
 
 
 class NotBuilt(Exception):

@@ -58,8 +58,9 @@ fn serves_a_client(rt: HostRuntime) -> Result<(), Fail> {
     client.write_all(b"VERSION\r\nPLAY 1-0 RED\r\nKILL\r\n")?;
     let config = config(alloc)?;
     let media = MediaTable::empty(alloc)?;
-    let served = serve(&rt, alloc, &config, &media, 1, devices(rt, listener)?);
-    assert_eq!(rt; served.end, ServeEnd::Ended);
+    let devices = devices(rt, listener)?;
+    let end = serve(&rt, alloc, &config, &media, 1, devices).end;
+    assert_eq!(rt; end, ServeEnd::Ended);
     let reply = io::read_to_string(alloc, client)?;
     assert_eq!(rt;
         reply.as_str(),

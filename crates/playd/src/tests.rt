@@ -37,15 +37,10 @@ fn gives_devices_again(rt: HostRuntime) -> Result<(), Fail> {
     let address = format!(in alloc; "127.0.0.1:{port}")?;
     let config = config_of(alloc, address.as_str())?;
     let mut site = RealSite::new(rt, rt, Progress::Silent);
-    let devices = site.ready(alloc, &config, Some(FILES[2]))?;
+    let (again, steps) = take_devices(&mut site, alloc, &config)?;
     // The address is in use.
-    assert_eq!(rt;
-        site.ready(alloc, &config, None).err(),
-        Some(FileFault::Failed)
-    );
-    assert_eq!(rt; site.finish(devices), FinishStep::Done);
-    let devices = site.ready(alloc, &config, None)?;
-    assert_eq!(rt; site.finish(devices), FinishStep::Done);
+    assert_eq!(rt; again, Some(FileFault::Failed));
+    assert_eq!(rt; steps, [FinishStep::Done; 2]);
     for path in [FILES[0], FILES[1]] {
         assert_eq!(rt; fs::read_to_string(&rt, path)?.as_str(), "");
     }
@@ -53,6 +48,19 @@ fn gives_devices_again(rt: HostRuntime) -> Result<(), Fail> {
     assert_eq!(rt; fs::read_to_string(&rt, FILES[2])?.as_str(), EARLIER);
     fs::remove_dir_all(&rt, "playd_test")?;
     Ok(())
+}
+
+/// Takes the devices from a site and gives them back, twice. Returns also the fault of taking them while they are taken.
+fn take_devices<S: Site>(
+    site: &mut S,
+    alloc: Global,
+    config: &Config,
+) -> Result<(Option<FileFault>, [FinishStep; 2]), FileFault> {
+    let devices = site.ready(alloc, config, Some(FILES[2]))?;
+    let again = site.ready(alloc, config, None).err();
+    let first = site.finish(devices);
+    let devices = site.ready(alloc, config, None)?;
+    Ok((again, [first, site.finish(devices)]))
 }
 
 /// No clause says that a line can be written.

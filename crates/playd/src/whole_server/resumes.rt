@@ -7,6 +7,7 @@ use super::replay::{frames_in, replay};
 use std::alloc::Global;
 use std::process::Abort;
 use std::str;
+use std::sync::Wait;
 use std::test::Fail;
 use std::thread::Threads;
 
@@ -56,13 +57,22 @@ fn site_with(
 fn a_run_goes_on_from_a_history(rt: HostRuntime) -> Result<(), Fail> {
     let alloc = rt.alloc();
     let mut site = site_with(alloc, HISTORY, &[], &[])?;
-    let status = run(&rt, alloc, WORDS, &mut site)?;
+    check_site(&rt, alloc, &mut site)
+}
+
+/// Serves over a site, and checks that it went on from the history and what the devices hold.
+fn check_site<R: Threads + Wait + Sync + Abort>(
+    rt: &R,
+    alloc: Global,
+    site: &mut HeldSite,
+) -> Result<(), Fail> {
+    let status = run(rt, alloc, WORDS, site)?;
     assert_eq!(rt; (status, str::from_utf8(site.said())?), (0, ""));
     let [path] = site.resumed() else {
         return Err("one history that was opened")?;
     };
     assert_eq!(rt; path.as_slice(), b"h".as_slice());
-    check_devices(&rt, alloc, &site)
+    check_devices(rt, alloc, site)
 }
 
 /// Checks that the outputs have the frames of the new ticks alone, and that the new history replays all of them.
@@ -77,19 +87,23 @@ fn check_devices<R: Threads + Sync + Abort>(
     };
     let frames = hex::encode(alloc, out.sink().taken())?;
     assert_eq!(rt; frames.as_str(), "ff0000ffff0000ffff0000ff");
-    for sink in [&devices.history, &devices.log] {
-        let text = sink.sink().taken();
-        let (status, played) = replay(rt, alloc, text, "one", 40)?;
-        let output = str::from_utf8(played.taken())?;
-        assert_eq!(rt; status, 0);
-        assert_eq!(rt;
-            frames_in(alloc, output)?.as_str(),
-            "0000ffff0000ffffff0000ffff0000ffff0000ff"
-        );
-    }
+    check_text(rt, alloc, devices.history.sink().taken())?;
+    check_text(rt, alloc, devices.log.sink().taken())?;
     // The client of the run is the second one at its door.
     let text = str::from_utf8(devices.history.sink().taken())?;
     assert!(rt; text.contains("\n1.2 PLAY 1-5 "), "{text}");
+    Ok(())
+}
+
+/// Checks that a text, played as a script, gives the frames of all ticks.
+fn check_text<R: Threads + Sync + Abort>(rt: &R, alloc: Global, text: &[u8]) -> Result<(), Fail> {
+    let (status, played) = replay(rt, alloc, text, "one", 40)?;
+    let output = str::from_utf8(played.taken())?;
+    assert_eq!(rt; status, 0);
+    assert_eq!(rt;
+        frames_in(alloc, output)?.as_str(),
+        "0000ffff0000ffffff0000ffff0000ffff0000ff"
+    );
     Ok(())
 }
 
@@ -107,7 +121,7 @@ struct Refusal {
     said: &'static str,
 }
 
-const REFUSALS: [Refusal; 6] = [
+static REFUSALS: [Refusal; 6] = [
     Refusal {
         name: "a line of no form",
         words: WORDS,
@@ -167,23 +181,25 @@ const REFUSALS: [Refusal; 6] = [
 #[test]
 fn a_run_does_not_go_on(rt: HostRuntime) -> Result<(), Fail> {
     let alloc = rt.alloc();
-    for Refusal {
-        name,
-        words,
-        text,
-        fails,
-        site_fails,
-        status,
-        said,
-    } in REFUSALS {
-        let mut site = site_with(alloc, text, fails, site_fails)?;
-        let ended = run(&rt, alloc, words, &mut site)?;
-        assert_eq!(rt;
-            (ended, str::from_utf8(site.said())?),
-            (status, said),
-            "{name}"
-        );
-        assert_eq!(rt; (site.calls().len(), site.finishes()), (0, 0), "{name}");
+    for refusal in &REFUSALS {
+        let (text, fails) = (refusal.text, refusal.fails);
+        let mut site = site_with(alloc, text, fails, refusal.site_fails)?;
+        check_refusal(&rt, alloc, refusal, &mut site)?;
     }
+    Ok(())
+}
+
+/// Serves over a site, and checks that the run ends before a device is made.
+fn check_refusal<R: Threads + Wait + Sync + Abort>(
+    rt: &R,
+    alloc: Global,
+    refusal: &Refusal,
+    site: &mut HeldSite,
+) -> Result<(), Fail> {
+    let name = refusal.name;
+    let status = run(rt, alloc, refusal.words, site)?;
+    assert_eq!(rt; status, refusal.status, "{name}");
+    assert_eq!(rt; str::from_utf8(site.said())?, refusal.said, "{name}");
+    assert_eq!(rt; (site.calls().len(), site.finishes()), (0, 0), "{name}");
     Ok(())
 }

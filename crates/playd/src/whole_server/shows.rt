@@ -7,6 +7,7 @@ use super::replay::{frames_in, replay, replies_in, without_tokens};
 use std::alloc::Global;
 use std::process::Abort;
 use std::str;
+use std::sync::Wait;
 use std::test::Fail;
 use std::thread::Threads;
 
@@ -23,7 +24,8 @@ struct Show {
     is_replayed: bool,
 }
 
-const SHOWS: [Show; 6] = [
+// This is a static, since a constant would be built anew in the test that names it.
+static SHOWS: [Show; 6] = [
     TWO_CONNECTIONS,
     TOKENS,
     READ_AFTER_REPLY,
@@ -273,22 +275,31 @@ const BATCH: Show = Show {
 fn clients_are_served_beside_the_ticker(rt: HostRuntime) -> Result<(), Fail> {
     let alloc = rt.alloc();
     for show in &SHOWS {
-        let media = folder_of(alloc, &[], &[])?;
-        let mut site = site_of(alloc, &show.plan, media, &[])?;
-        let status = run(&rt, alloc, &["--config", show.config], &mut site)?;
-        assert_eq!(&rt; status, 0, "{}", show.name);
-        check_site(&rt, alloc, show, &site)?;
+        check_show(&rt, alloc, show)?;
     }
     Ok(())
 }
 
-/// Checks the replies, the history and the log of a run.
-fn check_site<R: Threads + Sync + Abort>(
+/// Serves the clients of a show, and checks what they and the outputs got.
+fn check_show<R: Threads + Wait + Sync + Abort>(
     rt: &R,
     alloc: Global,
     show: &Show,
-    site: &HeldSite,
 ) -> Result<(), Fail> {
+    let media = folder_of(alloc, &[], &[])?;
+    let mut site = site_of(alloc, &show.plan, media, &[])?;
+    check_site(rt, alloc, show, &mut site)
+}
+
+/// Serves over the site of a show, and checks the replies, the history and the log.
+fn check_site<R: Threads + Wait + Sync + Abort>(
+    rt: &R,
+    alloc: Global,
+    show: &Show,
+    site: &mut HeldSite,
+) -> Result<(), Fail> {
+    let status = run(rt, alloc, &["--config", show.config], site)?;
+    assert_eq!(rt; status, 0, "{}", show.name);
     let devices = site.finished().ok_or("devices that came back")?;
     check_replies(rt, show, devices)?;
     check_history(rt, alloc, show, devices)

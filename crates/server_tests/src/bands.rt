@@ -9,6 +9,7 @@ use play_types::{
     Channel, ChannelList, Config, Drawn, MAX_LIVE_LAYERS, Scenes, Still, Text, Trans,
 };
 use std::alloc::Global;
+use std::process::Abort;
 use std::sync::atomic::{AtomicU32, AtomicU64, Ordering};
 use std::test::Fail;
 use std::thread::Threads;
@@ -103,17 +104,43 @@ fn two_ticks<R: Threads + Sync, G: Gate>(
     ensures { IfOk result (λ renderer. length renderer ≡ channels) }
 {
     let config = config(alloc, width, channels)?;
-    let media = MediaTable::empty(alloc)?;
-    let mut scenes = Scenes::new(alloc, &config)?;
-    let mut renderer = Renderer::new(alloc, &config, workers)?;
+    let scenes = scenes(alloc, &config, channels)?;
+    render_two(rt, alloc, &config, &scenes, workers, gate)
+}
+
+/// Returns the scenes of the channels of a configuration, if there are `channels` of them, with what channel 1 shows.
+fn scenes(alloc: Global, config: &Config, channels: u8) -> Result<Scenes, Fail>
+    requires { 1 ≤ channels }
+    ensures all { IfOk result (λ scenes. length scenes ≡ length config.now.channels) }
+    ensures many { IfOk result (λ scenes. length scenes ≡ channels) }
+{
+    let mut scenes = Scenes::new(alloc, config)?;
     if scenes.channels() != channels {
         return Err(Fail::from("as many channels"));
     }
     add(&mut scenes, Still::Colour(0x80FF_0000), false);
     add(&mut scenes, Still::Colour(0xFF00_00FF), true);
     add(&mut scenes, Still::Channel(1), true);
-    renderer.render(rt, &scenes, &media, gate);
-    renderer.render(rt, &scenes, &media, gate);
+    Ok(scenes)
+}
+
+/// Renders scenes twice by this number of workers, and returns the renderer.
+fn render_two<R: Threads + Sync, G: Gate>(
+    rt: &R,
+    alloc: Global,
+    config: &Config,
+    scenes: &Scenes,
+    workers: u32,
+    gate: &G,
+) -> Result<Renderer, Fail>
+    requires workers { (1 ≤ workers) × (workers ≤ 64) }
+    requires scenes { length scenes.now ≡ length config.now.channels }
+    ensures { IfOk result (λ renderer. length renderer ≡ length scenes.now) }
+{
+    let media = MediaTable::empty(alloc)?;
+    let mut renderer = Renderer::new(alloc, config, workers)?;
+    renderer.render(rt, scenes, &media, gate);
+    renderer.render(rt, scenes, &media, gate);
     Ok(renderer)
 }
 
@@ -137,6 +164,13 @@ fn makes_the_same<R: Threads + Sync>(
 fn workers_make_equal_frames(rt: HostRuntime) -> Result<(), Fail> {
     let alloc = rt.alloc();
     let one = two_ticks(&rt, alloc, 16, 1, 1, &OpenGate)?;
+    check_frame(&rt, alloc, &one)
+}
+
+/// Checks the frame that one worker made, and that more workers make it too.
+fn check_frame<R: Threads + Sync + Abort>(rt: &R, alloc: Global, one: &Renderer) -> Result<(), Fail>
+    requires { length one.now ≡ 1 }
+{
     assert_eq!(rt; one.frame(1).get(0..4), Some([0, 0, 128, 128].as_slice()));
     assert_eq!(rt;
         one.frame(1).get(264..268),
@@ -146,9 +180,9 @@ fn workers_make_equal_frames(rt: HostRuntime) -> Result<(), Fail> {
         one.frame(1).get(276..280),
         Some([255, 0, 0, 255].as_slice())
     );
-    assert!(rt; makes_the_same(&rt, alloc, &one, 2)?);
-    assert!(rt; makes_the_same(&rt, alloc, &one, 7)?);
-    assert!(rt; makes_the_same(&rt, alloc, &one, 64)?);
+    assert!(rt; makes_the_same(rt, alloc, one, 2)?);
+    assert!(rt; makes_the_same(rt, alloc, one, 7)?);
+    assert!(rt; makes_the_same(rt, alloc, one, 64)?);
     Ok(())
 }
 

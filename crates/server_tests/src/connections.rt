@@ -1,15 +1,16 @@
 //! Links and a door in memory, with ample memory. The stage has one channel, and there is no clip.
-ghost use Rattle.std.specs.Prelude.{◌≡◌, ◌<◌, IfOk, length};
+ghost use Rattle.std.specs.Prelude.{◌≡◌, ◌<◌, IfOk};
 ghost use Rattle.play_outside.specs.Fresh.{IsNewSink};
 
 use crate::config::one_channel;
+use crate::stages::{close, shared_by_two};
 use conn_worker::{LinkEnd, WorkEnd, serve_link, work};
 use play_outside::{DoorAnswer, LinkPlan, Listener, MemDoor, MemLink, Sink};
 use play_session::Session;
 use play_types::{Config, MediaNames};
 use stage_core::Stage;
-use stage_lock::SharedStage;
 use std::alloc::Global;
+use std::process::Abort;
 use std::sync::Wait;
 use std::test::Fail;
 
@@ -45,8 +46,8 @@ fn link_of(alloc: Global, input: &[u8], piece: usize) -> Result<MemLink, Fail>
 fn door_of(alloc: Global, input: &[u8]) -> Result<MemDoor<MemLink>, Fail>
     ensures { IfOk result (λ door. (⟦<MemDoor<MemLink> as Listener>⟧.state door).away ≡ 0) }
 {
-    let mut answers = Vec::new(alloc);
     let link = link_of(alloc, input, 7)?;
+    let mut answers = Vec::new(alloc);
     answers.push(DoorAnswer::Line(link))?;
     Ok(MemDoor::new(alloc, 0, answers, Vec::new(alloc))?)
 }
@@ -57,31 +58,23 @@ fn serve<R: Wait>(
     alloc: Global,
     config: &Config,
     link: &mut MemLink,
-) -> Result<(LinkEnd, Stage), Fail>
-    requires { length config.now.channels ≡ 1 }
-{
-    let stage = Stage::new(alloc, config)?;
-    let Ok((shared, mut passes)) = SharedStage::share(alloc, stage, 2) else {
-        return Err("memory for a shared stage")?;
-    };
-    let Some(mut pass) = passes.pop() else {
-        return Err("a pass")?;
-    };
-    let mut session = Session::new(alloc)?;
+) -> Result<(LinkEnd, Stage), Fail> {
     let media = MediaNames::new(alloc);
+    let mut session = Session::new(alloc)?;
+    let (shared, first, mut second) = shared_by_two(alloc, config)?;
     let end = serve_link(
         rt,
         alloc,
         &shared,
-        &mut pass,
+        &mut second,
         &mut session,
         1,
         config,
         &media,
         link,
     );
-    passes.push(pass)?;
-    Ok((end, shared.close(rt, passes)))
+    let stage = close(rt, alloc, shared, first, second)?;
+    Ok((end, stage))
 }
 
 #[test]
@@ -89,11 +82,24 @@ fn three_lines_are_answered_in_any_pieces(rt: HostRuntime) -> Result<(), Fail> {
     let alloc = rt.alloc();
     let config = one_channel(alloc)?;
     for piece in 1..12 {
-        let mut link = link_of(alloc, LINES, piece)?;
-        let (end, _) = serve(&rt, alloc, &config, &mut link)?;
-        assert!(rt; end == LinkEnd::Over, "{piece}");
-        assert_eq!(rt; link.taken(), REPLIES, "{piece}");
+        check_pieces(&rt, alloc, &config, piece)?;
     }
+    Ok(())
+}
+
+/// Checks the replies to the three lines, which come in pieces of `piece` bytes.
+fn check_pieces<R: Wait + Abort>(
+    rt: &R,
+    alloc: Global,
+    config: &Config,
+    piece: usize,
+) -> Result<(), Fail>
+    requires { 0 < piece }
+{
+    let mut link = link_of(alloc, LINES, piece)?;
+    let (end, _) = serve(rt, alloc, config, &mut link)?;
+    assert!(rt; end == LinkEnd::Over, "{piece}");
+    assert_eq!(rt; link.taken(), REPLIES, "{piece}");
     Ok(())
 }
 
@@ -143,42 +149,82 @@ fn garbage_and_what_is_cut_off_make_no_event(rt: HostRuntime) -> Result<(), Fail
     let alloc = rt.alloc();
     let config = one_channel(alloc)?;
     for input in &INPUTS {
-        let letters = "Z".repeat(alloc, input.letters)?;
-        let mut bytes = Vec::from_slice(alloc, letters.as_bytes())?;
-        bytes.extend_from_slice(input.bytes)?;
-        let mut link = link_of(alloc, bytes.as_slice(), 1000)?;
-        let (end, stage) = serve(&rt, alloc, &config, &mut link)?;
-        assert!(rt; end == LinkEnd::Over);
-        assert_eq!(rt; link.taken(), input.replies);
-        assert_eq!(rt; stage.journal().held(), input.held);
+        check_input(&rt, alloc, &config, input)?;
     }
     Ok(())
+}
+
+/// Checks the replies to what a link gives, and how many commands the journal holds then.
+fn check_input<R: Wait + Abort>(
+    rt: &R,
+    alloc: Global,
+    config: &Config,
+    input: &Input,
+) -> Result<(), Fail> {
+    let mut link = link_of_input(alloc, input)?;
+    let (end, stage) = serve(rt, alloc, config, &mut link)?;
+    assert!(rt; end == LinkEnd::Over);
+    assert_eq!(rt; link.taken(), input.replies);
+    assert_eq!(rt; stage.journal().held(), input.held);
+    Ok(())
+}
+
+/// Returns a link that gives an input, 1,000 bytes of it at a time.
+fn link_of_input(alloc: Global, input: &Input) -> Result<MemLink, Fail> {
+    let letters = "Z".repeat(alloc, input.letters)?;
+    let mut bytes = Vec::from_slice(alloc, letters.as_bytes())?;
+    bytes.extend_from_slice(input.bytes)?;
+    link_of(alloc, bytes.as_slice(), 1000)
+}
+
+/// Serves the links of a door by the second pass of a new stage, and returns how that ended.
+fn work_at<R: Wait>(rt: &R, alloc: Global, door: &mut MemDoor<MemLink>) -> Result<WorkEnd, Fail>
+    requires { (⟦<MemDoor<MemLink> as Listener>⟧.state door.old).away ≡ 0 }
+{
+    let config = one_channel(alloc)?;
+    work_with(rt, alloc, &config, door)
+}
+
+/// Serves the links of a door by the second pass of a new stage of a configuration, and returns how that ended.
+fn work_with<R: Wait>(
+    rt: &R,
+    alloc: Global,
+    config: &Config,
+    door: &mut MemDoor<MemLink>,
+) -> Result<WorkEnd, Fail>
+    requires { (⟦<MemDoor<MemLink> as Listener>⟧.state door.old).away ≡ 0 }
+{
+    let media = MediaNames::new(alloc);
+    let mut session = Session::new(alloc)?;
+    let (shared, _first, mut second) = shared_by_two(alloc, config)?;
+    Ok(work(
+        rt,
+        alloc,
+        &shared,
+        &mut second,
+        &mut session,
+        config,
+        &media,
+        door,
+    ))
 }
 
 #[test]
 fn a_kill_ends_the_work(rt: HostRuntime) -> Result<(), Fail> {
     let alloc = rt.alloc();
-    let config = one_channel(alloc)?;
-    let stage = Stage::new(alloc, &config)?;
-    let Ok((shared, mut passes)) = SharedStage::share(alloc, stage, 2) else {
-        return Err("memory for a shared stage")?;
-    };
-    let Some(mut pass) = passes.pop() else {
-        return Err("a pass")?;
-    };
-    let mut session = Session::new(alloc)?;
-    let media = MediaNames::new(alloc);
     let mut door = door_of(alloc, LAST_LINES)?;
-    let end = work(
-        &rt,
-        alloc,
-        &shared,
-        &mut pass,
-        &mut session,
-        &config,
-        &media,
-        &mut door,
-    );
+    check_one_link(&rt, alloc, &mut door)
+}
+
+/// Checks how the work at a door ends, and the replies to the one link that comes there.
+fn check_one_link<R: Wait + Abort>(
+    rt: &R,
+    alloc: Global,
+    door: &mut MemDoor<MemLink>,
+) -> Result<(), Fail>
+    requires { (⟦<MemDoor<MemLink> as Listener>⟧.state door.old).away ≡ 0 }
+{
+    let end = work_at(rt, alloc, door)?;
     assert!(rt; end == WorkEnd::Ended { at: 2 });
     let [link] = door.returned() else {
         return Err("one link that was given back")?;
@@ -192,9 +238,8 @@ fn door_of_two(alloc: Global) -> Result<MemDoor<MemLink>, Fail>
     ensures { IfOk result (λ door. (⟦<MemDoor<MemLink> as Listener>⟧.state door).away ≡ 0) }
 {
     let mut answers = Vec::new(alloc);
-    let (first, last) = (link_of(alloc, LINES, 7)?, link_of(alloc, LAST_LINES, 7)?);
-    answers.push(DoorAnswer::Line(first))?;
-    answers.push(DoorAnswer::Line(last))?;
+    answers.push(DoorAnswer::Line(link_of(alloc, LINES, 7)?))?;
+    answers.push(DoorAnswer::Line(link_of(alloc, LAST_LINES, 7)?))?;
     Ok(MemDoor::new(alloc, 0, answers, Vec::new(alloc))?)
 }
 
@@ -202,27 +247,19 @@ fn door_of_two(alloc: Global) -> Result<MemDoor<MemLink>, Fail>
 #[test]
 fn two_links_at_one_door_both_speak(rt: HostRuntime) -> Result<(), Fail> {
     let alloc = rt.alloc();
-    let config = one_channel(alloc)?;
-    let stage = Stage::new(alloc, &config)?;
-    let Ok((shared, mut passes)) = SharedStage::share(alloc, stage, 2) else {
-        return Err("memory for a shared stage")?;
-    };
-    let Some(mut pass) = passes.pop() else {
-        return Err("a pass")?;
-    };
-    let mut session = Session::new(alloc)?;
-    let media = MediaNames::new(alloc);
     let mut door = door_of_two(alloc)?;
-    let end = work(
-        &rt,
-        alloc,
-        &shared,
-        &mut pass,
-        &mut session,
-        &config,
-        &media,
-        &mut door,
-    );
+    check_two_links(&rt, alloc, &mut door)
+}
+
+/// Checks how the work at a door ends, and the replies to the two links that come there.
+fn check_two_links<R: Wait + Abort>(
+    rt: &R,
+    alloc: Global,
+    door: &mut MemDoor<MemLink>,
+) -> Result<(), Fail>
+    requires { (⟦<MemDoor<MemLink> as Listener>⟧.state door.old).away ≡ 0 }
+{
+    let end = work_at(rt, alloc, door)?;
     assert!(rt; end == WorkEnd::Ended { at: 4 });
     let [first, last] = door.returned() else {
         return Err("two links that were given back")?;

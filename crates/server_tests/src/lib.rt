@@ -15,6 +15,8 @@ mod sessions;
 #[cfg(test)]
 mod shared_stages;
 #[cfg(test)]
+mod stages;
+#[cfg(test)]
 mod ticks;
 #[cfg(test)]
 mod wake_ups;

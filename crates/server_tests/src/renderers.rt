@@ -1,5 +1,5 @@
 //! Two channels that show each other, with ample memory. The bytes were worked out by hand.
-ghost use Rattle.std.specs.Prelude.{◌≡◌, ◌↔◌, IfOk, IfSome, IsTrue, length};
+ghost use Rattle.std.specs.Prelude.{◌≡◌, ◌↔◌, IfOk, IsTrue, length};
 ghost use Rattle.play_types.specs.Scene.{ShowsConfigured};
 
 use band_render::{OpenGate, Renderer};
@@ -59,17 +59,26 @@ fn add(scenes: &mut Scenes, channel: u8, still: Still)
     }
 }
 
+/// Returns the scenes of a configuration of two channels.
+fn two_scenes(alloc: Global, config: &Config) -> Result<Scenes, Fail>
+    ensures two { IfOk result (λ scenes. length scenes ≡ 2) }
+    ensures all { IfOk result (λ scenes. length scenes ≡ length config.now.channels) }
+{
+    let scenes = Scenes::new(alloc, config)?;
+    if scenes.channels() != 2 {
+        return Err(Fail::from("two channels"));
+    }
+    Ok(scenes)
+}
+
 /// Returns the scenes and a renderer of two channels.
-fn two_channels(alloc: Global) -> Result<Option<(Scenes, Renderer)>, Fail>
-    ensures { IfOk result (λ made. IfSome made (λ both. (length both.0 ≡ 2) × (length both.1 ≡ 2))) }
+fn two_channels(alloc: Global) -> Result<(Scenes, Renderer), Fail>
+    ensures { IfOk result (λ both. (length both.0 ≡ 2) × (length both.1 ≡ 2)) }
 {
     let config = config(alloc)?;
-    let scenes = Scenes::new(alloc, &config)?;
+    let scenes = two_scenes(alloc, &config)?;
     let renderer = Renderer::new(alloc, &config, 64)?;
-    if scenes.channels() != 2 {
-        return Ok(None);
-    }
-    Ok(Some((scenes, renderer)))
+    Ok((scenes, renderer))
 }
 
 /// Renders a tick, and returns whether the two channels then have these frames.
@@ -95,7 +104,7 @@ fn shows<R: Threads + Sync>(
 fn channels_that_show_each_other(rt: HostRuntime) -> Result<(), Fail> {
     let alloc = rt.alloc();
     let media = MediaTable::empty(alloc)?;
-    let (mut scenes, mut renderer) = two_channels(alloc)?.ok_or("two channels")?;
+    let (mut scenes, mut renderer) = two_channels(alloc)?;
     add(&mut scenes, 1, Still::Channel(2));
     add(&mut scenes, 1, HALF_RED);
     add(&mut scenes, 2, Still::Channel(1));

@@ -1,8 +1,9 @@
 //! Two threads that share a stage, with ample memory.
-ghost use Rattle.std.specs.Prelude.{◌≡◌, IfOk, IfSome, length};
+ghost use Rattle.std.specs.Prelude.{◌≡◌, IfSome};
 ghost use Rattle.history_model.specs.commands.Channels.{IsServed};
 
 use crate::config::one_channel;
+use crate::stages::{close, shared_by_two};
 use play_types::{Cmd, Event, Place, Spec, Take, Trans};
 use stage_core::Stage;
 use stage_lock::{Pass, SharedStage};
@@ -83,23 +84,17 @@ fn holds_all(stage: &Stage) -> bool {
     asked == [COMMANDS; 2]
 }
 
+/// Lets both passes of a new stage ask at once, and returns the stage after that.
+fn asked_by_both<R: Threads + Wait + Sync>(rt: &R, alloc: Global) -> Result<Stage, Fail> {
+    let config = one_channel(alloc)?;
+    let (shared, first, second) = shared_by_two(alloc, &config)?;
+    let (first, second) = ask_both(rt, alloc, &shared, first, second);
+    close(rt, alloc, shared, second, first)
+}
+
 #[test]
 fn each_pass_finds_its_commands_in_order(rt: HostRuntime) -> Result<(), Fail> {
-    let alloc = rt.alloc();
-    let stage = Stage::new(alloc, &one_channel(alloc)?)?;
-    let Ok((shared, mut passes)) = SharedStage::share(alloc, stage, 2) else {
-        return Err("memory for a shared stage")?;
-    };
-    let Some(second) = passes.pop() else {
-        return Err("two passes")?;
-    };
-    let Some(first) = passes.pop() else {
-        return Err("two passes")?;
-    };
-    let (first, second) = ask_both(&rt, alloc, &shared, first, second);
-    passes.push(second)?;
-    passes.push(first)?;
-    let stage = shared.close(&rt, passes);
+    let stage = asked_by_both(&rt, rt.alloc())?;
     assert!(rt; holds_all(&stage));
     Ok(())
 }

@@ -3,13 +3,13 @@ ghost use Rattle.std.specs.Prelude.{◌≡◌, [], IfOk, IfSome, length, vec_len
 ghost use Rattle.history_model.specs.commands.Channels.{IsServed};
 ghost use Rattle.play_ticker.specs.Frames.{AreBlank};
 
+use crate::stages::{shared_by_one, shared_by_two};
 use band_render::Renderer;
 use clip_format::MediaTable;
 use play_outside::{Beat, Clock, Flag, FlaggedCall, HeldClock, HeldSink, MemClock, MemSink};
 use play_ticker::{TickEnd, laws, tick_all};
 use play_types::{Channel, ChannelList, Cmd, Config, Place, Spec, Take, Text, Trans};
 use scene_pipe::ScenePipe;
-use stage_core::Stage;
 use stage_lock::{Pass, SharedStage};
 use std::alloc::Global;
 use std::sync::atomic::AtomicBool;
@@ -166,18 +166,20 @@ fn took(outs: &[MemSink], at: usize, bytes: &[u8]) -> bool {
 /// Asks for red and for the route to it, and takes two pulses.
 fn ask_and_take<R: Threads + Wait + Sync>(rt: &R, alloc: Global) -> Result<Taken, Fail> {
     let config = two_channels(alloc)?;
-    let stage = Stage::new(alloc, &config)?;
-    let Ok((shared, mut passes)) = SharedStage::share(alloc, stage, 2) else {
-        return Err("memory for a shared stage")?;
-    };
-    let Some(mut second) = passes.pop() else {
-        return Err("two passes")?;
-    };
-    let Some(mut first) = passes.pop() else {
-        return Err("two passes")?;
-    };
+    ask_and_take_with(rt, alloc, &config)
+}
+
+/// Asks for red and for the route to it at a new stage of a configuration, and takes two pulses.
+fn ask_and_take_with<R: Threads + Wait + Sync>(
+    rt: &R,
+    alloc: Global,
+    config: &Config,
+) -> Result<Taken, Fail>
+    requires { length config.now.channels ≡ 2 }
+{
+    let (shared, mut first, mut second) = shared_by_two(alloc, config)?;
     ask_both(rt, alloc, &shared, &mut second)?;
-    take_two(rt, alloc, &config, &shared, &mut first)
+    take_two(rt, alloc, config, &shared, &mut first)
 }
 
 /// Channel 1 shows what channel 2 showed at the tick before, and channel 2 is red.
@@ -258,19 +260,20 @@ fn bytes_taken(outs: &[HeldSink], at: usize) -> usize {
     }
 }
 
+/// Takes three pulses of a new stage that one pass shares, and returns how they ended and how many bytes each output took.
+fn share_and_take<R: Threads + Wait + Sync>(
+    rt: &R,
+    alloc: Global,
+) -> Result<(TickEnd, usize, usize), Fail> {
+    let config = two_channels(alloc)?;
+    let (shared, mut first) = shared_by_one(alloc, &config)?;
+    take_three_held(rt, alloc, &config, &shared, &mut first)
+}
+
 /// An output that blocks in its first write until the clock's third call keeps no pulse from becoming a tick.
 #[test]
 fn slow_output_keeps_no_pulse(rt: HostRuntime) -> Result<(), Fail> {
-    let alloc = rt.alloc();
-    let config = two_channels(alloc)?;
-    let stage = Stage::new(alloc, &config)?;
-    let Ok((shared, mut passes)) = SharedStage::share(alloc, stage, 1) else {
-        return Err("memory for a shared stage")?;
-    };
-    let Some(mut first) = passes.pop() else {
-        return Err("a pass")?;
-    };
-    let ended = take_three_held(&rt, alloc, &config, &shared, &mut first)?;
+    let ended = share_and_take(&rt, rt.alloc())?;
     assert_eq!(rt; ended, (TickEnd::ClockClosed, 24, 24));
     Ok(())
 }

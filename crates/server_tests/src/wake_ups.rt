@@ -1,7 +1,9 @@
 //! Threads that wait for one another again and again, with ample memory. No clause says that a wait ends. A thread beside them
 //! ends the process with a failure if they have not all ended in time.
-ghost use Rattle.std.specs.Prelude.{◌≡◌, IfOk, IfSome, length};
+ghost use Rattle.std.specs.Prelude.{◌≡◌, IfOk, IfSome, length, map};
+ghost use Rattle.std.specs.List.{range_with_len};
 ghost use Rattle.history_model.specs.commands.Channels.{IsServed};
+ghost use Rattle.stage_lock.specs.Calls.{new_pass};
 
 use play_types::{Channel, ChannelList, Cmd, Config, Place, Spec, Take, Text, Trans};
 use scene_pipe::{Room, ScenePipe, StageEnd, Taken, WriteEnd};
@@ -193,7 +195,31 @@ fn counted<R: Threads + Wait + Abort + Clock + Sync>(
     let Ok((shared, mut passes)) = SharedStage::share(alloc, stage, PASSES) else {
         return Err("memory for a shared stage")?;
     };
-    let stage = &shared;
+    count_all(rt, alloc, act, &shared, &mut passes)
+}
+
+/// Lets the eight passes of a stage act at once, and returns the sum of what they counted.
+fn count_all<R: Threads + Wait + Abort + Clock + Sync>(
+    rt: &R,
+    alloc: Global,
+    act: Act,
+    stage: &SharedStage,
+    passes: &mut Vec<Pass>,
+) -> Result<u32, Fail>
+    requires passes { passes.old.items ≡ map (new_pass stage.now) (range_with_len 0 8) }
+    requires channels { stage.now.sizes.channels ≡ 1 }
+{
+    let some = last_four(stage, passes)?;
+    let others = first_four(stage, passes)?;
+    Ok(all_eight(rt, alloc, act, some, others))
+}
+
+/// Returns callers with the last four of eight passes, and leaves the first four.
+fn last_four<'a>(stage: &'a SharedStage, passes: &mut Vec<Pass>) -> Result<Four<'a>, Fail>
+    requires passes { passes.old.items ≡ map (new_pass stage.now) (range_with_len 0 8) }
+    requires channels { stage.now.sizes.channels ≡ 1 }
+    ensures { IfOk result (λ _. passes.new.items ≡ map (new_pass stage.now) (range_with_len 0 4)) }
+{
     let Some(pass) = passes.pop() else {
         return Err("eight passes")?;
     };
@@ -210,25 +236,31 @@ fn counted<R: Threads + Wait + Abort + Clock + Sync>(
         return Err("eight passes")?;
     };
     let fourth = Caller { stage, pass };
+    Ok(((first, second), (third, fourth)))
+}
+
+/// Returns callers with four passes.
+fn first_four<'a>(stage: &'a SharedStage, passes: &mut Vec<Pass>) -> Result<Four<'a>, Fail>
+    requires passes { passes.old.items ≡ map (new_pass stage.now) (range_with_len 0 4) }
+    requires channels { stage.now.sizes.channels ≡ 1 }
+{
     let Some(pass) = passes.pop() else {
         return Err("eight passes")?;
     };
-    let fifth = Caller { stage, pass };
+    let first = Caller { stage, pass };
     let Some(pass) = passes.pop() else {
         return Err("eight passes")?;
     };
-    let sixth = Caller { stage, pass };
+    let second = Caller { stage, pass };
     let Some(pass) = passes.pop() else {
         return Err("eight passes")?;
     };
-    let seventh = Caller { stage, pass };
+    let third = Caller { stage, pass };
     let Some(pass) = passes.pop() else {
         return Err("eight passes")?;
     };
-    let eighth = Caller { stage, pass };
-    let some = ((first, second), (third, fourth));
-    let others = ((fifth, sixth), (seventh, eighth));
-    Ok(all_eight(rt, alloc, act, some, others))
+    let fourth = Caller { stage, pass };
+    Ok(((first, second), (third, fourth)))
 }
 
 /// Eight threads take the turn of a stage 100,000 times each for a look.

@@ -7,7 +7,7 @@ use Rattle.play_outside.specs.Sink.{Sends}
 use Rattle.play_outside.specs.declared.sink.Sent.{Sent}
 use Rattle.history_model.specs.scripts.Generator as script
 use Rattle.history_model.specs.scripts.Generator.{Made, made_commit, made_fill, made_for, made_in, made_load, made_opacity, made_play, made_query, made_swap, step_drawn}
-use Rattle.made_script.specs.declared.generator.Step.{Step}
+use Rattle.made_script.specs.declared.generator.DrawnStep.{DrawnStep}
 use Rattle.made_script.specs.inner.Generator.{step_in}
 
 -- the line of a step of this kind
@@ -23,7 +23,7 @@ of_kind kind step =
     else made_query step
 
 -- the line of the step that was drawn
-pub line_drawn : (kind : ℕ) (step : Step) (state before : ℕ) → step_in step state ≡ step_drawn before → step.kind ≡ kind
+pub line_drawn : (kind : ℕ) (step : DrawnStep) (state before : ℕ) → step_in step state ≡ step_drawn before → step.kind ≡ kind
     → made_in before ≡ of_kind kind (step_in step state)
 unfolding made_in
 line_drawn kind step state before drawn is = ap made_for (sym drawn) ∙ ap (λ (k : ℕ). of_kind k (step_in step state)) is
@@ -50,7 +50,7 @@ query_kind step false false false false false false false e0 e1 e2 e3 e4 e5 e6 =
 other : (kind less : ℕ) → 7 ≤ kind → less ≤ 6 → (kind == less) ≡ false
 other kind less high low = grind (arith, nat_tests, high, low)
 
-pub query_drawn : (step : Step) (state before : ℕ) → step_in step state ≡ step_drawn before → 7 ≤ step.kind
+pub query_drawn : (step : DrawnStep) (state before : ℕ) → step_in step state ≡ step_drawn before → 7 ≤ step.kind
     → made_in before ≡ made_query (step_in step state)
 unfolding made_in
 query_drawn step state before drawn high =

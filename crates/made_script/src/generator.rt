@@ -25,7 +25,7 @@ pub struct Generator {
 
 /// The first numbers that are drawn for a step: its kind, 0 to 7, a channel, a layer and a worker.
 #[derive(Clone, Copy)]
-pub struct Step {
+pub struct DrawnStep {
     pub kind: u64,
     pub channel: u64,
     pub layer: u64,
@@ -59,14 +59,14 @@ impl Generator {
     }
 
     /// Draws the kind, the channel, the layer and the worker of a step.
-    fn draw_step(&mut self) -> Step
+    fn draw_step(&mut self) -> DrawnStep
         ensures { step_in result self.new.state ≡ step_drawn self.old.state }
     {
         let kind = self.draw(8);
         let channel = 1 + self.draw(2);
         let layer = self.draw(4);
         let worker = 1 + self.draw(3);
-        Step {
+        DrawnStep {
             kind,
             channel,
             layer,
@@ -86,7 +86,7 @@ impl Generator {
     }
 
     /// Writes `PLAY c-l #AARRGGBB MIX d`.
-    fn send_play<K: Sink>(&mut self, step: Step, to: &mut K) -> Sent
+    fn send_play<K: Sink>(&mut self, step: DrawnStep, to: &mut K) -> Sent
         ensures line { Sends result (made_play (step_in step self.old.state)).text (K.state to.old) (K.state to.new) }
         ensures state { self.new.state ≡ (made_play (step_in step self.old.state)).state }
     {
@@ -112,7 +112,7 @@ impl Generator {
     }
 
     /// Writes `MIXER c-l OPACITY 0.k d`.
-    fn send_opacity<K: Sink>(&mut self, step: Step, to: &mut K) -> Sent
+    fn send_opacity<K: Sink>(&mut self, step: DrawnStep, to: &mut K) -> Sent
         ensures line { Sends result (made_opacity (step_in step self.old.state)).text (K.state to.old) (K.state to.new) }
         ensures state { self.new.state ≡ (made_opacity (step_in step self.old.state)).state }
     {
@@ -132,7 +132,7 @@ impl Generator {
     }
 
     /// Writes `MIXER c-l FILL 0.k 0 0.m 1 DEFER`.
-    fn send_fill<K: Sink>(&mut self, step: Step, to: &mut K) -> Sent
+    fn send_fill<K: Sink>(&mut self, step: DrawnStep, to: &mut K) -> Sent
         ensures line { Sends result (made_fill (step_in step self.old.state)).text (K.state to.old) (K.state to.new) }
         ensures state { self.new.state ≡ (made_fill (step_in step self.old.state)).state }
     {
@@ -153,7 +153,7 @@ impl Generator {
     }
 
     /// Writes `SWAP c-l c-m TRANSFORMS`.
-    fn send_swap<K: Sink>(&mut self, step: Step, to: &mut K) -> Sent
+    fn send_swap<K: Sink>(&mut self, step: DrawnStep, to: &mut K) -> Sent
         ensures line { Sends result (made_swap (step_in step self.old.state)).text (K.state to.old) (K.state to.new) }
         ensures state { self.new.state ≡ (made_swap (step_in step self.old.state)).state }
     {
@@ -173,7 +173,7 @@ impl Generator {
     }
 
     /// Writes `LOADBG c-l route://e WIPE d LEFT AUTO`.
-    fn send_load<K: Sink>(&mut self, step: Step, to: &mut K) -> Sent
+    fn send_load<K: Sink>(&mut self, step: DrawnStep, to: &mut K) -> Sent
         ensures line { Sends result (made_load (step_in step self.old.state)).text (K.state to.old) (K.state to.new) }
         ensures state { self.new.state ≡ (made_load (step_in step self.old.state)).state }
     {
@@ -195,7 +195,7 @@ impl Generator {
 }
 
 /// Writes `MIXER c COMMIT`.
-fn send_commit<K: Sink>(step: Step, to: &mut K) -> Sent
+fn send_commit<K: Sink>(step: DrawnStep, to: &mut K) -> Sent
     ensures { Sends result (made_commit (step_in step 0)).text (K.state to.old) (K.state to.new) }
 {
     send_parts(
@@ -210,14 +210,14 @@ fn send_commit<K: Sink>(step: Step, to: &mut K) -> Sent
 }
 
 /// Writes `MIXER c-l OPACITY`.
-fn send_query<K: Sink>(step: Step, to: &mut K) -> Sent
+fn send_query<K: Sink>(step: DrawnStep, to: &mut K) -> Sent
     ensures { Sends result (made_query (step_in step 0)).text (K.state to.old) (K.state to.new) }
 {
     send_at(step, b"MIXER", &[b" OPACITY"], to)
 }
 
 /// Writes `w.1 VERB c-l`, and then the parts of `rest`.
-fn send_at<K: Sink>(step: Step, verb: &[u8], rest: &[&[u8]], to: &mut K) -> Sent
+fn send_at<K: Sink>(step: DrawnStep, verb: &[u8], rest: &[&[u8]], to: &mut K) -> Sent
     ensures { Sends result (said_by (step_in step 0) (verb.now ++ codes " " ++ on_place (step_in step 0) (flat_map (λ part. part.now) rest.now))) (K.state to.old) (K.state to.new) }
 {
     send_parts(

@@ -10,7 +10,7 @@ use play_types::Tag;
 
 /// The meaning of a line.
 #[derive(Clone, Copy)]
-pub enum Line<'a> {
+pub enum ScriptLine<'a> {
     /// Nothing: the line is empty or a comment.
     Comment,
     /// Ticks of all channels: how many, at least 1.
@@ -31,21 +31,21 @@ pub(crate) struct NumberedLine<'a> {
 }
 
 /// Returns the meaning of a line without its end.
-pub fn meaning(line: &[u8]) -> Line<'_>
+pub fn meaning(line: &[u8]) -> ScriptLine<'_>
     ensures { line_view result ≡ meaning line.now }
 {
     if line.len() > MAX_SCRIPT_LINE_BYTES {
-        return Line::Rejected;
+        return ScriptLine::Rejected;
     }
     short_meaning(line)
 }
 
 /// Returns the meaning of a line that is not too long.
-fn short_meaning(line: &[u8]) -> Line<'_>
+fn short_meaning(line: &[u8]) -> ScriptLine<'_>
     ensures { line_view result ≡ short_meaning line.now }
 {
     match line {
-        [] | [b'#', ..] => Line::Comment,
+        [] | [b'#', ..] => ScriptLine::Comment,
         [b'T', more @ ..] => after_t(more),
         [b'X', more @ ..] => after_x(more),
         _ => said_line(line),
@@ -53,42 +53,42 @@ fn short_meaning(line: &[u8]) -> Line<'_>
 }
 
 /// Returns the meaning of a line that begins with T, from the bytes `more` after it.
-fn after_t(more: &[u8]) -> Line<'_>
+fn after_t(more: &[u8]) -> ScriptLine<'_>
     ensures { line_view result ≡ after_t more.now }
 {
     match more {
-        [] => Line::Ticks(1),
+        [] => ScriptLine::Ticks(1),
         [b' ', digits @ ..] => match number_within(1, MAX_TICKS_PER_LINE, digits) {
-            Some(count) => Line::Ticks(count),
-            None => Line::Rejected,
+            Some(count) => ScriptLine::Ticks(count),
+            None => ScriptLine::Rejected,
         },
-        _ => Line::Rejected,
+        _ => ScriptLine::Rejected,
     }
 }
 
 /// Returns the meaning of a line that begins with X, from the bytes `more` after it.
-fn after_x(more: &[u8]) -> Line<'_>
+fn after_x(more: &[u8]) -> ScriptLine<'_>
     ensures { line_view result ≡ after_x more.now }
 {
     if more.is_empty() {
-        Line::Stop
+        ScriptLine::Stop
     } else {
-        Line::Rejected
+        ScriptLine::Rejected
     }
 }
 
 /// Returns the meaning of a line of a connection.
-fn said_line(line: &[u8]) -> Line<'_>
+fn said_line(line: &[u8]) -> ScriptLine<'_>
     ensures { line_view result ≡ said_line (addressed_parts line.now) }
 {
     let Some((worker, rest)) = parts_at(b'.', line) else {
-        return Line::Rejected;
+        return ScriptLine::Rejected;
     };
     let Some((session, text)) = parts_at(b' ', rest) else {
-        return Line::Rejected;
+        return ScriptLine::Rejected;
     };
     match tag_of(worker, session) {
-        Some(tag) => Line::Said(tag, text),
-        None => Line::Rejected,
+        Some(tag) => ScriptLine::Said(tag, text),
+        None => ScriptLine::Rejected,
     }
 }

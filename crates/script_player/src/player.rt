@@ -23,7 +23,7 @@ ghost use Rattle.script_player.specs.Shown.{Shown, memory_needed};
 use crate::clients::{ClientStep, Clients};
 use crate::display::Display;
 use crate::ending::Halt;
-use crate::line::{Line, NumberedLine, meaning};
+use crate::line::{NumberedLine, ScriptLine, meaning};
 use crate::reply::send_tagged_reply;
 use crate::teller::Teller;
 use amcp_text::ReqToken;
@@ -103,17 +103,17 @@ impl Player {
             → PlaysLine (record { playout = playout; shown = shown; before = played; line = meaning line.now }) result self.new (K.state out.old) (K.state out.new) }
     {
         match meaning(line) {
-            Line::Comment => Ok(None),
-            Line::Ticks(count) => {
+            ScriptLine::Comment => Ok(None),
+            ScriptLine::Ticks(count) => {
                 self.tick(count, display, out)?;
                 Ok(None)
             }
-            Line::Said(tag, text) => self.take_client_line(alloc, tag, text, out),
-            Line::Stop => {
+            ScriptLine::Said(tag, text) => self.take_client_line(alloc, tag, text, out),
+            ScriptLine::Stop => {
                 self.stop(SERVER);
                 Err(Halt::Stop)
             }
-            Line::Rejected => Err(Halt::Rejected),
+            ScriptLine::Rejected => Err(Halt::Rejected),
         }
     }
 
@@ -129,7 +129,7 @@ impl Player {
         if !teller.listens() || !is_refused(reply) {
             return;
         }
-        if let Line::Said(_tag, text) = meaning(line.bytes) {
+        if let ScriptLine::Said(_tag, text) = meaning(line.bytes) {
             let found = illegal_word(alloc, &self.setup.config, &self.setup.names, text);
             if let Ok(Some(word)) = found {
                 teller.tell_refused_word(line.number, text, word);

@@ -7,7 +7,7 @@ ghost use Rattle.cmd_print.specs.inner.Bytes.{spaced};
 
 use crate::setting::add_setting;
 use crate::take::add_take;
-use crate::text::Text;
+use crate::text::GatheredText;
 use crate::word::{add_flag, add_number, add_place, add_rec_name, add_word};
 use play_outside::{Gather, Sent, Sink};
 use play_types::{Cmd, MediaNames, Place, RecName, Setting, Take};
@@ -21,7 +21,7 @@ use play_types::{Cmd, MediaNames, Place, RecName, Setting, Take};
 pub fn print<K: Sink>(cmd: &Cmd, media: &MediaNames, to: &mut K) -> Sent
     ensures { Sends result (encode_utf8_all (command_text media.now cmd.now)) (K.state to.old) (K.state to.new) }
 {
-    let mut text = Text::new();
+    let mut text = GatheredText::new();
     add_command(cmd, media, &mut text, to)?;
     text.finish(to)
 }

@@ -9,7 +9,7 @@ ghost use Rattle.history_model.specs.text.Commands.{command_text};
 ghost use Rattle.history_model.specs.text.History.{IsRun, batch_lines, command_line, connection_line, history_text, stop_line, tick_line, tick_lines};
 
 use crate::command::add_command;
-use crate::text::Text;
+use crate::text::GatheredText;
 use history_model::MAX_TICKS_PER_LINE;
 use itoa::Buffer;
 use play_outside::{Gather, Sent, Sink};
@@ -23,7 +23,7 @@ pub fn print_event<K: Sink>(event: &Event, times: u64, media: &MediaNames, to: &
     requires { IsRun event.now times }
     ensures { Sends result (history_text media.now (replicate times event.now)) (K.state to.old) (K.state to.new) }
 {
-    let mut text = Text::new();
+    let mut text = GatheredText::new();
     add_event(event, times, media, &mut text, to)?;
     text.finish(to)
 }

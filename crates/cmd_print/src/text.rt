@@ -6,4 +6,4 @@ use play_outside::Gather;
 const GATHERED: usize = 4_096;
 
 /// Text that is gathered: at most 4,096 bytes are one write.
-pub(crate) type Text = Gather<GATHERED>;
+pub(crate) type GatheredText = Gather<GATHERED>;

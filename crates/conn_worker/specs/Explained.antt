@@ -47,18 +47,18 @@ pub record IsCaughtUp (service : Service) (rounds : List Round) : Type 0 where
   pub left_open : AreLeftOpen rounds
 
 -- the rounds of a link, how it failed, if it did, and the pass after them
-pub record Talk : Type 0 where
+pub record Conversation : Type 0 where
   pub rounds : List Round
   pub failure : Failure
   pub pass : PassView
 
 -- all steps that were executed
-abbrev pub covered : Talk → List Followed
-covered talk = followed_in talk.rounds ++ unsent talk.failure
+abbrev pub covered : Conversation → List Followed
+covered conversation = followed_in conversation.rounds ++ unsent conversation.failure
 
 -- every step of the bytes that were read was executed
-abbrev pub AreAllCovered : Service → Talk → Type 0
-AreAllCovered service talk = steps_in (covered talk) ≡ steps_of service (covered talk) (bytes_in talk.rounds)
+abbrev pub AreAllCovered : Service → Conversation → Type 0
+AreAllCovered service conversation = steps_in (covered conversation) ≡ steps_of service (covered conversation) (bytes_in conversation.rounds)
 
 -- what the last read found
 abbrev pub last_look : List Round → Option Look
@@ -69,19 +69,19 @@ abbrev pub last_round : List Round → Option Round
 last_round rounds = last_or None rounds
 
 -- all steps were executed. The last read found nothing yet, and the history that was found then is the one that the pass has seen
-pub record HasFoundStop (service : Service) (talk : Talk) : Type 0 where
-  pub all : AreAllCovered service talk
-  pub last : last_round talk.rounds ≡ Some (idle_round talk.pass.seen)
+pub record HasFoundStop (service : Service) (conversation : Conversation) : Type 0 where
+  pub all : AreAllCovered service conversation
+  pub last : last_round conversation.rounds ≡ Some (idle_round conversation.pass.seen)
 
 -- the first step that was not executed is a command, a batch or a kill. The last read found bytes, and no read found the end of the
 -- link or a stop
-pub record IsNextAsked (service : Service) (talk : Talk) : Type 0 where
+pub record IsNextAsked (service : Service) (conversation : Conversation) : Type 0 where
   pub step : Step
-  pub next : slice_get (steps_of service (covered talk) (bytes_in talk.rounds)) (length (covered talk)) ≡ Some step
+  pub next : slice_get (steps_of service (covered conversation) (bytes_in conversation.rounds)) (length (covered conversation)) ≡ Some step
   pub asked : times_asked step ≡ 1
   pub piece : List ℕ
-  pub last : last_look talk.rounds ≡ Some (Got piece)
-  pub left_open : AreLeftOpen talk.rounds
+  pub last : last_look conversation.rounds ≡ Some (Got piece)
+  pub left_open : AreLeftOpen conversation.rounds
 
 -- the step that was executed last
 abbrev pub last_step : List Followed → Option Step
@@ -89,45 +89,45 @@ last_step followed = last_or None (steps_in followed)
 
 -- the link did not fail, no stop was seen, and all steps were executed. The last read found the end of the link, and no step came after
 -- it; or the last step is BYE, and no read found the end of the link
-pub record IsOver (service : Service) (talk : Talk) : Type 0 where
-  pub whole : talk.failure ≡ NoFailure
-  pub running : stop_at talk.pass.seen ≡ None
-  pub all : AreAllCovered service talk
-  pub cause : (last_round talk.rounds ≡ Some end_round)
-      ⊎ ((last_step (covered talk) ≡ Some EndConnection) × AreLeftOpen talk.rounds)
+pub record IsOver (service : Service) (conversation : Conversation) : Type 0 where
+  pub whole : conversation.failure ≡ NoFailure
+  pub running : stop_at conversation.pass.seen ≡ None
+  pub all : AreAllCovered service conversation
+  pub cause : (last_round conversation.rounds ≡ Some end_round)
+      ⊎ ((last_step (covered conversation) ≡ Some EndConnection) × AreLeftOpen conversation.rounds)
 
 -- no read failed, and all steps were executed. The last step is a kill, which made the stop of the history; its reply was written unless
 -- the link failed. No read found the end of the link, and none a stop
-pub record IsKilled (service : Service) (talk : Talk) : Type 0 where
-  pub read : talk.failure ≢ ReadFailed
-  pub all : AreAllCovered service talk
-  pub cause : last_step (covered talk) ≡ Some KillServer
-  pub left_open : AreLeftOpen talk.rounds
+pub record IsKilled (service : Service) (conversation : Conversation) : Type 0 where
+  pub read : conversation.failure ≢ ReadFailed
+  pub all : AreAllCovered service conversation
+  pub cause : last_step (covered conversation) ≡ Some KillServer
+  pub left_open : AreLeftOpen conversation.rounds
 
 -- the link failed: no executed step is an end, no read found the end of the link, and no stop was seen. Before a read that failed all
 -- steps had been executed
-pub record IsLinkFault (service : Service) (talk : Talk) : Type 0 where
-  pub failed : talk.failure ≢ NoFailure
-  pub going : list_any is_end (steps_in (covered talk)) ≡ false
-  pub left_open : AreLeftOpen talk.rounds
-  pub caught_up : talk.failure ≡ ReadFailed → IsCaughtUp service talk.rounds
-  pub running : stop_at talk.pass.seen ≡ None
+pub record IsLinkFault (service : Service) (conversation : Conversation) : Type 0 where
+  pub failed : conversation.failure ≢ NoFailure
+  pub going : list_any is_end (steps_in (covered conversation)) ≡ false
+  pub left_open : AreLeftOpen conversation.rounds
+  pub caught_up : conversation.failure ≡ ReadFailed → IsCaughtUp service conversation.rounds
+  pub running : stop_at conversation.pass.seen ≡ None
 
 -- all events hold a stop at this position, and no executed step is an end, so another call made it. Either all steps were executed, the
 -- last read found nothing yet, and the check of the stage then found the stop; or the stage refused the first step that was not
 -- executed. No read found the end of the link
-pub record IsEnded (service : Service) (talk : Talk) (at : ℕ) : Type 0 where
-  pub whole : talk.failure ≡ NoFailure
-  pub going : list_any is_end (steps_in (covered talk)) ≡ false
-  pub stopped : stop_at (service.given ++ talk.pass.seen) ≡ Some at
-  pub next : HasFoundStop service talk ⊎ IsNextAsked service talk
+pub record IsEnded (service : Service) (conversation : Conversation) (at : ℕ) : Type 0 where
+  pub whole : conversation.failure ≡ NoFailure
+  pub going : list_any is_end (steps_in (covered conversation)) ≡ false
+  pub stopped : stop_at (service.given ++ conversation.pass.seen) ≡ Some at
+  pub next : HasFoundStop service conversation ⊎ IsNextAsked service conversation
 
--- what holds of the talk, by the end
-abbrev pub EndsBy : Service → Talk → LinkEnd → Type 0
-EndsBy service talk Over = IsOver service talk
-EndsBy service talk Killed = IsKilled service talk
-EndsBy service talk LinkFault = IsLinkFault service talk
-EndsBy service talk (Ended at) = IsEnded service talk at
+-- what holds of the conversation, by the end
+abbrev pub EndsBy : Service → Conversation → LinkEnd → Type 0
+EndsBy service conversation Over = IsOver service conversation
+EndsBy service conversation Killed = IsKilled service conversation
+EndsBy service conversation LinkFault = IsLinkFault service conversation
+EndsBy service conversation (Ended at) = IsEnded service conversation at
 
 -- 1 if the stage was asked for one more step and refused it because another call had stopped it: then the last read found bytes
 abbrev pub number_refused : LinkEnd → Option Look → ℕ
@@ -163,5 +163,5 @@ pub record IsExplained (service : Service) (end : LinkEnd) (before after : Stand
   -- stage refused a step
   pub turns : after.pass.turns ≡ before.pass.turns + number_asked (followed_in rounds ++ unsent failure) + number_idle rounds
       + number_refused end (last_look rounds)
-  -- what holds of the talk, by the end
+  -- what holds of the conversation, by the end
   pub ending : EndsBy service (record { rounds = rounds; failure = failure; pass = after.pass }) end

@@ -4,7 +4,7 @@ ghost use Rattle.play_outside.specs.Sink.{Sends};
 ghost use Rattle.play_outside.specs.Gathered.{Adds};
 ghost use Rattle.history_model.specs.text.Frames.{frame_lines, head_line, row_lines, sound_line};
 
-use crate::line::{Text, add_line};
+use crate::line::{GatheredText, add_line};
 use itoa::Buffer;
 use play_outside::{Sent, Sink};
 use play_types::Geometry;
@@ -24,7 +24,7 @@ pub fn write_hex<K: Sink>(
     requires sound_size { length sound.now ≡ 4 * size.pairs }
     ensures { Sends result (frame_lines channel tick size frame.now sound.now) (K.state to.old) (K.state to.new) }
 {
-    let mut text = Text::new();
+    let mut text = GatheredText::new();
     add_head(channel, tick, &mut text, to)?;
     let row_length = 4 * usize::from(size.width);
     add_rows(row_length, size.height, frame, &mut text, to)?;
@@ -33,7 +33,7 @@ pub fn write_hex<K: Sink>(
 }
 
 /// Adds the line that names the channel and the tick.
-fn add_head<K: Sink>(channel: u8, tick: u64, text: &mut Text, to: &mut K) -> Sent
+fn add_head<K: Sink>(channel: u8, tick: u64, text: &mut GatheredText, to: &mut K) -> Sent
     ensures { Adds result (text.old ++ head_line channel tick) text.new (K.state to.old) (K.state to.new) }
 {
     text.add_parts(
@@ -53,7 +53,7 @@ fn add_rows<K: Sink>(
     row_length: usize,
     rows: u16,
     frame: &[u8],
-    text: &mut Text,
+    text: &mut GatheredText,
     to: &mut K,
 ) -> Sent
     requires { length frame.now ≡ row_length * rows }
@@ -67,7 +67,7 @@ fn add_rows<K: Sink>(
 }
 
 /// Adds the line of the sound, if the channel has sound.
-fn add_sound<K: Sink>(pairs: u16, sound: &[u8], text: &mut Text, to: &mut K) -> Sent
+fn add_sound<K: Sink>(pairs: u16, sound: &[u8], text: &mut GatheredText, to: &mut K) -> Sent
     ensures { Adds result (text.old ++ sound_line pairs sound.now) text.new (K.state to.old) (K.state to.new) }
 {
     if pairs == 0 {

@@ -12,10 +12,10 @@ const PIECE: usize = 512;
 const GATHERED: usize = 32_768;
 
 /// Text that is gathered before it is written.
-pub(crate) type Text = Gather<GATHERED>;
+pub(crate) type GatheredText = Gather<GATHERED>;
 
 /// Adds bytes in hexadecimal, and a line feed.
-pub(crate) fn add_line<K: Sink>(bytes: &[u8], text: &mut Text, to: &mut K) -> Sent
+pub(crate) fn add_line<K: Sink>(bytes: &[u8], text: &mut GatheredText, to: &mut K) -> Sent
     ensures { Adds result (text.old ++ (encode_lower bytes.now ++ 10 ∷ [])) text.new (K.state to.old) (K.state to.new) }
 {
     let mut at = 0;
@@ -28,7 +28,7 @@ pub(crate) fn add_line<K: Sink>(bytes: &[u8], text: &mut Text, to: &mut K) -> Se
 }
 
 /// Adds at most `PIECE` bytes in hexadecimal.
-fn add_digits<K: Sink>(bytes: &[u8], text: &mut Text, to: &mut K) -> Sent
+fn add_digits<K: Sink>(bytes: &[u8], text: &mut GatheredText, to: &mut K) -> Sent
     requires { length bytes.now ≤ PIECE }
     ensures { Adds result (text.old ++ encode_lower bytes.now) text.new (K.state to.old) (K.state to.new) }
 {

@@ -4,7 +4,7 @@ ghost use Rattle.pixel_math.specs.Arithmetic.{fade};
 ghost use Rattle.lane_blend.specs.Rows.{AreLowered, IsRow, pixel_at, width_of};
 ghost use Rattle.lane_blend.specs.Lines.{IsFadeLine};
 
-use crate::lines::{Line, fade_byte};
+use crate::lines::{FadeLine, fade_byte};
 use std::marker::Model;
 
 /// Fades each pixel of a row to an opacity in millionths, 0 to 1,000,000: 0 hides it, 1,000,000 shows it whole. The row has
@@ -23,7 +23,7 @@ pub fn fade_row(row: &mut [u8], opacity: u32)
 #[derive(Drop)]
 pub struct RowFade {
     opacity: u32,
-    line: Option<Line>,
+    line: Option<FadeLine>,
 }
 
 impl Model for RowFade {
@@ -45,7 +45,7 @@ impl RowFade {
     {
         RowFade {
             opacity,
-            line: Line::find(opacity),
+            line: FadeLine::find(opacity),
         }
     }
 
@@ -75,7 +75,7 @@ impl RowFade {
 }
 
 /// Fades each pixel of a row by the line of an opacity.
-fn fade_by_line(row: &mut [u8], line: Line, opacity: u32)
+fn fade_by_line(row: &mut [u8], line: FadeLine, opacity: u32)
     requires line { IsFadeLine opacity line }
     requires whole { length row.old % 4 ≡ 0 }
     ensures { IsRow (width_of row.old) (λ i. fade (pixel_at row.old i) opacity) row.new }

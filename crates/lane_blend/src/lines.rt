@@ -6,23 +6,23 @@ ghost use Rattle.lane_blend.specs.Lines.{IsFadeLine, line_byte};
 /// A line: it makes of a byte `v` the byte `(v * slope + base) / 65536`. Both numbers have 16 bits and are kept as their
 /// upper and lower bytes, so that each step fits 16 bits.
 #[derive(Clone, Copy, Debug, PartialEq, Eq)]
-pub(crate) struct Line {
+pub(crate) struct FadeLine {
     slope_high: u8,
     slope_low: u8,
     base_high: u8,
     base_low: u8,
 }
 
-impl Line {
+impl FadeLine {
     /// Returns a line that fades every byte to an opacity in millionths, and `None` if none of the lines tried does. Each opacity
     /// below 1,000,000 has one; that is not proved, so each line is tried on every byte.
-    pub(crate) fn find(opacity: u32) -> Option<Line>
+    pub(crate) fn find(opacity: u32) -> Option<FadeLine>
         requires { opacity ≤ 1000000 }
         ensures { IfSome result (IsFadeLine opacity) }
     {
         let slope = ((u64::from(opacity) << 16) / 1_000_000 & 0xffff_ffff) as u32;
         for above in 0..6u32 {
-            let line = Line::candidate(opacity, slope.wrapping_add(above).wrapping_sub(2));
+            let line = FadeLine::candidate(opacity, slope.wrapping_add(above).wrapping_sub(2));
             if line.fades(opacity) {
                 return Some(line);
             }
@@ -31,7 +31,7 @@ impl Line {
     }
 
     /// Returns the line of a slope with the least base that can work. It may still not fade every byte as the opacity does.
-    fn candidate(opacity: u32, slope: u32) -> Line {
+    fn candidate(opacity: u32, slope: u32) -> FadeLine {
         let mut base = 0u32;
         for v in 0..256u32 {
             let faded = v.wrapping_mul(opacity).wrapping_add(500_000) / 1_000_000;
@@ -43,7 +43,7 @@ impl Line {
         }
         let [slope_low, slope_high, _, _] = slope.to_le_bytes();
         let [base_low, base_high, _, _] = base.to_le_bytes();
-        Line {
+        FadeLine {
             slope_high,
             slope_low,
             base_high,

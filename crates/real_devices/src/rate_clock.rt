@@ -5,7 +5,7 @@ ghost use Rattle.real_devices.specs.Fresh.{quiet_clock};
 
 use crate::complaint::{complain, say_full, say_nearly_full, say_stall};
 use crate::fill::{Fill, Level};
-use crate::schedule::{Schedule, Step};
+use crate::schedule::{ClockStep, Schedule};
 use play_outside::{Beat, Clock};
 use std::io::{self, Eprint, ErrorKind};
 use std::thread;
@@ -64,8 +64,8 @@ impl<R: time::Clock + Eprint + Drop> RateClock<R> {
         let step = schedule.next(now, self.rate).ok_or(ErrorKind::InvalidData)?;
         self.schedule = Some(schedule);
         match step {
-            Step::Wait(time) => thread::sleep(&self.rt, time),
-            Step::PassOver(pulses) => say_stall(&self.rt, pulses),
+            ClockStep::Wait(time) => thread::sleep(&self.rt, time),
+            ClockStep::PassOver(pulses) => say_stall(&self.rt, pulses),
         }
         Ok(())
     }

@@ -14,7 +14,7 @@ const SECOND: u128 = 1_000_000_000;
 
 /// What a clock does for its next pulse.
 #[derive(Clone, Copy, Debug, PartialEq, Eq)]
-pub(crate) enum Step {
+pub(crate) enum ClockStep {
     /// It waits for this time, which is 0 if the pulse is late.
     Wait(Duration),
     /// It gives the pulse at once, and passes over this many more that were due by then.
@@ -41,7 +41,7 @@ impl Schedule {
 
     /// Takes the next pulse, at `rate` pulses a second. If it is more than a second late, a new schedule begins now. If
     /// the pulse is due at a time that no clock reads, this returns `None` and changes nothing.
-    pub(crate) fn next(&mut self, now: Instant, rate: u32) -> Option<Step>
+    pub(crate) fn next(&mut self, now: Instant, rate: u32) -> Option<ClockStep>
         requires { 0 < rate }
         ensures { Advances result rate now self.old self.new }
     {
@@ -49,10 +49,10 @@ impl Schedule {
         let late = now.duration_since(due);
         if late > Duration::from_secs(STALL_SECONDS) {
             *self = Schedule::begin(now);
-            return Some(Step::PassOver(pulses_in(late, rate)));
+            return Some(ClockStep::PassOver(pulses_in(late, rate)));
         }
         self.given = self.given.saturating_add(1);
-        Some(Step::Wait(due.duration_since(now)))
+        Some(ClockStep::Wait(due.duration_since(now)))
     }
 
     /// Returns how long it is until the next pulse is due, or `None` if it is due at a time that no clock reads.

@@ -11,7 +11,7 @@ use play_outside::{Gather, Sent, Sink};
 const GATHERED: usize = 4_096;
 
 /// The text of a reply, which is gathered before it is written: one of at most 4,096 bytes is one write.
-pub(crate) type Text = Gather<GATHERED>;
+pub(crate) type GatheredText = Gather<GATHERED>;
 
 /// How lines are written: the parts before each line, the token after these parts in the first line, and the end of each line.
 #[derive(Clone, Copy)]
@@ -36,7 +36,7 @@ impl LineStyle<'_, '_> {
     }
 
     /// Adds the beginning of a line: the parts before it, and the token.
-    pub(crate) fn add_head<K: Sink>(&self, text: &mut Text, to: &mut K) -> Sent
+    pub(crate) fn add_head<K: Sink>(&self, text: &mut GatheredText, to: &mut K) -> Sent
         ensures { Adds result (text.old ++ head_of self.now) text.new (K.state to.old) (K.state to.new) }
     {
         text.add_parts(self.before, to)?;
@@ -44,7 +44,7 @@ impl LineStyle<'_, '_> {
     }
 
     /// Adds the token, if there is one.
-    fn add_token<K: Sink>(&self, text: &mut Text, to: &mut K) -> Sent
+    fn add_token<K: Sink>(&self, text: &mut GatheredText, to: &mut K) -> Sent
         ensures { Adds result (text.old ++ token_text (token_of self.now)) text.new (K.state to.old) (K.state to.new) }
     {
         match self.token {
@@ -54,7 +54,12 @@ impl LineStyle<'_, '_> {
     }
 
     /// Adds a line, which is given in parts, with its beginning and its end.
-    pub(crate) fn add_line<K: Sink>(&self, parts: &[&[u8]], text: &mut Text, to: &mut K) -> Sent
+    pub(crate) fn add_line<K: Sink>(
+        &self,
+        parts: &[&[u8]],
+        text: &mut GatheredText,
+        to: &mut K,
+    ) -> Sent
         ensures { Adds result (text.old ++ styled self.now (flat_map (λ part. part.now) parts.now)) text.new (K.state to.old) (K.state to.new) }
     {
         self.add_head(text, to)?;
@@ -67,7 +72,7 @@ impl LineStyle<'_, '_> {
         &self,
         first: &[u8],
         second: &[&[u8]],
-        text: &mut Text,
+        text: &mut GatheredText,
         to: &mut K,
     ) -> Sent
         ensures { Adds result

@@ -5,7 +5,7 @@ ghost use Rattle.history_model.specs.text.Replies.{clip_text, numbers_text, medi
 ghost use Rattle.play_outside.specs.Gathered.{Adds};
 ghost use Rattle.return_codes.specs.inner.Style.{styled};
 
-use crate::line::{LineStyle, Text};
+use crate::line::{GatheredText, LineStyle};
 use fixed_params::add_quoted;
 use itoa::Buffer;
 use play_outside::{Sent, Sink};
@@ -15,7 +15,7 @@ use play_types::{MediaName, MediaNames};
 pub(crate) fn add_names<K: Sink>(
     media: &MediaNames,
     style: &LineStyle,
-    text: &mut Text,
+    text: &mut GatheredText,
     to: &mut K,
 ) -> Sent
     ensures { Adds result
@@ -29,7 +29,12 @@ pub(crate) fn add_names<K: Sink>(
 }
 
 /// Adds the line of a name: the name in quotation marks, and the numbers of its clip or `UNREADABLE`.
-fn add_name<K: Sink>(clip: &MediaName, style: &LineStyle, text: &mut Text, to: &mut K) -> Sent
+fn add_name<K: Sink>(
+    clip: &MediaName,
+    style: &LineStyle,
+    text: &mut GatheredText,
+    to: &mut K,
+) -> Sent
     ensures { Adds result (text.old ++ styled style.now (media_line clip.now)) text.new (K.state to.old) (K.state to.new) }
 {
     style.add_head(text, to)?;
@@ -39,7 +44,7 @@ fn add_name<K: Sink>(clip: &MediaName, style: &LineStyle, text: &mut Text, to: &
 }
 
 /// Adds what follows a name: a space, and the numbers of the clip or `UNREADABLE`.
-fn add_clip<K: Sink>(clip: &MediaName, text: &mut Text, to: &mut K) -> Sent
+fn add_clip<K: Sink>(clip: &MediaName, text: &mut GatheredText, to: &mut K) -> Sent
     ensures { Adds result (text.old ++ (codes " " ++ clip_text clip.now)) text.new (K.state to.old) (K.state to.new) }
 {
     if clip.is_readable() {
@@ -50,7 +55,7 @@ fn add_clip<K: Sink>(clip: &MediaName, text: &mut Text, to: &mut K) -> Sent
 }
 
 /// Adds the numbers of a clip: its size, its frames and its stereo pairs.
-fn add_numbers<K: Sink>(clip: &MediaName, text: &mut Text, to: &mut K) -> Sent
+fn add_numbers<K: Sink>(clip: &MediaName, text: &mut GatheredText, to: &mut K) -> Sent
     ensures { Adds result (text.old ++ (codes " " ++ numbers_text clip.now)) text.new (K.state to.old) (K.state to.new) }
 {
     text.add_parts(

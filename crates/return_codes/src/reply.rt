@@ -6,7 +6,7 @@ ghost use Rattle.play_outside.specs.Gathered.{Adds};
 ghost use Rattle.history_model.specs.text.Replies.{IsReplyTo, refusal_word, code_line, channel_lines, media_line, wrapped, answer_lines, reply_lines, reply_token, reply_bytes};
 ghost use Rattle.return_codes.specs.inner.Style.{styled, styled_lines};
 
-use crate::line::{LineStyle, Text};
+use crate::line::{GatheredText, LineStyle};
 use crate::media::add_names;
 use crate::status::add_statuses;
 use crate::value::add_values;
@@ -62,7 +62,7 @@ pub fn send_reply_lines<'a, K: Sink>(
         token: reply_token(reply, token),
         after,
     };
-    let mut text = Text::new();
+    let mut text = GatheredText::new();
     add_reply(reply, config, media, &style, &mut text, to)?;
     text.finish(to)
 }
@@ -90,7 +90,7 @@ fn add_reply<K: Sink>(
     config: &Config,
     media: &MediaNames,
     style: &LineStyle,
-    text: &mut Text,
+    text: &mut GatheredText,
     to: &mut K,
 ) -> Sent
     requires { IsReplyTo config.now reply.now }
@@ -118,7 +118,7 @@ fn add_code<K: Sink>(
     name: Name,
     word: &'static str,
     style: &LineStyle,
-    text: &mut Text,
+    text: &mut GatheredText,
     to: &mut K,
 ) -> Sent
     ensures { Adds result (text.old ++ styled style.now (code_line code name word.now)) text.new (K.state to.old) (K.state to.new) }
@@ -141,7 +141,7 @@ fn add_info<K: Sink>(
     channels: &ChannelList,
     statuses: StatusList,
     style: &LineStyle,
-    text: &mut Text,
+    text: &mut GatheredText,
     to: &mut K,
 ) -> Sent
     requires { statuses.count ≡ length channels.now }
@@ -156,7 +156,12 @@ fn add_info<K: Sink>(
 }
 
 /// Adds the reply to CLS: its first line, the names of the media table, and an empty line.
-fn add_cls<K: Sink>(media: &MediaNames, style: &LineStyle, text: &mut Text, to: &mut K) -> Sent
+fn add_cls<K: Sink>(
+    media: &MediaNames,
+    style: &LineStyle,
+    text: &mut GatheredText,
+    to: &mut K,
+) -> Sent
     ensures { Adds result
         (text.old ++ styled_lines style.now (codes "200 CLS OK" ∷ map media_line media.now ++ [] ∷ []))
         text.new (K.state to.old) (K.state to.new) }

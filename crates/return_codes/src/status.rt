@@ -5,7 +5,7 @@ ghost use Rattle.history_model.specs.text.Replies.{channel_line, channel_lines};
 ghost use Rattle.play_outside.specs.Gathered.{Adds};
 ghost use Rattle.return_codes.specs.inner.Style.{styled};
 
-use crate::line::{LineStyle, Text};
+use crate::line::{GatheredText, LineStyle};
 use itoa::Buffer;
 use play_outside::{Sent, Sink};
 use play_types::{Channel, ChannelList, Status, StatusList};
@@ -15,7 +15,7 @@ pub(crate) fn add_statuses<K: Sink>(
     channels: &ChannelList,
     statuses: StatusList,
     style: &LineStyle,
-    text: &mut Text,
+    text: &mut GatheredText,
     to: &mut K,
 ) -> Sent
     requires { statuses.count ≡ length channels.now }
@@ -32,7 +32,7 @@ fn add_channels<K: Sink>(
     channels: &ChannelList,
     statuses: &[Status],
     style: &LineStyle,
-    text: &mut Text,
+    text: &mut GatheredText,
     to: &mut K,
 ) -> Sent
     requires { length statuses.now ≡ length channels.now }
@@ -52,7 +52,7 @@ fn add_channel<K: Sink>(
     channel: &Channel,
     status: Status,
     style: &LineStyle,
-    text: &mut Text,
+    text: &mut GatheredText,
     to: &mut K,
 ) -> Sent
     ensures { Adds result (text.old ++ styled style.now (channel_line number channel.now status)) text.new (K.state to.old) (K.state to.new) }

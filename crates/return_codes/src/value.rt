@@ -4,7 +4,7 @@ ghost use Rattle.history_model.specs.text.Replies.{values_line};
 ghost use Rattle.play_outside.specs.Gathered.{Adds};
 ghost use Rattle.return_codes.specs.inner.Style.{styled_lines};
 
-use crate::line::{LineStyle, Text};
+use crate::line::{GatheredText, LineStyle};
 use fixed_params::MicroText;
 use play_outside::{Sent, Sink};
 use play_types::Micros;
@@ -13,7 +13,7 @@ use play_types::Micros;
 pub(crate) fn add_values<K: Sink>(
     micros: Micros,
     style: &LineStyle,
-    text: &mut Text,
+    text: &mut GatheredText,
     to: &mut K,
 ) -> Sent
     ensures { Adds result

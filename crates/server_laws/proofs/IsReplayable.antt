@@ -112,11 +112,11 @@ module _ {L : Type 0} (program : Program) (tells : L → SinkState) (digests : B
   link_written worker session link_run named is =
       let playout = playout_of program digests in
       let service = service_of (setting_of program tells worker) session in
-      let talk = is.explained.talk in
-      let asked = steps_are_written playout (given_up_of (covered talk)) (bytes_in talk.rounds) in
+      let conversation = is.explained.conversation in
+      let asked = steps_are_written playout (given_up_of (covered conversation)) (bytes_in conversation.rounds) in
       subst (All (IsWritten playout)) (sym is.explained.events)
-      (written_steps playout service (covered talk) named
-      (All-prefix (IsWrittenStep playout) (steps_in (covered talk)) (steps_of service (covered talk) (bytes_in talk.rounds)) is.explained.steps asked))
+      (written_steps playout service (covered conversation) named
+      (All-prefix (IsWrittenStep playout) (steps_in (covered conversation)) (steps_of service (covered conversation) (bytes_in conversation.rounds)) is.explained.steps asked))
 
   -- the events of each tag that a link of a door has
   doors_written : {D : Type 0} (door : D → ListenerState L) (worker : ℕ) (runs : List (DoorRun L)) (olds news : List D)

@@ -74,10 +74,10 @@ pub fn answers_are_written_again<D: Listener>()
         (link : IsExplainedLink (setting_of program D.Line.state worker) history session link_run) → 1 ≤ worker →
         All (λ one. (event : Event) → events_of (service_of (setting_of program D.Line.state worker) session) one ≡ event ∷ [] →
         IsAnsweredAgain (playout_of program digests) (service_of (setting_of program D.Line.state worker) session) (program.given ++ history) one event)
-        (covered link.explained.talk) }
+        (covered link.explained.conversation) }
     ensures openings { (program : Program) (worker session : ℕ) (history : List Event) (link_run : LinkRun D.Line) (digests : Bool)
         (link : IsExplainedLink (setting_of program D.Line.state worker) history session link_run) →
-        (before later : List Followed) (one : Followed) (event : Event) → covered link.explained.talk ≡ before ++ one ∷ later →
+        (before later : List Followed) (one : Followed) (event : Event) → covered link.explained.conversation ≡ before ++ one ∷ later →
         events_of (service_of (setting_of program D.Line.state worker) session) one ≡ event ∷ [] →
         IsOpenedAgain (playout_of program digests) (service_of (setting_of program D.Line.state worker) session) before event }
 {}

@@ -78,7 +78,7 @@ module _ {L : Type 0} where
       all_append (IsOfSession setting.worker least most) (link_events setting number x) (events_from setting (suc number) xs)
       (all_then (IsTagged (tag_of setting.worker number)) (IsOfSession setting.worker least most) (link_events setting number x)
       (λ (event : Event) is. session_of setting.worker number least most event above (omega (arith, few)) is)
-      (steps_tagged (service_of setting number) (covered x.talk)))
+      (steps_tagged (service_of setting number) (covered x.conversation)))
       (sessions setting (suc number) least most xs (omega (arith, above)) (omega (arith, few)))
 
   -- an event is of a link that one of these doors was given back in a run after the given events

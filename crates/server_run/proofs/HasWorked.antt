@@ -15,7 +15,7 @@ use Rattle.stage_lock.proofs.Prefixes.{prefix_self, prefix_trans}
 use Rattle.history_model.specs.sessions.Request.{tokens}
 use Rattle.conn_worker.specs.Followed.{Service, Followed, events_of, steps_in, steps_of, tokens_in}
 use Rattle.conn_worker.specs.Rounds.{IsAfterFailure, after_rounds, bytes_in}
-use Rattle.conn_worker.specs.Explained.{AreInOrder, EndsBy, IsCaughtUp, Talk, covered}
+use Rattle.conn_worker.specs.Explained.{AreInOrder, EndsBy, IsCaughtUp, Conversation, covered}
 use Rattle.conn_worker.specs.Work.{AtDoor, Came, EndsWork, HasWorkedFrom, IsServed, LooksOn, NoneYet, Setting, StopsAfter, TakesAll, Turn, LinkRun, links_come, number_came, service_of}
 use Rattle.std.proofs.lemmas.List.Sums.{sum_by-cons}
 use Rattle.conn_worker.specs.declared.link_end.LinkEnd as link
@@ -29,10 +29,10 @@ use Rattle.server_run.proofs.ListenerState.{DoorOn, door_served, door_waited, mo
 use Rattle.server_run.proofs.PassView.{PassOn, pass_looked, pass_made, pass_quiet, pass_same, pass_stopped, pass_then}
 use Rattle.server_run.proofs.GoesOnAfter.{GoesOn, StopSeen, goes_on, looked_ended, looked_stop, looks_ends}
 
--- a link that was served, and the talk with its client
+-- a link that was served, and the conversation with its client
 pub record Link (L : Type 0) : Type 0 where
   pub link_run : LinkRun L
-  pub talk : Talk
+  pub conversation : Conversation
 
 -- steps in order, without what was seen before them
 in_order_from_none : (service : Service) (seen : List Event) (followed : List Followed) (history : List Event)
@@ -68,7 +68,7 @@ module _ {L : Type 0} where
 
   -- the events of a link that was served as the session of this number
   abbrev pub link_events : Setting L → ℕ → Link L → List Event
-  link_events setting number x = flat_map (events_of (service_of setting number)) (covered x.talk)
+  link_events setting number x = flat_map (events_of (service_of setting number)) (covered x.conversation)
 
   -- the events of all links, from the session of this number on
   abbrev pub events_from : Setting L → ℕ → List (Link L) → List Event
@@ -78,13 +78,13 @@ module _ {L : Type 0} where
   -- what is known of a link whose pass has since seen `seen`
   pub record IsLink (setting : Setting L) (seen : List Event) (number : ℕ) (x : Link L) : Type 0 where
     pub new : IsNewSink x.link_run.came
-    pub steps : IsPrefix (steps_in (covered x.talk)) (steps_of (service_of setting number) (covered x.talk) (bytes_in x.talk.rounds))
-    pub tokens : IsPrefix (tokens_in (covered x.talk)) (tokens (bytes_in x.talk.rounds))
-    pub order : AreInOrder (service_of setting number) [] (covered x.talk) x.talk.pass.seen
-    pub looks : (k : ℕ) → k < length x.talk.rounds → IsCaughtUp (service_of setting number) (take k x.talk.rounds)
-    pub link : IsAfterFailure (service_of setting number) x.talk.failure (after_rounds (service_of setting number) x.talk.rounds x.link_run.came) (setting.tells x.link_run.line)
-    pub ending : EndsBy (service_of setting number) x.talk x.link_run.end
-    pub seen_is : IsPrefix x.talk.pass.seen seen
+    pub steps : IsPrefix (steps_in (covered x.conversation)) (steps_of (service_of setting number) (covered x.conversation) (bytes_in x.conversation.rounds))
+    pub tokens : IsPrefix (tokens_in (covered x.conversation)) (tokens (bytes_in x.conversation.rounds))
+    pub order : AreInOrder (service_of setting number) [] (covered x.conversation) x.conversation.pass.seen
+    pub looks : (k : ℕ) → k < length x.conversation.rounds → IsCaughtUp (service_of setting number) (take k x.conversation.rounds)
+    pub link : IsAfterFailure (service_of setting number) x.conversation.failure (after_rounds (service_of setting number) x.conversation.rounds x.link_run.came) (setting.tells x.link_run.line)
+    pub ending : EndsBy (service_of setting number) x.conversation x.link_run.end
+    pub seen_is : IsPrefix x.conversation.pass.seen seen
 
   link_later : (setting : Setting L) (seen later : List Event) (number : ℕ) (x : Link L) → IsPrefix seen later → IsLink setting seen number x → IsLink setting later number x
   link_later setting seen later number x grows is = record {
@@ -95,7 +95,7 @@ module _ {L : Type 0} where
     looks = is.looks;
     link = is.link;
     ending = is.ending;
-    seen_is = prefix_trans x.talk.pass.seen seen later is.seen_is grows;
+    seen_is = prefix_trans x.conversation.pass.seen seen later is.seen_is grows;
   }
 
   pub links_later : (setting : Setting L) (seen later : List Event) (number : ℕ) (xs : List (Link L)) → IsPrefix seen later
@@ -108,7 +108,7 @@ module _ {L : Type 0} where
   record ServedLink (setting : Setting L) (number : ℕ) (link_run : LinkRun L) (before after : AtDoor L) : Type 0 where
     x : Link L
     link_run_is : x.link_run ≡ link_run
-    pass_is : x.talk.pass ≡ link_run.pass
+    pass_is : x.conversation.pass ≡ link_run.pass
     is : IsLink setting link_run.pass.seen number x
     pass : PassOn (link_events setting number x) before.pass link_run.pass
     ends : link_run.pass.ends ≡ before.pass.ends
@@ -119,22 +119,22 @@ module _ {L : Type 0} where
   served_link setting number link_run before after served =
       let explained = served.explained in
       let service = service_of setting number in
-      let talk : Talk = record { rounds = explained.rounds; failure = explained.failure; pass = link_run.pass } in
+      let conversation : Conversation = record { rounds = explained.rounds; failure = explained.failure; pass = link_run.pass } in
       record {
-        x = record { link_run = link_run; talk = talk };
+        x = record { link_run = link_run; conversation = conversation };
         link_run_is = refl;
         pass_is = refl;
         is = record {
           new = served.new;
           steps = explained.steps;
           tokens = explained.tokens;
-          order = in_order_from_none service before.pass.seen (covered talk) link_run.pass.seen explained.made.order;
+          order = in_order_from_none service before.pass.seen (covered conversation) link_run.pass.seen explained.made.order;
           looks = explained.looks;
           link = explained.link;
           ending = explained.ending;
           seen_is = prefix_self link_run.pass.seen;
         };
-        pass = pass_made service (covered talk) before.pass link_run.pass explained.made;
+        pass = pass_made service (covered conversation) before.pass link_run.pass explained.made;
         ends = explained.made.ends;
         door = door_served link_run.line before.door after.door served.door;
       }
@@ -264,8 +264,8 @@ module _ {L : Type 0} where
         ending = worked.ending;
       }
 
-  stop_seen : (setting : Setting L) (number at : ℕ) (x : Link L) (seen : List Event) (after : PassView) (end : link.LinkEnd) → EndsBy (service_of setting number) x.talk end
-      → (before : PassView) → x.talk.pass.seen ≡ before.seen → StopsAfter setting.given at end before after → StopSeen setting.given at end before after
+  stop_seen : (setting : Setting L) (number at : ℕ) (x : Link L) (seen : List Event) (after : PassView) (end : link.LinkEnd) → EndsBy (service_of setting number) x.conversation end
+      → (before : PassView) → x.conversation.pass.seen ≡ before.seen → StopsAfter setting.given at end before after → StopSeen setting.given at end before after
   stop_seen setting number at x seen after ends.Over ending before is looks = looked_ended setting.given at ends.Over before after looks
   stop_seen setting number at x seen after ends.Killed ending before is looks = looked_ended setting.given at ends.Killed before after looks
   stop_seen setting number at x seen after ends.LinkFault ending before is looks = looked_ended setting.given at ends.LinkFault before after looks
@@ -310,8 +310,8 @@ module _ {L : Type 0} where
       let served : ServedLink setting number link_run before after = served_link setting number link_run before after is_served in
       let x = served.x in
       let events = link_events setting number x in
-      let by_run : EndsBy (service_of setting number) x.talk link_run.end =
-      subst (λ (v : LinkRun L). EndsBy (service_of setting number) x.talk v.end) served.link_run_is served.is.ending in
+      let by_run : EndsBy (service_of setting number) x.conversation link_run.end =
+      subst (λ (v : LinkRun L). EndsBy (service_of setting number) x.conversation v.end) served.link_run_is served.is.ending in
       let seen : StopSeen setting.given at link_run.end link_run.pass after.pass =
       stop_seen setting number at x link_run.pass.seen after.pass link_run.end by_run link_run.pass (ap (λ (p : PassView). p.seen) served.pass_is) stops in
       let pass : PassOn events before.pass after.pass = pass_quiet events before.pass link_run.pass after.pass served.pass seen.pass in

@@ -63,7 +63,7 @@ module _ {L : Type 0} where
   none_later setting session number (x ∷ xs) less =
       let tag = tag_of setting.worker session in
       let here : filter (has_tag tag) (link_events setting number x) ≡ [] =
-      picks_none setting.worker number session (link_events setting number x) (λ same. omega (arith, less, same)) (steps_tagged (service_of setting number) (covered x.talk)) in
+      picks_none setting.worker number session (link_events setting number x) (λ same. omega (arith, less, same)) (steps_tagged (service_of setting number) (covered x.conversation)) in
       let rest = none_later setting session (suc number) xs (omega (arith, less)) in
       filter-append (has_tag tag) (link_events setting number x) (events_from setting (suc number) xs)
       ∙ (λ i. here i ++ rest i)
@@ -79,26 +79,26 @@ module _ {L : Type 0} where
       let here = link_events setting number x in
       let later = events_from setting (suc number) xs in
       let pick : ℕ → List Event → List Event = λ session. filter (has_tag (tag_of setting.worker session)) in
-      let mine : pick number here ≡ here = picks_all (tag_of setting.worker number) here (steps_tagged service (covered x.talk)) in
+      let mine : pick number here ≡ here = picks_all (tag_of setting.worker number) here (steps_tagged service (covered x.conversation)) in
       let others : pick number later ≡ [] = none_later setting number (suc number) xs (omega arith) in
       let events : tagged (tag_of setting.worker number) history ≡ here =
       all number (omega arith) ∙ filter-append (has_tag (tag_of setting.worker number)) here later ∙ (λ i. mine i ++ others i) ∙ append-nil here in
       let more : (session : ℕ) → suc number ≤ session → tagged (tag_of setting.worker session) history ≡ pick session later = λ session next.
       all session (omega (arith, next)) ∙ filter-append (has_tag (tag_of setting.worker session)) here later
       ∙ ap (λ (es : List Event). es ++ pick session later)
-      (picks_none setting.worker number session here (λ same. omega (arith, next, same)) (steps_tagged service (covered x.talk))) in (
+      (picks_none setting.worker number session here (λ same. omega (arith, next, same)) (steps_tagged service (covered x.conversation))) in (
         record {
           new = is.new;
           explained = record {
-            talk = x.talk;
+            conversation = x.conversation;
             steps = is.steps;
             tokens = is.tokens;
-            order = in_order_later service [] (covered x.talk) x.talk.pass.seen history is.order (prefix_trans x.talk.pass.seen seen history is.seen_is grows);
+            order = in_order_later service [] (covered x.conversation) x.conversation.pass.seen history is.order (prefix_trans x.conversation.pass.seen seen history is.seen_is grows);
             events = events;
             looks = is.looks;
             link = is.link;
             ending = is.ending;
-            seen = prefix_trans x.talk.pass.seen seen history is.seen_is grows;
+            seen = prefix_trans x.conversation.pass.seen seen history is.seen_is grows;
           };
         },
         explain setting seen history (suc number) xs grows more each.1,

@@ -10,7 +10,7 @@ use Rattle.play_outside.specs.SinkState.{SinkState}
 use Rattle.play_outside.specs.Fresh.{IsNewSink}
 use Rattle.conn_worker.specs.Followed.{Service, events_of, steps_in, steps_of, tokens_in}
 use Rattle.conn_worker.specs.Rounds.{IsAfterFailure, after_rounds, bytes_in}
-use Rattle.conn_worker.specs.Explained.{AreInOrder, EndsBy, IsCaughtUp, Talk, covered}
+use Rattle.conn_worker.specs.Explained.{AreInOrder, EndsBy, IsCaughtUp, Conversation, covered}
 use Rattle.conn_worker.specs.Work.{Setting, LinkRun, service_of}
 use Rattle.conn_worker.specs.declared.link_end.LinkEnd.{LinkEnd}
 
@@ -28,23 +28,23 @@ tagged tag history = filter (has_tag tag) history
 -- a connection is explained by a history
 pub record IsExplainedBy (service : Service) (history : List Event) (end : LinkEnd) (came left : SinkState) : Type 0 where
   -- its reads of the link with the steps that were executed after each, how the link failed, if it did, and the pass after them
-  pub talk : Talk
+  pub conversation : Conversation
   -- the executed steps are the first steps of the bytes that were read, in order
-  pub steps : IsPrefix (steps_in (covered talk)) (steps_of service (covered talk) (bytes_in talk.rounds))
+  pub steps : IsPrefix (steps_in (covered conversation)) (steps_of service (covered conversation) (bytes_in conversation.rounds))
   -- each step has the token of its line, which its reply has too
-  pub tokens : IsPrefix (tokens_in (covered talk)) (tokens (bytes_in talk.rounds))
+  pub tokens : IsPrefix (tokens_in (covered conversation)) (tokens (bytes_in conversation.rounds))
   -- each step found a prefix of the history, which continues with the step's event, if it has one
-  pub order : AreInOrder service [] (covered talk) history
+  pub order : AreInOrder service [] (covered conversation) history
   -- the events of this connection in the history are exactly those of the steps, in order
-  pub events : tagged service.tag history ≡ flat_map (events_of service) (covered talk)
+  pub events : tagged service.tag history ≡ flat_map (events_of service) (covered conversation)
   -- before each read all steps of the bytes read until then were executed, and none of them was an end
-  pub looks : (k : ℕ) → k < length talk.rounds → IsCaughtUp service (take k talk.rounds)
+  pub looks : (k : ℕ) → k < length conversation.rounds → IsCaughtUp service (take k conversation.rounds)
   -- the calls of the link: after each read the replies to its steps were written, in order, before the next read; a failure comes
   -- last
-  pub link : IsAfterFailure service talk.failure (after_rounds service talk.rounds came) left
-  -- what holds of the talk, by the end. Its pass has seen a prefix of the history
-  pub ending : EndsBy service talk end
-  pub seen : IsPrefix talk.pass.seen history
+  pub link : IsAfterFailure service conversation.failure (after_rounds service conversation.rounds came) left
+  -- what holds of the conversation, by the end. Its pass has seen a prefix of the history
+  pub ending : EndsBy service conversation end
+  pub seen : IsPrefix conversation.pass.seen history
 
 -- `Holds` is true of each element with its number, and the first element has this number
 abbrev pub EachFrom : {X : Type 0} → (ℕ → X → Type 0) → ℕ → List X → Type 0

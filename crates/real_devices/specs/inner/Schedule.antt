@@ -4,8 +4,8 @@ use Rattle.std.specs.Time.{instant_nanos}
 use Rattle.std.specs.Duration.{as_nanos}
 use Rattle.std.specs.declared.time.Instant.{Instant}
 use Rattle.real_devices.specs.declared.schedule.Schedule.{Schedule}
-use Rattle.real_devices.specs.declared.schedule.Step.{Step}
-use Rattle.real_devices.specs.declared.schedule.Step.TheVariants.{Wait, PassOver}
+use Rattle.real_devices.specs.declared.schedule.ClockStep.{ClockStep}
+use Rattle.real_devices.specs.declared.schedule.ClockStep.TheVariants.{Wait, PassOver}
 
 -- the next pulse is due at `due` nanoseconds of the clock: (given + 1) / rate seconds after the beginning, rounded down to a nanosecond
 pub record IsDue (rate : ℕ) (schedule : Schedule) (due : ℕ) : Type 0 where
@@ -39,7 +39,7 @@ pub record BeginsAnew (pulses rate : ℕ) (now : Instant) (before after : Schedu
 
 -- the next step of a clock: no step and no change if the pulse is due at a time that no clock reads, a pulse after a wait, or a new
 -- schedule
-abbrev pub Advances : Option Step → ℕ → Instant → Schedule → Schedule → Type 0
+abbrev pub Advances : Option ClockStep → ℕ → Instant → Schedule → Schedule → Type 0
 Advances None rate now before after = after ≡ before
 Advances (Some (Wait time)) rate now before after = GivesPulse (as_nanos time) rate (instant_nanos now) before after
 Advances (Some (PassOver pulses)) rate now before after = BeginsAnew pulses rate now before after

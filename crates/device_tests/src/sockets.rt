@@ -4,9 +4,11 @@ ghost use Rattle.std.specs.Prelude.{◌≡◌, ◌<◌, IfSome};
 use play_outside::{Arrival, Beat, Clock, FileFault, Link, LinkStep, Listener, Rest, Sent, send};
 use play_types::{Channel, ChannelList, Config, Text};
 use real_devices::{DoorGroup, RateClock, RealDevices, TcpDoor, finish, ready, start_threads};
-use std::alloc::Global;
+use std::alloc::{AllocGlobal, Global};
+use std::fs::{File, Files};
 use std::io::Write;
 use std::net::{TcpListener, TcpStream};
+use std::process::Abort;
 use std::test::Fail;
 use std::time::{Duration, Instant};
 use std::{fs, io, thread};
@@ -180,57 +182,79 @@ fn leaves_files_that_have_a_use(rt: HostRuntime) -> Result<(), Fail> {
     Ok(())
 }
 
+/// Writes a history, finishes the devices, and returns whether both were done.
+fn leave_history(devices: RealDevices<HostRuntime>, history: &[u8]) -> bool {
+    let mut devices = devices;
+    let sent = send(history, &mut devices.history);
+    finish(devices).is_ok() && matches!(sent, Sent::All)
+}
+
+/// Checks that files of a folder hold these texts and that others are not there, and removes the folder.
+fn check_files<R: Files<File = File> + AllocGlobal + Abort>(
+    rt: &R,
+    folder: &str,
+    texts: &[(&str, &str)],
+    missing: &[&str],
+) -> Result<(), Fail> {
+    let alloc = rt.alloc();
+    for (name, text) in texts {
+        let path = format!(in alloc; "{folder}/{name}")?;
+        let read = fs::read_to_string(rt, path.as_str())?;
+        assert_eq!(rt; read.as_str(), *text, "{name}");
+    }
+    for name in missing {
+        let path = format!(in alloc; "{folder}/{name}")?;
+        assert!(rt; !fs::exists(rt, path.as_str())?, "{name}");
+    }
+    Ok(fs::remove_dir_all(rt, folder)?)
+}
+
 /// No clause says what a file is called.
 #[test]
 fn keeps_earlier_histories(rt: HostRuntime) -> Result<(), Fail> {
     let alloc = rt.alloc();
-    let config = config_of(alloc, "127.0.0.1:0", "m", ["/dev/null", "/dev/null"])?;
     fs::create_dir_all(&rt, "journal_test")?;
+    let config = config_of(alloc, "127.0.0.1:0", "m", ["/dev/null", "/dev/null"])?;
     for history in [&b"first"[..], b"", b"second", b"", b"third"] {
-        let mut devices = ready(rt, &rt, alloc, &config, None, None, Some("journal_test/h"))?;
-        assert!(rt; matches!(send(history, &mut devices.history), Sent::All));
-        assert!(rt; finish(devices).is_ok());
+        let devices = ready(rt, &rt, alloc, &config, None, None, Some("journal_test/h"))?;
+        assert!(rt; leave_history(devices, history));
     }
-    let written = [("h", "third"), ("h.1", "first"), ("h.2", "second")];
-    for (name, history) in written {
-        let path = format!(in alloc; "journal_test/{name}")?;
-        assert_eq!(rt; fs::read_to_string(&rt, path.as_str())?.as_str(), history);
-    }
-    for name in ["journal_test/h.part", "journal_test/h.3"] {
-        assert!(rt; !fs::exists(&rt, name)?);
-    }
-    fs::remove_dir_all(&rt, "journal_test")?;
-    Ok(())
+    let texts = [("h", "third"), ("h.1", "first"), ("h.2", "second")];
+    check_files(&rt, "journal_test", &texts, &["h.part", "h.3"])
+}
+
+/// Writes a log, and returns whether all was taken. The devices are not finished, as after a crash.
+fn leave_log(devices: RealDevices<HostRuntime>, log: &[u8]) -> bool {
+    let mut devices = devices;
+    matches!(send(log, &mut devices.log), Sent::All)
+}
+
+/// Writes a log and a history, finishes the devices, and returns whether all was done.
+fn leave_both(devices: RealDevices<HostRuntime>) -> bool {
+    let mut devices = devices;
+    let sent = send(b"third", &mut devices.log);
+    devices.log.rest();
+    leave_history(devices, b"a history") && matches!(sent, Sent::All)
 }
 
 /// No clause says what becomes of a log.
 #[test]
 fn keeps_earlier_logs(rt: HostRuntime) -> Result<(), Fail> {
     let alloc = rt.alloc();
-    let config = config_of(alloc, "127.0.0.1:0", "m", ["/dev/null", "/dev/null"])?;
     fs::create_dir_all(&rt, "log_test")?;
-    for text in [&b"first"[..], b"second"] {
-        let mut devices = ready(rt, &rt, alloc, &config, None, None, Some("log_test/h"))?;
-        assert!(rt; matches!(send(text, &mut devices.log), Sent::All));
+    let config = config_of(alloc, "127.0.0.1:0", "m", ["/dev/null", "/dev/null"])?;
+    for log in [&b"first"[..], b"second"] {
+        let devices = ready(rt, &rt, alloc, &config, None, None, Some("log_test/h"))?;
+        assert!(rt; leave_log(devices, log));
     }
-    let mut devices = ready(rt, &rt, alloc, &config, None, None, Some("log_test/h"))?;
-    assert!(rt; matches!(send(b"third", &mut devices.log), Sent::All));
-    devices.log.rest();
-    assert!(rt; matches!(send(b"a history", &mut devices.history), Sent::All));
-    assert!(rt; finish(devices).is_ok());
-    for (name, log) in [
+    let devices = ready(rt, &rt, alloc, &config, None, None, Some("log_test/h"))?;
+    assert!(rt; leave_both(devices));
+    let texts = [
         ("h.log.1", "first"),
         ("h.log.2", "second"),
         ("h", "a history"),
-    ] {
-        let path = format!(in alloc; "log_test/{name}")?;
-        assert_eq!(rt; fs::read_to_string(&rt, path.as_str())?.as_str(), log);
-    }
-    for name in ["log_test/h.log", "log_test/h.part"] {
-        assert!(rt; !fs::exists(&rt, name)?);
-    }
-    fs::remove_dir_all(&rt, "log_test")?;
-    Ok(())
+    ];
+    check_files(&rt, "log_test", &texts, &["h.log", "h.part"])
 }
 
 /// How many looks at the threads of the program, of ten milliseconds each, may still find one that has ended.

@@ -3,9 +3,10 @@ use super::*;
 use play_outside::{FileFault, MediaDir, WriteStep};
 use play_server::{FinishStep, Site};
 use play_types::{Channel, ChannelList, Config, Text};
-use std::alloc::Global;
-use std::fs;
+use std::alloc::{AllocGlobal, Global};
+use std::fs::{self, File, Files};
 use std::net::TcpListener;
+use std::process::Abort;
 use std::test::Fail;
 
 /// The paths of the frames and of the history.
@@ -28,39 +29,61 @@ fn config_of(alloc: Global, address: &str) -> Result<Config, Fail> {
 /// No clause says that devices are made, that the socket is closed when they are finished, nor what a file holds.
 #[test]
 fn gives_devices_again(rt: HostRuntime) -> Result<(), Fail> {
-    let alloc = rt.alloc();
-    fs::create_dir_all(&rt, "playd_test")?;
-    for path in FILES {
-        fs::write(&rt, path, EARLIER)?;
-    }
+    write_files(&rt)?;
     let port = TcpListener::bind(&rt, "127.0.0.1:0")?.local_addr()?.port();
-    let address = format!(in alloc; "127.0.0.1:{port}")?;
-    let config = config_of(alloc, address.as_str())?;
     let mut site = RealSite::new(rt, rt, Progress::Silent);
-    let (again, steps) = take_devices(&mut site, alloc, &config)?;
-    // The address is in use.
-    assert_eq!(rt; again, Some(FileFault::Failed));
-    assert_eq!(rt; steps, [FinishStep::Done; 2]);
-    for path in [FILES[0], FILES[1]] {
-        assert_eq!(rt; fs::read_to_string(&rt, path)?.as_str(), "");
+    check_site(&rt, port, &mut site)
+}
+
+/// Writes the files as an earlier run left them.
+fn write_files<R: Files<File = File>>(rt: &R) -> Result<(), Fail> {
+    fs::create_dir_all(rt, "playd_test")?;
+    for path in FILES {
+        fs::write(rt, path, EARLIER)?;
     }
-    // A history to which nothing was written does not replace an earlier one.
-    assert_eq!(rt; fs::read_to_string(&rt, FILES[2])?.as_str(), EARLIER);
-    fs::remove_dir_all(&rt, "playd_test")?;
     Ok(())
 }
 
-/// Takes the devices from a site and gives them back, twice. Returns also the fault of taking them while they are taken.
-fn take_devices<S: Site>(
+/// Takes devices that listen on `port`, and checks what is left when they are finished.
+fn check_site<R: Files<File = File> + AllocGlobal + Abort, S: Site>(
+    rt: &R,
+    port: u16,
     site: &mut S,
-    alloc: Global,
-    config: &Config,
-) -> Result<(Option<FileFault>, [FinishStep; 2]), FileFault> {
+) -> Result<(), Fail> {
+    let (again, steps) = take_at(rt.alloc(), port, site)?;
+    // The address is in use.
+    assert_eq!(rt; again, Some(FileFault::Failed));
+    assert_eq!(rt; steps, [FinishStep::Done; 2]);
+    check_files(rt)?;
+    Ok(fs::remove_dir_all(rt, "playd_test")?)
+}
+
+/// The fault of taking devices while they are taken, and what finishing them twice gave.
+type Taken = (Option<FileFault>, [FinishStep; 2]);
+
+/// Takes devices that listen on `port`.
+fn take_at<S: Site>(alloc: Global, port: u16, site: &mut S) -> Result<Taken, Fail> {
+    let address = format!(in alloc; "127.0.0.1:{port}")?;
+    let config = config_of(alloc, address.as_str())?;
+    Ok(take_devices(alloc, &config, site)?)
+}
+
+/// Takes the devices from a site and gives them back, twice.
+fn take_devices<S: Site>(alloc: Global, config: &Config, site: &mut S) -> Result<Taken, FileFault> {
     let devices = site.ready(alloc, config, Some(FILES[2]))?;
     let again = site.ready(alloc, config, None).err();
     let first = site.finish(devices);
     let devices = site.ready(alloc, config, None)?;
     Ok((again, [first, site.finish(devices)]))
+}
+
+/// Checks that the files of the frames are empty. A history to which nothing was written does not replace an earlier one.
+fn check_files<R: Files<File = File> + AllocGlobal + Abort>(rt: &R) -> Result<(), Fail> {
+    for (path, text) in [(FILES[0], ""), (FILES[1], ""), (FILES[2], EARLIER)] {
+        let read = fs::read_to_string(rt, path)?;
+        assert_eq!(rt; read.as_str(), text, "{path}");
+    }
+    Ok(())
 }
 
 /// No clause says that a line can be written.

@@ -11,6 +11,8 @@ use play_outside::{
 };
 use play_server::{MemSite, Site, serve_main};
 use std::alloc::Global;
+use std::process::Abort;
+use std::str;
 use std::sync::atomic::AtomicBool;
 use std::sync::{Arc, Wait};
 use std::test::Fail;
@@ -89,6 +91,12 @@ pub fn run<R: Threads + Wait + Sync, S: Site>(
 ) -> Result<u8, Fail> {
     let words = words_of(alloc, words)?;
     Ok(serve_main(rt, alloc, words.as_slice(), site))
+}
+
+/// Checks which lines a site wrote.
+pub fn check_said(rt: &impl Abort, name: &str, site: &HeldSite, said: &str) -> Result<(), Fail> {
+    assert_eq!(rt; str::from_utf8(site.said())?, said, "{name}");
+    Ok(())
 }
 
 /// Returns a site with this folder and the planned devices. Its calls of `ready`, `finish` and `say` with the numbers

@@ -1,7 +1,7 @@
 //! How the server ends.
 mod table;
 
-use super::devices::{HeldDevices, HeldSite, folder_of, run, site_of};
+use super::devices::{HeldDevices, HeldSite, check_said, folder_of, run, site_of};
 use play_outside::{PlainClock, PlainDoor, PlainSink};
 use play_server::{MemSite, PlainSite, Site};
 use server_run::{ServeEnd, serve};
@@ -35,7 +35,7 @@ fn check_site<R: Threads + Wait + Sync + Abort>(
     let name = end.name;
     let status = run(rt, alloc, end.words, site)?;
     assert_eq!(rt; status, end.status, "{name}");
-    assert_eq!(rt; str::from_utf8(site.said())?, end.said, "{name}");
+    check_said(rt, name, site, end.said)?;
     match (site.finished(), end.run) {
         (Some(devices), Some((texts, bytes))) => {
             check_history(rt, end, devices, texts)?;

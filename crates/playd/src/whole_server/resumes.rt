@@ -1,6 +1,6 @@
 //! Runs that go on from a history.
 
-use super::devices::{HeldSite, folder_of, run, site_of};
+use super::devices::{HeldSite, check_said, folder_of, run, site_of};
 use super::plan::Moment::Answered;
 use super::plan::{Calls, Client, Plan};
 use super::replay::{frames_in, replay};
@@ -199,7 +199,7 @@ fn check_refusal<R: Threads + Wait + Sync + Abort>(
     let name = refusal.name;
     let status = run(rt, alloc, refusal.words, site)?;
     assert_eq!(rt; status, refusal.status, "{name}");
-    assert_eq!(rt; str::from_utf8(site.said())?, refusal.said, "{name}");
+    check_said(rt, name, site, refusal.said)?;
     assert_eq!(rt; (site.calls().len(), site.finishes()), (0, 0), "{name}");
     Ok(())
 }
